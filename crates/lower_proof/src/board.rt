@@ -152,7 +152,6 @@ fn empty_boards(alloc: Global, places: u32) -> Result<Vec<Board>, NoMemory>
 
 /// Puts a connection into the board of each place from which a way leads to it.
 fn add_entries(boards: &mut [Board], network: &Network, id: ConnectionId) -> Result<(), NoMemory>
-    requires valid { IsValid network.now }
     requires there { id.0 < count network.now }
     requires board { IsTrue (connection network.now id.0).can_board }
     requires len { length boards.old ≡ length network.now.change }

@@ -2,15 +2,13 @@
 //! time.
 #![tactic(auto)]
 
-ghost use Rattle.std.specs.Prelude.{◌≡◌, ℕ, ◌+◌, ◌<◌, ◌≤◌, ◌↔◌, IsTrue, IfOk, length, slice_set, List as Sequence, Option as Maybe};
+ghost use Rattle.std.specs.Prelude.{◌≡◌, ℕ, ◌+◌, ◌<◌, ◌≤◌, ◌↔◌, IsTrue, IfOk, length, slice_set, Option as Maybe};
 ghost use Rattle.plan_model.specs.NetworkModel.{NetworkModel};
-ghost use Rattle.plan_model.specs.declared.model.Query.{Query as QueryParts};
 ghost use Rattle.plan_model.specs.Network.{IsValid, count, run_of, arr_of};
 ghost use Rattle.plan_model.specs.Strategy.{IsBoardableAtStart};
 ghost use Rattle.lower_proof.specs.Certificates.{bound_of, IsLeastOf, arrived_by, IsLeastAt, IsLeastAtStart, IsVia, IsTight, IsVerdict};
 ghost use Rattle.lower_proof.specs.Promises.{IsSound, IsBestCertificate};
 ghost use Rattle.lower_proof.specs.Steps.{lesser, KeepsTo, exit_of, IsBestExit};
-ghost use Rattle.lower_proof.specs.Departures.{NoneAfter, AreDepartingBy};
 ghost use Rattle.lower_proof.specs.Minima.{IsBoard, board_at, AreBoards, AllLate};
 ghost use Rattle.interval_fixed.specs.Interval.{end_of_nanos};
 ghost use Rattle.plan_model.specs.Bounds.{end_of_time};
@@ -21,7 +19,7 @@ mod printer;
 mod reader;
 mod walk;
 
-use board::{Board, Entry, boards};
+use board::{Board, boards};
 pub use laws::{no_text_lacks_memory, one_text_tells_one_certificate};
 use plan_model::{ConnectionId, List, Moment, Network, NoMemory, PlaceId, Query};
 pub use printer::write_text;
@@ -127,7 +125,6 @@ fn via(
     scope: &Scope,
     id: ConnectionId,
 ) -> Option<u64>
-    requires valid { IsValid network.now }
     requires boards { AreBoards network.now scope.now.last.0 values.now boards.old }
     requires there { id.0 < count network.now }
     ensures via { IsLeastOf (IsVia network.now scope.now.query values.now id.0) result }
@@ -174,7 +171,6 @@ fn offer(
     scope: &Scope,
     id: ConnectionId,
 ) -> Option<u64>
-    requires valid { IsValid network.now }
     requires boards { AreBoards network.now scope.now.last.0 values.now boards.old }
     requires there { id.0 < count network.now }
     requires run { run_of network.now id.0 < length exits.old }
@@ -187,34 +183,6 @@ fn offer(
     let best = lesser(exits[run], via(boards, values, network, scope, id));
     exits[run] = best;
     best
-}
-
-/// Checks each connection that counts, the last one first.
-fn check_all(
-    mut departures: Vec<Entry>,
-    boards: &mut [Board],
-    exits: &mut [Option<u64>],
-    values: &[Option<u64>],
-    network: &Network,
-    scope: &Scope,
-) -> Verdict
-    requires valid { IsValid network.now }
-    requires departures { AreDepartingBy network.now scope.now.last.0 departures.items }
-    requires deadline { scope.now.query.deadline.0 ≤ scope.now.last.0 }
-    requires values { length values.now ≡ count network.now }
-    requires boards { AreBoards network.now scope.now.last.0 values.now boards.old }
-    requires runs { (i : ℕ) → i < count network.now → run_of network.now i < length exits.old }
-    requires empty { (run : ℕ) → exit_of exits.old run ≡ Maybe.None }
-    ensures { IsVerdict network.now scope.now.query values.now result }
-{
-    while let Some(departure) = departures.pop() {
-        let id = departure.id;
-        let best = offer(boards, exits, values, network, scope, id);
-        if network.get(id).can_board && !keeps_to(values[id.0 as usize], best) {
-            return Verdict::Fails(id);
-        }
-    }
-    Verdict::Holds
 }
 
 /// Whether the value of each connection that can be boarded is at most that of each way to leave its
@@ -231,20 +199,21 @@ pub fn check(
 {
     let values = proof.values.as_slice();
     let last = last_departure(values, network, query.deadline);
-    let departures = departures_by(alloc, network, last)?;
+    let scope = Scope {
+        query: *query,
+        last,
+    };
+    let mut departures = departures_by(alloc, network, last)?;
     let mut boards = boards(alloc, network, last)?;
     let mut exits = no_exits(alloc, network)?;
-    Ok(check_all(
-        departures,
-        &mut boards,
-        &mut exits,
-        values,
-        network,
-        &Scope {
-            query: *query,
-            last,
-        },
-    ))
+    while let Some(departure) = departures.pop() {
+        let id = departure.id;
+        let best = offer(&mut boards, &mut exits, values, network, &scope, id);
+        if network.get(id).can_board && !keeps_to(values[id.0 as usize], best) {
+            return Ok(Verdict::Fails(id));
+        }
+    }
+    Ok(Verdict::Holds)
 }
 
 /// The least value at the start.
@@ -267,37 +236,8 @@ pub fn least(proof: &LowerBounds, network: &Network, query: &Query) -> Option<u6
     least
 }
 
-/// Gives each connection that departs by the deadline its value, the last one first. No other has one.
-fn write_all(
-    mut departures: Vec<Entry>,
-    boards: &mut [Board],
-    exits: &mut [Option<u64>],
-    values: &mut [Option<u64>],
-    network: &Network,
-    scope: &Scope,
-)
-    requires valid { IsValid network.now }
-    requires departures { AreDepartingBy network.now scope.now.last.0 departures.items }
-    requires deadline { scope.now.query.deadline.0 ≤ scope.now.last.0 }
-    requires values { length values.old ≡ count network.now }
-    requires boards { AreBoards network.now scope.now.last.0 values.old boards.old }
-    requires late { (m : ℕ) → AllLate m boards.old }
-    requires runs { (i : ℕ) → i < count network.now → run_of network.now i < length exits.old }
-    requires empty { (run : ℕ) → exit_of exits.old run ≡ Maybe.None }
-    ensures { IsTight network.now scope.now.query values.new }
-{
-    while let Some(departure) = departures.pop() {
-        let id = departure.id;
-        let best = offer(boards, exits, values, network, scope, id);
-        values[id.0 as usize] = if network.get(id).can_board {
-            best
-        } else {
-            None
-        };
-    }
-}
-
-/// The value of each connection: the least value of the ways to leave its run after boarding it.
+/// The value of each connection: the least value of the ways to leave its run after boarding it. Each
+/// that departs by the deadline is given its own, the last one first. No other has one.
 fn best_values(
     alloc: Global,
     network: &Network,
@@ -310,18 +250,20 @@ fn best_values(
         query: *query,
         last: query.deadline,
     };
-    let departures = departures_by(alloc, network, scope.last)?;
+    let mut departures = departures_by(alloc, network, scope.last)?;
     let mut boards = boards(alloc, network, scope.last)?;
     let mut exits = no_exits(alloc, network)?;
     let mut values = no_values(alloc, network)?;
-    write_all(
-        departures,
-        &mut boards,
-        &mut exits,
-        &mut values,
-        network,
-        &scope,
-    );
+    while let Some(departure) = departures.pop() {
+        let id = departure.id;
+        let best = offer(&mut boards, &mut exits, &values, network, &scope, id);
+        let own = if network.get(id).can_board {
+            best
+        } else {
+            None
+        };
+        values[id.0 as usize] = own;
+    }
     Ok(values)
 }
 

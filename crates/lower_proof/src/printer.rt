@@ -23,101 +23,85 @@ fn number_of(values: &[Option<u64>]) -> usize
     values.iter().filter(|value| value.is_some()).count()
 }
 
-/// Puts the first row behind a text.
-fn put_bounds(
-    text: Vec<u8>,
-    names: &Names,
-    query: &Query,
-    values: &[Option<u64>],
-) -> Result<Vec<u8>, NoMemory>
-    requires source { query.now.source.0 < length names.now.places }
-    requires target { query.now.target.0 < length names.now.places }
-    requires start { query.now.start.0 ≤ last_printable }
-    requires deadline { query.now.deadline.0 ≤ last_printable }
-    ensures { IfOk result (λ whole. whole.items ≡ text.items
-        ++ row_of_fields (bounds_record names.now query.now values.now)) }
-{
-    let start = write_moment(query.start);
-    let deadline = write_moment(query.deadline);
-    let mut number = Buffer::new();
-    put_row(
-        text,
-        &[
-            b"bounds".as_slice(),
-            b"1".as_slice(),
-            names.place_name(query.source).as_bytes(),
-            names.place_name(query.target).as_bytes(),
-            start.as_slice(),
-            deadline.as_slice(),
-            number.format(number_of(values)).as_bytes(),
-        ],
-    )
+/// What the rows of a certificate tell of: a network with the names of its places and runs, the
+/// question that the certificate is for, and the value of each connection.
+#[derive(Drop)]
+struct Printer<'a> {
+    network: &'a Network,
+    names: &'a Names,
+    query: &'a Query,
+    values: &'a [Option<u64>],
+    ghost as_many: { length values.now ≡ count network.now },
+    ghost fit: { NamesFit names.now network.now },
+    ghost source: { query.now.source.0 < length network.now.change },
+    ghost target: { query.now.target.0 < length network.now.change },
+    ghost start: { query.now.start.0 ≤ last_printable },
+    ghost deadline: { query.now.deadline.0 ≤ last_printable },
 }
 
-/// Puts the row of a connection with its value behind a text.
-fn put_value(
-    text: Vec<u8>,
-    network: &Network,
-    names: &Names,
-    id: ConnectionId,
-    value: u64,
-) -> Result<Vec<u8>, NoMemory>
-    requires names { NamesFit names.now network.now }
-    requires there { id.0 < count network.now }
-    ensures { IfOk result (λ whole. whole.items ≡ text.items
-        ++ row_of_fields (value_record network.now names.now id.0 value)) }
-{
-    let connection = network.get(id);
-    let nanos = write_nanos(value);
-    let mut step = Buffer::new();
-    put_row(
-        text,
-        &[
-            b"value".as_slice(),
-            names.run_name(connection.run).as_bytes(),
-            step.format(connection.step).as_bytes(),
-            nanos.as_slice(),
-        ],
-    )
-}
-
-/// Puts the row of a connection behind a text, where it has a value.
-fn put_entry(
-    text: Vec<u8>,
-    network: &Network,
-    names: &Names,
-    id: ConnectionId,
-    value: Option<u64>,
-) -> Result<Vec<u8>, NoMemory>
-    requires names { NamesFit names.now network.now }
-    requires there { id.0 < count network.now }
-    ensures text { IfOk result (λ whole. whole.items ≡ text.items
-        ++ entry_text network.now names.now id.0 value) }
-    ensures fits { (v : ℕ) → value ≡ Maybe.Some v → v < 2 ^ 64 }
-{
-    match value {
-        Some(value) => put_value(text, network, names, id, value),
-        None => Ok(text),
+impl<'a> Printer<'a> {
+    /// Puts the first row behind a text.
+    fn put_bounds(&self, text: Vec<u8>) -> Result<Vec<u8>, NoMemory>
+        ensures { IfOk result (λ whole. whole.items ≡ text.items
+            ++ row_of_fields (bounds_record self.now.names.now self.now.query.now self.now.values.now)) }
+    {
+        let start = write_moment(self.query.start);
+        let deadline = write_moment(self.query.deadline);
+        let mut number = Buffer::new();
+        put_row(
+            text,
+            &[
+                b"bounds".as_slice(),
+                b"1".as_slice(),
+                self.names.place_name(self.query.source).as_bytes(),
+                self.names.place_name(self.query.target).as_bytes(),
+                start.as_slice(),
+                deadline.as_slice(),
+                number.format(number_of(self.values)).as_bytes(),
+            ],
+        )
     }
-}
 
-/// Puts a row for each connection that has a value behind a text.
-fn put_values(
-    mut text: Vec<u8>,
-    network: &Network,
-    names: &Names,
-    values: &[Option<u64>],
-) -> Result<Vec<u8>, NoMemory>
-    requires names { NamesFit names.now network.now }
-    requires as_many { length values.now ≡ count network.now }
-    ensures text { IfOk result (λ whole. whole.items ≡ text.items
-        ++ text_of_records (value_records network.now names.now 0 values.now)) }
-    ensures fit { IfOk result (λ _. AllFit (length values.now) values.now) }
-{
-    for i in 0..network.count() {
-        text = put_entry(text, network, names, ConnectionId(i), values[i as usize])?;
+    /// Puts the row of a connection behind a text, where it has a value.
+    fn put_value(
+        &self,
+        text: Vec<u8>,
+        id: ConnectionId,
+        value: Option<u64>,
+    ) -> Result<Vec<u8>, NoMemory>
+        requires { id.0 < count self.now.network.now }
+        ensures text { IfOk result (λ whole. whole.items ≡ text.items
+            ++ entry_text self.now.network.now self.now.names.now id.0 value) }
+        ensures fits { (v : ℕ) → value ≡ Maybe.Some v → v < 2 ^ 64 }
+    {
+        let Some(value) = value else {
+            return Ok(text);
+        };
+        let connection = self.network.get(id);
+        let nanos = write_nanos(value);
+        let mut step = Buffer::new();
+        put_row(
+            text,
+            &[
+                b"value".as_slice(),
+                self.names.run_name(connection.run).as_bytes(),
+                step.format(connection.step).as_bytes(),
+                nanos.as_slice(),
+            ],
+        )
     }
-    Ok(text)
+
+    /// Puts a row for each connection that has a value behind a text.
+    fn put_values(&self, mut text: Vec<u8>) -> Result<Vec<u8>, NoMemory>
+        ensures text { IfOk result (λ whole. whole.items ≡ text.items
+            ++ text_of_records (value_records self.now.network.now self.now.names.now 0 self.now.values.now)) }
+        ensures fit { IfOk result (λ _. AllFit (length self.now.values.now) self.now.values.now) }
+    {
+        for i in 0..self.network.count() {
+            text = self.put_value(text, ConnectionId(i), self.values[i as usize])?;
+        }
+        Ok(text)
+    }
 }
 
 /// The text of a certificate with the query that it is for: a first row, and one for each connection that has a value, in
@@ -139,9 +123,14 @@ pub fn write_text(
     ensures reads_back { IfOk result (λ text. query.now.start.0 ≤ query.now.deadline.0
         → ReadsBack network.now names.now query.now proof.now.values text.items) }
 {
-    let _count = network.count();
-    let _places = names.places();
-    let values = proof.values.as_slice();
-    let text = put_bounds(Vec::new(alloc), names, query, values)?;
-    put_values(text, network, names, values)
+    let are_named = names.places() == network.places();
+    prove!(are_named);
+    let printer = Printer {
+        network,
+        names,
+        query,
+        values: proof.values.as_slice(),
+    };
+    let text = printer.put_bounds(Vec::new(alloc))?;
+    printer.put_values(text)
 }

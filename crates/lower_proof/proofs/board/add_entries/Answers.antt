@@ -16,9 +16,9 @@ bounds-boards-way c =
     let n = c.args.network.now in
     let id = c.args.id.0 in
     let way = c.way_at-way.result in
-    let departs_in = (c.requires.valid.connections id c.requires.there).from_in in
+    let departs_in = (c.get-connection.ensures.valid.connections id c.requires.there).from_in in
     let listed = subst (λ (e : Connection). slice_get (ways_into n e.from.0) c.loop-k.k ≡ Some way) c.get-connection.ensures.connection c.way_at-way.ensures in
-    let takes = way_takes n c.requires.valid way.from.0 (from_of n id) way.seconds departs_in (way_of-listed n c.requires.valid (from_of n id) departs_in c.loop-k.k way listed) in
+    let takes = way_takes n c.get-connection.ensures.valid way.from.0 (from_of n id) way.seconds departs_in (way_of-listed n c.get-connection.ensures.valid (from_of n id) departs_in c.loop-k.k way listed) in
     omega (arith, takes.0, c.loop-k.invariant.len)
 
 pub loop-k-preserved : goal.loop-k-preserved
@@ -28,7 +28,7 @@ loop-k-preserved c =
     let loop = c.loop-k in
     let boards = loop.boards in
     let way = c.way_at-way.result in
-    let departs_in = (c.requires.valid.connections id c.requires.there).from_in in
+    let departs_in = (c.get-connection.ensures.valid.connections id c.requires.there).from_in in
     let listed = subst (λ (e : Connection). slice_get (ways_into n e.from.0) loop.k ≡ Some way) c.get-connection.ensures.connection c.way_at-way.ensures in
     let dep_is = ap (λ (e : Connection). e.dep.0) c.get-connection.ensures.connection in
     elim c.if-seconds-connection.branch [
@@ -36,20 +36,20 @@ loop-k-preserved c =
           let by = c.get-connection.result.dep.0 - c.from-seconds.result in
           let early = w.if-seconds-connection.true in
           let sum : by + way.seconds ≡ dep_of n id = omega (arith, c.from-seconds.ensures, dep_is) in
-          let takes = way_takes n c.requires.valid way.from.0 (from_of n id) way.seconds departs_in
-          (way_of-listed n c.requires.valid (from_of n id) departs_in loop.k way listed) in
+          let takes = way_takes n c.get-connection.ensures.valid way.from.0 (from_of n id) way.seconds departs_in
+          (way_of-listed n c.get-connection.ensures.valid (from_of n id) departs_in loop.k way listed) in
           let inside : way.from.0 < length boards = omega (arith, takes.0, loop.invariant.len) in
           let is = rw (get_or_default boards way.from.0 w.index-boards-way.result no_board inside) at w.in_ok-add.ensures.added in
           rw w.boards-is (record {
             len = length-set boards way.from.0 w.add.new.self ∙ loop.invariant.len;
-            ways = λ last have. way_added n last id c.requires.valid departs_in loop.k way listed by c.requires.there c.requires.board sum boards w.add.new.self
+            ways = λ last have. way_added n last id c.get-connection.ensures.valid departs_in loop.k way listed by c.requires.there c.requires.board sum boards w.add.new.self
                 inside is w.in_ok-add.ensures.least (loop.invariant.ways last have);
           })
       | else-seconds-connection w ↦
           let late = w.if-seconds-connection.false in
           rw w.boards-is (record {
             len = loop.invariant.len;
-            ways = λ last have. way_passed n last id c.requires.valid departs_in loop.k way listed (omega (arith, c.from-seconds.ensures, dep_is)) boards (loop.invariant.ways last have);
+            ways = λ last have. way_passed n last id c.get-connection.ensures.valid departs_in loop.k way listed (omega (arith, c.from-seconds.ensures, dep_is)) boards (loop.invariant.ways last have);
           })
     ]
 
