@@ -4,4 +4,5 @@ pub mod Rows
 pub mod Tables
 pub mod Accepted
 pub mod ReadBack
+pub mod Faults
 mod Leaving

@@ -31,14 +31,14 @@ use Rattle.printed_rows.proofs.Found.{connection_back, connection_holds}
 
 -- ---- the row of a leg
 
-numbers_told : (a b c d e : Option ℕ) (x : LegRow) → leg_numbers a b c d e ≡ Some x
+pub numbers_told : (a b c d e : Option ℕ) (x : LegRow) → leg_numbers a b c d e ≡ Some x
     → (a ≡ Some x.moment.0) × (b ≡ Some x.enter) × (c ≡ Some x.dep.0) × (d ≡ Some x.exit) × (e ≡ Some x.arr.0)
 numbers_told (Some a) (Some b) (Some c) (Some d) (Some e) x is =
     let same : record { moment = record { 0 = a }; enter = b; dep = record { 0 = c }; exit = d; arr = record { 0 = e } } ≡ x = (cc) in
     (ap (λ (y : LegRow). Some y.moment.0) same, (cc), ap (λ (y : LegRow). Some y.dep.0) same, (cc), ap (λ (y : LegRow). Some y.arr.0) same)
 numbers_told _ _ _ _ _ x is = absurd (cc)
 
-names_told : (a b c : Option ℕ) (known : LegNames) → option_and_then (λ run. option_and_then (λ exit. option_map (λ entry. leg_names run exit entry) c) b) a ≡ Some known
+pub names_told : (a b c : Option ℕ) (known : LegNames) → option_and_then (λ run. option_and_then (λ exit. option_map (λ entry. leg_names run exit entry) c) b) a ≡ Some known
     → (a ≡ Some known.run.0) × (b ≡ Some known.exit.0) × (c ≡ Some known.entry.0)
 names_told (Some a) (Some b) (Some c) known is =
     let same : leg_names a b c ≡ known = (cc) in
@@ -51,6 +51,20 @@ found_told test (Some i) (Some j) leg is =
     let both = some_cases (test i j) (leg_between i j) leg is in
     subst (λ (l : Leg). (Some i ≡ Some l.enter.0) × (Some j ≡ Some l.exit.0) × (test l.enter.0 l.exit.0 ≡ true)) both.1 (refl, refl, both.0)
 found_told test _ _ leg is = absurd (cc)
+
+pub place_numbers_told : (a b : Option ℕ) (x : PlaceRow) → place_numbers a b ≡ Some x → (a ≡ Some x.change) × (b ≡ Some x.count) × (1 ≤ x.count)
+place_numbers_told (Some a) (Some b) x is =
+    let some = some_cases (nat_le 1 b) _ x is in
+    subst (λ (y : PlaceRow). (Some a ≡ Some y.change) × (Some b ≡ Some y.count) × (1 ≤ y.count)) some.1 (refl, refl, leb-true _ _ some.0)
+place_numbers_told _ _ x is = absurd (cc)
+
+pub head_numbers_told : (a b c d : Option ℕ) (x : HeadRow) → head_numbers a b c d ≡ Some x
+    → (a ≡ Some x.start.0) × (b ≡ Some x.deadline.0) × (c ≡ Some x.lo) × (d ≡ Some x.hi) × (are_in_order x.start.0 x.deadline.0 x.lo x.hi ≡ true)
+head_numbers_told (Some a) (Some b) (Some c) (Some d) x is =
+    let order = some_cases (are_in_order a b c d) _ x is in
+    subst (λ (y : HeadRow). (Some a ≡ Some y.start.0) × (Some b ≡ Some y.deadline.0) × (Some c ≡ Some y.lo) × (Some d ≡ Some y.hi) × (are_in_order y.start.0 y.deadline.0 y.lo y.hi ≡ true))
+    order.1 (refl, refl, refl, refl, order.0)
+head_numbers_told _ _ _ _ x is = absurd (cc)
 
 module _ (n : NetworkModel) (names : NameLists) (version : Version) (kind : List ℕ) (place : ℕ) (r : List (List ℕ)) where
   leg_told : (x : LegRow) (known : LegNames) (leg : Leg) → leg_row_in version kind r ≡ Some x → names_in version names place r ≡ Some known → leg_found n x known ≡ Some leg
@@ -199,15 +213,9 @@ module _ (n : NetworkModel) (names : NameLists) (version : Version) (line : ℕ)
       let change = if-value (x.0.change == change_of n place.0) _ _ t up.1 in
       let same : record { place = record { 0 = place.0 }; count = x.0.count } ≡ t = (cc) in
       let row = if_cases (is_place version r) (place_numbers (whole_at (field r 2)) (whole_at (field r 3))) x.0 x.1 in
-      let numbers = numbers_of _ _ x.0 row.1 in
+      let numbers = place_numbers_told _ _ x.0 row.1 in
       subst (λ (u : TableStart). (rises last u.place.0 ≡ true) × IsPlaceRow n names version u.place.0 u.count r × (1 ≤ u.count)) same
       (up.0, record { is_of_kind = row.0; name = place.1; change = numbers.0 ∙ ap Some (eqb-true _ _ change.0); rows = numbers.1 }, numbers.2)
-    where
-      numbers_of : (a b : Option ℕ) (x : PlaceRow) → place_numbers a b ≡ Some x → (a ≡ Some x.change) × (b ≡ Some x.count) × (1 ≤ x.count)
-      numbers_of (Some a) (Some b) x is =
-          let some = some_cases (nat_le 1 b) _ x is in
-          subst (λ (y : PlaceRow). (Some a ≡ Some y.change) × (Some b ≡ Some y.count) × (1 ≤ y.count)) some.1 (refl, refl, leb-true _ _ some.0)
-      numbers_of _ _ x is = absurd (cc)
 
   pub table_read : (last : Option ℕ) (t : TableStart) → rises last t.place.0 ≡ true → IsPlaceRow n names version t.place.0 t.count r → 1 ≤ t.count → table_in n names version line last r ≡ Ok t
   table_read last t later told some =
@@ -223,7 +231,7 @@ module _ (names : NameLists) (version : Version) (r : List (List ℕ)) (number :
       let asked = if-value (is_query from.0 to.0 x.0.start.0 source target start) _ _ head to.2 in
       let same : head_of source target start x.0 ≡ head = (cc) in
       let row = if_cases (is_head version r) (head_numbers (moment_at (field r 4)) (moment_at (field r 5)) (nanos_at (field r 6)) (nanos_at (field r 7))) x.0 x.1 in
-      let numbers = numbers_of _ _ _ _ x.0 row.1 in
+      let numbers = head_numbers_told _ _ _ _ x.0 row.1 in
       let order = and_parts (nat_le x.0.start.0 x.0.deadline.0) _ numbers.4 in
       let of_source = and_parts (from.0 == source) _ asked.0 in
       let of_target = and_parts (to.0 == target) (x.0.start.0 == start) of_source.1 in
@@ -247,14 +255,6 @@ module _ (names : NameLists) (version : Version) (r : List (List ℕ)) (number :
           bounds = leb-true _ _ order.1;
         },
       )
-    where
-      numbers_of : (a b c d : Option ℕ) (x : HeadRow) → head_numbers a b c d ≡ Some x
-          → (a ≡ Some x.start.0) × (b ≡ Some x.deadline.0) × (c ≡ Some x.lo) × (d ≡ Some x.hi) × (are_in_order x.start.0 x.deadline.0 x.lo x.hi ≡ true)
-      numbers_of (Some a) (Some b) (Some c) (Some d) x is =
-          let order = some_cases (are_in_order a b c d) _ x is in
-          subst (λ (y : HeadRow). (Some a ≡ Some y.start.0) × (Some b ≡ Some y.deadline.0) × (Some c ≡ Some y.lo) × (Some d ≡ Some y.hi) × (are_in_order y.start.0 y.deadline.0 y.lo y.hi ≡ true))
-          order.1 (refl, refl, refl, refl, order.0)
-      numbers_of _ _ _ _ x is = absurd (cc)
 
   pub head_read : (head : Head) → IsHeadRow names version head r → head.query.start.0 ≤ head.query.deadline.0 → head.bounds.lo ≤ head.bounds.hi
       → head_in names version head.query.source.0 head.query.target.0 head.query.start.0 r ≡ Ok head

@@ -108,19 +108,19 @@ place_number t = t.place.0
 
 -- ---- what is read after some rows
 
-place_row_is : (s now : Reading) (told : Result TableStart TextFault) → after_place_row s told ≡ Ok now
+pub place_row_is : (s now : Reading) (told : Result TableStart TextFault) → after_place_row s told ≡ Ok now
     → (t : TableStart) × (told ≡ Ok t) × (record { done = s.done; place = Some t.place; rows = []; by = None; left = t.count } ≡ now)
 place_row_is s now (Ok t) is = (t, refl, (cc))
 place_row_is s now (Err e) is = absurd (cc)
 
 module _ (s : Reading) (row : GraphRow) where
-  abbrev after_last : Reading
+  abbrev pub after_last : Reading
   after_last = record { done = s.done ++ (record { place = place_or_first s.place; rows = s.rows ++ row ∷ [] }) ∷ []; place = s.place; rows = []; by = None; left = 0 }
 
-  abbrev after_row : Reading
+  abbrev pub after_row : Reading
   after_row = record { done = s.done; place = s.place; rows = s.rows ++ row ∷ []; by = Some row.by; left = s.left - 1 }
 
-leg_row_is : (s now : Reading) (told : Result GraphRow TextFault) → after_leg_row s told ≡ Ok now
+pub leg_row_is : (s now : Reading) (told : Result GraphRow TextFault) → after_leg_row s told ≡ Ok now
     → (row : GraphRow) × (told ≡ Ok row) × (◌≡◌ {A = Result Reading TextFault} (if s.left == 1 then Ok (after_last s row) else Ok (after_row s row)) (Ok now))
 leg_row_is s now (Ok row) is = (row, refl, is)
 leg_row_is s now (Err e) is = absurd (cc)

@@ -4,3 +4,4 @@ pub mod Printable
 pub mod Reading
 pub mod GraphRows
 pub mod Asked
+pub mod FirstFaults

@@ -1,7 +1,7 @@
 //! Graphs as printed rows.
 #![tactic(auto)]
 
-ghost use Rattle.std.specs.Prelude.{◌≡◌, ℕ, ◌≤◌, ◌↔◌, IfOk, Ok, List as Sequence};
+ghost use Rattle.std.specs.Prelude.{◌≡◌, ℕ, ◌≤◌, ◌↔◌, IfOk, Ok, Err, List as Sequence};
 ghost use Rattle.plan_model.specs.NameLists.{NameLists, NamesFit};
 ghost use Rattle.plan_model.specs.Network.{IsValid};
 ghost use Rattle.plan_graph.specs.Ready.{IsReady};
@@ -14,6 +14,8 @@ ghost use Rattle.graph_text.specs.GraphTexts.{expanded_text, graph_text};
 ghost use Rattle.graph_text.specs.declared.Head.{Head as HeadParts};
 ghost use Rattle.graph_text.specs.Reading.{graph_of, IsReadAs};
 ghost use Rattle.graph_text.specs.GraphRows.{IsTextOf};
+ghost use Rattle.graph_text.specs.FirstFaults.{IsFirstFaultOf};
+ghost use Rattle.graph_text.specs.declared.reader.TextFault.{TextFault as Fault};
 ghost use Rattle.graph_text.specs.Asked.{IsHeadOf};
 ghost use Rattle.graph_text.specs.Printable.{IsPrintableQuery, IsPrintable, IsPrintablePlan};
 
@@ -116,4 +118,11 @@ pub fn read_fits()
 pub fn read_is_told()
     ensures { (n : NetworkModel) (names : NameLists) (head : HeadParts) (graph : Plan) (text : Sequence ℕ)
         → IsValid n → IsReadAs n names head graph text ↔ IsTextOf n names head graph text }
+{}
+
+/// For a valid network, the fault that is read of a text is its first by line: the rows before that line
+/// are those of a graph, and the row of it breaks the rule that the fault names.
+pub fn read_fault_is_told()
+    ensures { (n : NetworkModel) (names : NameLists) (source target start : ℕ) (text : Sequence ℕ) (fault : Fault)
+        → IsValid n → graph_of text n names source target start ≡ Err fault ↔ IsFirstFaultOf n names source target start text fault }
 {}

@@ -1,0 +1,9 @@
+use Rattle.csv_rows.specs.Tables.{table_of}
+use Rattle.graph_text.proofs.Faults.{records_fail, records_back}
+use Rattle.graph_text.proofs.read_fault_is_told.Goals as goal
+
+pub returns : goal.returns
+returns c n names source target start text fault valid = (
+  records_fail n names valid source target start (table_of text) fault,
+  records_back n names valid source target start (table_of text) fault,
+)
