@@ -20,14 +20,13 @@ mod reader;
 mod walk;
 
 use board::{Board, boards};
+use interval_fixed::Span;
 pub use laws::{no_text_lacks_memory, one_text_tells_one_certificate};
 use plan_model::{ConnectionId, List, Moment, Network, NoMemory, PlaceId, Query};
 pub use printer::write_text;
 pub use reader::{ProofFault, read_text};
 use std::alloc::Global;
 use walk::{departures_by, last_departure};
-
-const NANOS_PER_SECOND: u64 = 1_000_000_000;
 
 /// A lower bound for each connection that has one, in nanoseconds since 1970-01-01.
 #[derive(Drop)]
@@ -80,7 +79,7 @@ fn arrived(deadline: Moment, moment: Moment) -> Option<u64>
     ensures { result ≡ arrived_by deadline.0 moment.0 }
 {
     if moment <= deadline {
-        Some(NANOS_PER_SECOND * moment.0)
+        Some(Span::exact(moment).lo())
     } else {
         None
     }
