@@ -15,7 +15,11 @@ holds w moment = int_le (pos w.start) moment && int_le moment (pos w.end)
 abbrev pub day_at : Window → ℕ → ServiceDay
 day_at w d = record { number = pos (w.start / seconds_per_day + d) -ℤ pos 14 }
 
--- 72 hours
+-- the most hours of a window
+abbrev pub most_hours : ℕ
+most_hours = 72
+
+-- so many hours, in seconds
 abbrev pub longest_window : ℕ
 longest_window = 259200
 

@@ -1,18 +1,18 @@
 //! What the connections of a window add up to, before any of them stands.
 ghost use Rattle.std.specs.Prelude.{◌≡◌, ◌≤◌, ◌<◌, ◌^◌, ◌-◌, length, min, if◌then◌else◌};
-ghost use Rattle.gtfs_tables.specs.Timed.{IsTimed, kept_at};
-ghost use Rattle.gtfs_tables.specs.TripRepeats.{IsFrequency, AreRepeats, AreRepeating};
-ghost use Rattle.connections.specs.Window.{holds, IsWindow};
-ghost use Rattle.connections.specs.Rides.{AreDepartures, departs};
+ghost use Rattle.gtfs_tables.specs.Timed.{kept_at};
+ghost use Rattle.gtfs_tables.specs.TripRepeats.{IsFrequency};
+ghost use Rattle.connections.specs.Window.{holds};
+ghost use Rattle.connections.specs.Rides.{departs};
 ghost use Rattle.connections.specs.Counts.{each_of, steps_sum, leaving_sum, row_sum, rows_sum, runs_sum, trip_sum, day_sum, window_sum};
 
+use crate::feed_window::{FeedWindow, TripWindow};
 use crate::origins::{Origin, ServiceDay};
 use crate::repeats::leaving;
-use crate::runs::{frequencies_of, has_service, leaves, may_run, rows_of};
-use crate::trip_days::TripDays;
+use crate::runs::{leaves, may_run};
 use crate::window::{DAYS, Window};
 use change_times::Changes;
-use gtfs_tables::{Feed, FrequencyRow, StopRow};
+use gtfs_tables::{FrequencyRow, StopRow};
 use plan_model::PlaceId;
 
 /// What is counted: connections, or entries, which are the pairs of a connection and a way into the place that it leaves.
@@ -75,159 +75,96 @@ fn sum_steps(
 fn sum_leaving(
     changes: &Changes,
     counted: Counted,
-    rows: &[StopRow],
+    trip: &TripWindow<'_>,
     step: usize,
     row: &FrequencyRow,
-    day: ServiceDay,
-    window: Window,
 ) -> u64
-    requires window { IsWindow window }
-    requires departures { AreDepartures rows.now }
-    requires step { step < length rows.now }
+    requires step { step < length trip.now.rows.now }
     requires row { IsFrequency row.now }
-    ensures { result ≡ min
-        (leaving_sum (each_of changes.now counted) window rows.now day row.now step) (2 ^ 64 - 1) }
+    ensures { result ≡ min (leaving_sum (each_of changes.now counted) trip.now.window trip.now.rows.now
+        trip.now.day row.now step) (2 ^ 64 - 1) }
 {
-    let (from, to) = leaving(rows, step, row, day, window);
+    let (from, to) = leaving(trip, step, row);
     let count = u64::from(to.saturating_sub(from));
-    let place = rows[step].place;
+    let place = trip.rows[step].place;
     count.saturating_mul(each(changes, counted, place))
 }
 
 /// What the connections of the runs of a row of frequencies count for.
 #[tactic(auto, using(crate::proofs::CountLemmas::sum_steps))]
-fn sum_row(
-    changes: &Changes,
-    counted: Counted,
-    rows: &[StopRow],
-    row: &FrequencyRow,
-    day: ServiceDay,
-    window: Window,
-) -> u64
-    requires window { IsWindow window }
-    requires departures { AreDepartures rows.now }
-    requires row { IsFrequency row.now }
-    ensures { result ≡ min
-        (row_sum (each_of changes.now counted) window rows.now day row.now) (2 ^ 64 - 1) }
+fn sum_row(changes: &Changes, counted: Counted, trip: &TripWindow<'_>, row: &FrequencyRow) -> u64
+    requires { IsFrequency row.now }
+    ensures { result ≡ min (row_sum (each_of changes.now counted) trip.now.window trip.now.rows.now
+        trip.now.day row.now) (2 ^ 64 - 1) }
 {
     let mut sum = 0u64;
-    for k in 0..rows.len().saturating_sub(1) {
-        sum = sum.saturating_add(sum_leaving(changes, counted, rows, k, row, day, window));
+    for k in 0..trip.rows.len().saturating_sub(1) {
+        sum = sum.saturating_add(sum_leaving(changes, counted, trip, k, row));
     }
     sum
 }
 
 /// What the connections of the runs of a trip that repeats count for on a day.
 #[tactic(auto, using(crate::proofs::CountLemmas::sum_steps), unfolding(crate::specs::Counts::rows_sum))]
-fn sum_repeats(
-    changes: &Changes,
-    counted: Counted,
-    rows: &[StopRow],
-    frequencies: &[FrequencyRow],
-    day: ServiceDay,
-    window: Window,
-) -> u64
-    requires window { IsWindow window }
-    requires departures { AreDepartures rows.now }
-    requires repeats { AreRepeats frequencies.now }
-    ensures { result ≡ min
-        (rows_sum (each_of changes.now counted) window rows.now day frequencies.now (length frequencies.now))
-        (2 ^ 64 - 1) }
+fn sum_repeats(changes: &Changes, counted: Counted, trip: &TripWindow<'_>) -> u64
+    ensures { result ≡ min (rows_sum (each_of changes.now counted) trip.now.window trip.now.rows.now
+        trip.now.day trip.now.frequencies.now (length trip.now.frequencies.now)) (2 ^ 64 - 1) }
 {
     let mut sum = 0u64;
-    for i in 0..frequencies.len() {
-        let row = &frequencies[i];
-        sum = sum.saturating_add(sum_row(changes, counted, rows, row, day, window));
+    for i in 0..trip.frequencies.len() {
+        let row = &trip.frequencies[i];
+        sum = sum.saturating_add(sum_row(changes, counted, trip, row));
     }
     sum
 }
 
 /// What the connections of the runs of a trip count for on a day.
-fn sum_runs(
-    changes: &Changes,
-    counted: Counted,
-    rows: &[StopRow],
-    frequencies: &[FrequencyRow],
-    day: ServiceDay,
-    window: Window,
-) -> u64
-    requires window { IsWindow window }
-    requires departures { AreDepartures rows.now }
-    requires repeats { AreRepeats frequencies.now }
-    ensures { result ≡ min
-        (runs_sum (each_of changes.now counted) window rows.now frequencies.now day) (2 ^ 64 - 1) }
+fn sum_runs(changes: &Changes, counted: Counted, trip: &TripWindow<'_>) -> u64
+    ensures { result ≡ min (runs_sum (each_of changes.now counted) trip.now.window trip.now.rows.now
+        trip.now.frequencies.now trip.now.day) (2 ^ 64 - 1) }
 {
-    if frequencies.is_empty() {
-        return sum_steps(changes, counted, rows, Origin::of_day(day), window);
+    if trip.frequencies.is_empty() {
+        let origin = Origin::of_day(trip.day);
+        return sum_steps(changes, counted, trip.rows, origin, trip.window);
     }
-    sum_repeats(changes, counted, rows, frequencies, day, window)
+    sum_repeats(changes, counted, trip)
 }
 
 /// What the connections of a trip count for on a day.
-fn sum_trip(
-    feed: &Feed,
-    services: &TripDays<'_>,
-    changes: &Changes,
-    counted: Counted,
-    trip: u32,
-    day: ServiceDay,
-    window: Window,
-) -> u64
-    requires same { services.now.feed ≡ feed.now }
-    requires window { IsWindow window }
-    requires trip { trip < length feed.now.trip_ids }
-    requires timed { IsTimed feed.now }
-    requires repeats { AreRepeating feed.now }
-    ensures { result ≡ min
-        (trip_sum (each_of changes.now counted) feed.now services.now.services window day trip) (2 ^ 64 - 1) }
+fn sum_trip(trips: &FeedWindow<'_>, counted: Counted, trip: u32, day: ServiceDay) -> u64
+    requires { trip < length trips.now.feed.now.trip_ids }
+    ensures { result ≡ min (trip_sum (each_of trips.now.changes.now counted) trips.now.feed.now
+        trips.now.days.now.services trips.now.window day trip) (2 ^ 64 - 1) }
 {
-    let rows = rows_of(feed, trip);
-    let frequencies = frequencies_of(feed, trip);
-    if !may_run(rows, frequencies, day, window) || !has_service(feed, services, trip, day) {
+    let runs = trips.trip(trip, day);
+    if !may_run(&runs) || !trips.is_active(trip, day) {
         return 0;
     }
-    sum_runs(changes, counted, rows, frequencies, day, window)
+    sum_runs(trips.changes, counted, &runs)
 }
 
 /// What the connections of all trips count for on a day.
 #[tactic(auto, using(crate::proofs::CountLemmas::sum_steps), unfolding(crate::specs::Counts::day_sum))]
-fn sum_day(
-    feed: &Feed,
-    services: &TripDays<'_>,
-    changes: &Changes,
-    counted: Counted,
-    day: ServiceDay,
-    window: Window,
-) -> u64
-    requires same { services.now.feed ≡ feed.now }
-    requires window { IsWindow window }
-    ensures { result ≡ min (day_sum (each_of changes.now counted) feed.now services.now.services window day
-        (length feed.now.trip_ids)) (2 ^ 64 - 1) }
+fn sum_day(trips: &FeedWindow<'_>, counted: Counted, day: ServiceDay) -> u64
+    ensures { result ≡ min (day_sum (each_of trips.now.changes.now counted) trips.now.feed.now
+        trips.now.days.now.services trips.now.window day (length trips.now.feed.now.trip_ids)) (2 ^ 64 - 1) }
 {
     let mut sum = 0u64;
-    for trip in 0..feed.trip_count() {
-        sum = sum.saturating_add(sum_trip(feed, services, changes, counted, trip, day, window));
+    for trip in 0..trips.trips {
+        sum = sum.saturating_add(sum_trip(trips, counted, trip, day));
     }
     sum
 }
 
 /// What the connections of a window count for; from the greatest `u64` on this.
 #[tactic(auto, using(crate::proofs::CountLemmas::sum_steps), unfolding(crate::specs::Counts::days_sum))]
-pub(crate) fn sum_window(
-    feed: &Feed,
-    services: &TripDays<'_>,
-    changes: &Changes,
-    counted: Counted,
-    window: Window,
-) -> u64
-    requires same { services.now.feed ≡ feed.now }
-    requires window { IsWindow window }
-    ensures { result ≡ min (window_sum (each_of changes.now counted) feed.now services.now.services window)
-        (2 ^ 64 - 1) }
+pub(crate) fn sum_window(trips: &FeedWindow<'_>, counted: Counted) -> u64
+    ensures { result ≡ min (window_sum (each_of trips.now.changes.now counted) trips.now.feed.now
+        trips.now.days.now.services trips.now.window) (2 ^ 64 - 1) }
 {
     let mut sum = 0u64;
     for d in 0..DAYS {
-        let day = sum_day(feed, services, changes, counted, window.day(d), window);
+        let day = sum_day(trips, counted, trips.window.day(d));
         sum = sum.saturating_add(day);
     }
     sum

@@ -3,11 +3,9 @@ ghost use Rattle.std.specs.Prelude.{◌≡◌, ◌≢◌, ◌<◌, ◌≤◌, []
 ghost use Rattle.std.specs.Result.{result_err};
 ghost use Rattle.csv_rows.specs.Lists.{list_below};
 ghost use Rattle.change_times.specs.Changes.{seconds_of, links_of, LinksComeFrom};
-ghost use Rattle.csv_rows.specs.Ids.{AreIds};
-ghost use Rattle.gtfs_tables.specs.Timed.{IsTimed};
-ghost use Rattle.plan_model.specs.Bounds.{most_connections};
+ghost use Rattle.plan_model.specs.Bounds.{first_start, last_start, most_connections};
 ghost use Rattle.plan_model.specs.NameLists.{NamesFit};
-ghost use Rattle.connections.specs.Window.{IsWindow};
+ghost use Rattle.connections.specs.Window.{most_hours};
 ghost use Rattle.connections.specs.FeedRuns.{AreRunsOf, AllRide};
 ghost use Rattle.connections.specs.FeedNetworks.{rides_below, AreChanges, AreRunNames, IsNetworkOf};
 ghost use Rattle.connections.specs.Cut.{IsNetworkFrom, connection_count, fault_from};
@@ -15,6 +13,7 @@ ghost use Rattle.connections.specs.Faults.{window_fault};
 ghost use Rattle.connections.specs.Counts.{count_in, entries_in};
 
 use crate::counts::{Counted, sum_window};
+use crate::feed_window::FeedWindow;
 use crate::names::names_of;
 use crate::rides::connections_of;
 use crate::runs::{Run, runs_of};
@@ -42,83 +41,61 @@ pub enum WindowFault {
 /// The network of the rides of these runs in the window, and its names.
 fn network_of_runs(
     alloc: Global,
-    feed: &Feed,
+    trips: &FeedWindow<'_>,
     change: List<u32>,
     delays: &DelayTable,
     runs: &[Run],
-    window: Window,
     room: u64,
 ) -> Result<(Network, Names), NoMemory>
-    requires window { IsWindow window }
-    requires stops { AreIds feed.now.stop_ids }
-    requires trips { AreIds feed.now.trip_ids }
-    requires timed { IsTimed feed.now }
-    requires runs { AreRunsOf feed.now runs.now }
-    requires rides { AllRide feed.now window runs.now }
-    requires few { length (rides_below feed.now delays.now window runs.now
+    requires runs { AreRunsOf trips.now.feed.now runs.now }
+    requires rides { AllRide trips.now.feed.now trips.now.window runs.now }
+    requires few { length (rides_below trips.now.feed.now delays.now trips.now.window runs.now
         (length runs.now)) ≤ most_connections }
-    requires places { length change ≡ length feed.now.stop_ids }
+    requires places { length change ≡ length trips.now.feed.now.stop_ids }
     requires change { AreChanges change }
     ensures connections { IfOk result (λ r. r.0.connections
-        ≡ rides_below feed.now delays.now window runs.now (length runs.now)) }
+        ≡ rides_below trips.now.feed.now delays.now trips.now.window runs.now (length runs.now)) }
     ensures change { IfOk result (λ r. r.0.change ≡ change) }
     ensures classes { IfOk result (λ r. r.0.classes ≡ delays.now.classes) }
     ensures links { IfOk result (λ r. r.0.links ≡ []) }
-    ensures places { IfOk result (λ r. r.1.places ≡ feed.now.stop_ids) }
+    ensures places { IfOk result (λ r. r.1.places ≡ trips.now.feed.now.stop_ids) }
     ensures runs { IfOk result (λ r.
-        AreRunNames feed.now runs.now (length runs.now) r.1.runs) }
+        AreRunNames trips.now.feed.now runs.now (length runs.now) r.1.runs) }
     ensures fit { IfOk result (λ r. NamesFit r.1 r.0) }
 {
     let classes = delays.classes(alloc)?;
-    let names = names_of(alloc, feed, runs)?;
-    let connections = connections_of(alloc, feed, delays, runs, window, room)?;
+    let names = names_of(alloc, trips, runs)?;
+    let connections = connections_of(alloc, trips, delays, runs, room)?;
     Ok((Network::from_parts(connections, change, classes), names))
 }
 
 /// How many connections a window has.
-fn connections_within(
-    feed: &Feed,
-    services: &TripDays<'_>,
-    changes: &Changes,
-    window: Window,
-) -> u64
-    requires same { services.now.feed ≡ feed.now }
-    requires window { IsWindow window }
-    ensures { result ≡ count_in feed.now services.now.services window }
+fn connections_within(trips: &FeedWindow<'_>) -> u64
+    ensures { result ≡ count_in trips.now.feed.now trips.now.days.now.services trips.now.window }
 {
-    let _trips = feed.trip_count();
-    sum_window(feed, services, changes, Counted::Connections, window)
+    sum_window(trips, Counted::Connections)
 }
 
 /// How many entries a window has, of no more than the most connections.
-fn entries_within(feed: &Feed, services: &TripDays<'_>, changes: &Changes, window: Window) -> u64
-    requires same { services.now.feed ≡ feed.now }
-    requires window { IsWindow window }
-    requires few { count_in feed.now services.now.services window ≤ most_connections }
-    ensures { result ≡ entries_in feed.now services.now.services changes.now window }
+fn entries_within(trips: &FeedWindow<'_>) -> u64
+    requires { count_in trips.now.feed.now trips.now.days.now.services trips.now.window ≤ most_connections }
+    ensures { result ≡ entries_in trips.now.feed.now trips.now.days.now.services trips.now.changes.now
+        trips.now.window }
 {
-    let _link = changes.links_into(PlaceId(0));
-    sum_window(feed, services, changes, Counted::Entries, window)
+    sum_window(trips, Counted::Entries)
 }
 
 /// How many connections a window has, or its first fault.
-fn count_within(
-    feed: &Feed,
-    services: &TripDays<'_>,
-    changes: &Changes,
-    window: Window,
-    limits: &Limits,
-) -> Result<u64, WindowFault>
-    requires same { services.now.feed ≡ feed.now }
-    requires window { IsWindow window }
-    ensures { result_err result ≡ window_fault limits.now (count_in feed.now services.now.services window)
-        (entries_in feed.now services.now.services changes.now window) }
+fn count_within(trips: &FeedWindow<'_>, limits: &Limits) -> Result<u64, WindowFault>
+    ensures { result_err result ≡ window_fault limits.now
+        (count_in trips.now.feed.now trips.now.days.now.services trips.now.window)
+        (entries_in trips.now.feed.now trips.now.days.now.services trips.now.changes.now trips.now.window) }
 {
-    let count = connections_within(feed, services, changes, window);
+    let count = connections_within(trips);
     if limits.connections < count {
         return Err(WindowFault::TooMany(count));
     }
-    let entries = entries_within(feed, services, changes, window);
+    let entries = entries_within(trips);
     if limits.entries < entries {
         return Err(WindowFault::TooManyEntries(entries));
     }
@@ -156,70 +133,55 @@ fn links_of(alloc: Global, changes: &Changes, places: u32) -> Result<List<List<W
 #[tactic(auto, using(crate::proofs::JoinLemmas::list_steps))]
 fn network_of(
     alloc: Global,
-    feed: &Feed,
-    services: &TripDays<'_>,
-    changes: &Changes,
+    trips: &FeedWindow<'_>,
     delays: &DelayTable,
-    window: Window,
     room: u64,
 ) -> Result<(Network, Names), NoMemory>
-    requires same { services.now.feed ≡ feed.now }
-    requires window { IsWindow window }
-    requires few { count_in feed.now services.now.services window ≤ most_connections }
-    requires links { LinksComeFrom (length feed.now.stop_ids) changes.now }
-    ensures network { IfOk result (λ r. IsNetworkOf feed.now services.now.services
-        (list_below (seconds_of changes.now) (length feed.now.stop_ids))
-        (list_below (links_of changes.now) (length feed.now.stop_ids)) delays.now window r.0 r.1) }
+    requires few { count_in trips.now.feed.now trips.now.days.now.services trips.now.window
+        ≤ most_connections }
+    requires links { LinksComeFrom (length trips.now.feed.now.stop_ids) trips.now.changes.now }
+    ensures network { IfOk result (λ r. IsNetworkOf trips.now.feed.now trips.now.days.now.services
+        (list_below (seconds_of trips.now.changes.now) (length trips.now.feed.now.stop_ids))
+        (list_below (links_of trips.now.changes.now) (length trips.now.feed.now.stop_ids))
+        delays.now trips.now.window r.0 r.1) }
     ensures fit { IfOk result (λ r. NamesFit r.1 r.0) }
     ensures count { IfOk result (λ r. length r.0.connections
-        ≡ count_in feed.now services.now.services window) }
+        ≡ count_in trips.now.feed.now trips.now.days.now.services trips.now.window) }
 {
-    let _trips = feed.trip_count();
-    let _link = changes.links_into(PlaceId(0));
-    let runs = runs_of(alloc, feed, services, window)?;
-    let change = changes_of(alloc, changes, feed.stop_count())?;
-    let links = links_of(alloc, changes, feed.stop_count())?;
-    let (network, names) = network_of_runs(
-        alloc,
-        feed,
-        change,
-        delays,
-        runs.as_slice(),
-        window,
-        room,
-    )?;
+    let runs = runs_of(alloc, trips)?;
+    let change = changes_of(alloc, trips.changes, trips.stops)?;
+    let links = links_of(alloc, trips.changes, trips.stops)?;
+    let (network, names) = network_of_runs(alloc, trips, change, delays, runs.as_slice(), room)?;
     Ok((network.with_links(links), names))
 }
 
 /// The network of a feed whose services are found, or its fault, as `cut` tells them.
 fn network_within(
     alloc: Global,
-    feed: &Feed,
-    services: &TripDays<'_>,
+    days: &TripDays<'_>,
     changes: &Changes,
     delays: &DelayTable,
     start: Moment,
     horizon: u32,
     limits: &Limits,
 ) -> Result<(Network, Names), WindowFault>
-    requires same { services.now.feed ≡ feed.now }
-    requires early { 604_800 ≤ start.0 }
-    requires late { start.0 < 13_569_465_600 }
-    requires horizon { horizon ≤ 72 }
-    requires links { LinksComeFrom (length feed.now.stop_ids) changes.now }
-    ensures network { IfOk result (λ r. IsNetworkFrom feed.now services.now.services changes.now delays.now
+    requires early { first_start ≤ start.0 }
+    requires late { start.0 ≤ last_start }
+    requires horizon { horizon ≤ most_hours }
+    requires links { LinksComeFrom (length days.now.feed.stop_ids) changes.now }
+    ensures network { IfOk result (λ r. IsNetworkFrom days.now.feed days.now.services changes.now delays.now
         start.0 horizon r.0 r.1) }
     ensures fit { IfOk result (λ r. NamesFit r.1 r.0) }
     ensures count { IfOk result (λ r. length r.0.connections
-        ≡ connection_count feed.now services.now.services start.0 horizon) }
+        ≡ connection_count days.now.feed days.now.services start.0 horizon) }
     ensures none { OnOk result
-        (fault_from limits.now feed.now services.now.services changes.now start.0 horizon ≡ None) }
+        (fault_from limits.now days.now.feed days.now.services changes.now start.0 horizon ≡ None) }
     ensures fault { IfErr result (λ f. f ≢ WindowFault.NoMemory
-        → fault_from limits.now feed.now services.now.services changes.now start.0 horizon ≡ Some f) }
+        → fault_from limits.now days.now.feed days.now.services changes.now start.0 horizon ≡ Some f) }
 {
-    let window = Window::new(start.0, horizon);
-    let count = count_within(feed, services, changes, window, limits)?;
-    match network_of(alloc, feed, services, changes, delays, window, count) {
+    let trips = FeedWindow::new(days, changes, Window::new(start.0, horizon));
+    let count = count_within(&trips, limits)?;
+    match network_of(alloc, &trips, delays, count) {
         Ok(parts) => Ok(parts),
         Err(_) => Err(WindowFault::NoMemory),
     }
@@ -248,9 +210,9 @@ pub fn cut(
     horizon: u32,
     limits: &Limits,
 ) -> Result<(Network, Names), WindowFault>
-    requires early { 604_800 ≤ start.0 }
-    requires late { start.0 < 13_569_465_600 }
-    requires horizon { horizon ≤ 72 }
+    requires early { first_start ≤ start.0 }
+    requires late { start.0 ≤ last_start }
+    requires horizon { horizon ≤ most_hours }
     requires links { LinksComeFrom (length feed.now.stop_ids) changes.now }
     ensures network { IfOk result (λ r. IsNetworkFrom feed.now services.now changes.now delays.now
         start.0 horizon r.0 r.1) }
@@ -263,9 +225,7 @@ pub fn cut(
         → fault_from limits.now feed.now services.now changes.now start.0 horizon ≡ Some f) }
 {
     match TripDays::of(alloc, feed, services) {
-        Ok(services) => network_within(
-            alloc, feed, &services, changes, delays, start, horizon, limits,
-        ),
+        Ok(days) => network_within(alloc, &days, changes, delays, start, horizon, limits),
         Err(_) => Err(WindowFault::NoMemory),
     }
 }

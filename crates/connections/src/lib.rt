@@ -3,6 +3,7 @@
 
 mod counts;
 mod cuts;
+mod feed_window;
 mod names;
 mod origins;
 mod repeats;

@@ -1,10 +1,10 @@
 //! The names of places and runs.
 ghost use Rattle.std.specs.Prelude.{◌≡◌, ◌≤◌, ◌<◌, ◌++◌, [], length, string_bytes, OnOk, IfOk};
 ghost use Rattle.plan_model.specs.Bounds.{most_connections};
-ghost use Rattle.csv_rows.specs.Ids.{AreIds};
 ghost use Rattle.connections.specs.FeedRuns.{IsDay, IsSmallRepeat, AreRunsOf};
 ghost use Rattle.connections.specs.FeedNetworks.{start_text, IsRunName, AreRunNames};
 
+use crate::feed_window::FeedWindow;
 use crate::repeats::Repeat;
 use crate::runs::Run;
 use clock_text::write_date;
@@ -51,45 +51,50 @@ fn run_name(alloc: Global, feed: &Feed, run: Run) -> Result<String, NoMemory>
 }
 
 /// Adds the ids of the stops as the names of the places.
-fn add_places(names: &mut Names, feed: &Feed) -> Result<(), NoMemory>
-    requires none { names.old.places ≡ [] }
-    requires ids { AreIds feed.now.stop_ids }
-    ensures places { OnOk result (names.new.places ≡ feed.now.stop_ids) }
+fn add_places(names: &mut Names, trips: &FeedWindow<'_>) -> Result<(), NoMemory>
+    requires { names.old.places ≡ [] }
+    ensures places { OnOk result (names.new.places ≡ trips.now.feed.now.stop_ids) }
     ensures runs { names.new.runs ≡ names.old.runs }
 {
-    for stop in 0..feed.stop_count() {
-        names.push_place(feed.stop_id(stop))?;
+    for stop in 0..trips.stops {
+        names.push_place(trips.feed.stop_id(stop))?;
     }
     Ok(())
 }
 
 /// Adds the names of the runs.
-fn add_runs(alloc: Global, names: &mut Names, feed: &Feed, runs: &[Run]) -> Result<(), NoMemory>
+fn add_runs(
+    alloc: Global,
+    names: &mut Names,
+    trips: &FeedWindow<'_>,
+    runs: &[Run],
+) -> Result<(), NoMemory>
     requires none { names.old.runs ≡ [] }
     requires few { length runs.now ≤ most_connections }
-    requires runs { AreRunsOf feed.now runs.now }
-    requires ids { AreIds feed.now.trip_ids }
+    requires runs { AreRunsOf trips.now.feed.now runs.now }
     ensures places { names.new.places ≡ names.old.places }
-    ensures runs { OnOk result (AreRunNames feed.now runs.now (length runs.now) names.new.runs) }
+    ensures runs { OnOk result (AreRunNames trips.now.feed.now runs.now (length runs.now) names.new.runs) }
 {
     for r in 0..runs.len() {
-        let name = run_name(alloc, feed, runs[r])?;
+        let name = run_name(alloc, trips.feed, runs[r])?;
         names.push_run(name.as_str())?;
     }
     Ok(())
 }
 
 /// The names of the places of a feed and of these runs.
-pub(crate) fn names_of(alloc: Global, feed: &Feed, runs: &[Run]) -> Result<Names, NoMemory>
+pub(crate) fn names_of(
+    alloc: Global,
+    trips: &FeedWindow<'_>,
+    runs: &[Run],
+) -> Result<Names, NoMemory>
     requires few { length runs.now ≤ most_connections }
-    requires runs { AreRunsOf feed.now runs.now }
-    requires stops { AreIds feed.now.stop_ids }
-    requires trips { AreIds feed.now.trip_ids }
-    ensures places { IfOk result (λ names. names.places ≡ feed.now.stop_ids) }
-    ensures runs { IfOk result (λ names. AreRunNames feed.now runs.now (length runs.now) names.runs) }
+    requires runs { AreRunsOf trips.now.feed.now runs.now }
+    ensures places { IfOk result (λ names. names.places ≡ trips.now.feed.now.stop_ids) }
+    ensures runs { IfOk result (λ names. AreRunNames trips.now.feed.now runs.now (length runs.now) names.runs) }
 {
-    let mut names = Names::with_key(alloc, feed.hash_key());
-    add_places(&mut names, feed)?;
-    add_runs(alloc, &mut names, feed, runs)?;
+    let mut names = Names::with_key(alloc, trips.feed.hash_key());
+    add_places(&mut names, trips)?;
+    add_runs(alloc, &mut names, trips, runs)?;
     Ok(names)
 }

@@ -2,15 +2,14 @@
 ghost use Rattle.std.specs.Prelude.{◌≡◌, ℕ, ◌+◌, ◌-◌, ◌<◌, ◌≤◌, ◌++◌, ◌<ℤ◌, ◌≤ℤ◌, pos, length, All, OnOk, IfOk};
 ghost use Rattle.csv_rows.specs.Lists.{list_below};
 ghost use Rattle.stop_times.specs.StopTimeBounds.{end_of_times};
-ghost use Rattle.gtfs_tables.specs.TripRepeats.{IsFrequency, AreRepeats};
+ghost use Rattle.gtfs_tables.specs.TripRepeats.{IsFrequency};
 ghost use Rattle.run_repeat.specs.Runs.{AreBelow, IsRunOf, departure};
-ghost use Rattle.connections.specs.Window.{IsWindow};
-ghost use Rattle.connections.specs.Rides.{AreDepartures, departs};
+ghost use Rattle.connections.specs.Rides.{departs};
 ghost use Rattle.connections.specs.RepeatedRuns.{repeat_of, origin_at, riding_by, riding_of, in_order};
 
-use crate::origins::{Origin, ServiceDay};
-use crate::window::Window;
-use gtfs_tables::{FrequencyRow, StopRow};
+use crate::feed_window::TripWindow;
+use crate::origins::Origin;
+use gtfs_tables::FrequencyRow;
 use plan_model::NoMemory;
 use run_repeat::{departure, within};
 use std::alloc::Global;
@@ -24,44 +23,36 @@ pub(crate) struct Repeat {
     pub(crate) line: u64,
 }
 
-/// The moment from which the times of a trip with these kept rows count, where it leaves the first of them at a second of
-/// the service day.
-pub(crate) fn origin_at(rows: &[StopRow], day: ServiceDay, second: u32) -> Origin
-    requires departures { AreDepartures rows.now }
-    requires some { 0 < length rows.now }
+/// The moment from which the times of a trip count, where it leaves the first of its kept rows at a second of its service day.
+pub(crate) fn origin_at(trip: &TripWindow<'_>, second: u32) -> Origin
+    requires some { 0 < length trip.now.rows.now }
     requires second { second < end_of_times }
-    ensures { result ≡ origin_at rows.now day second }
+    ensures { result ≡ origin_at trip.now.rows.now trip.now.day second }
 {
     Origin {
-        day,
-        shift: second as i32 - rows[0].departure as i32,
+        day: trip.day,
+        shift: second as i32 - trip.rows[0].departure as i32,
     }
 }
 
 /// The runs of a row that leave a kept row in the window: those from the first number on, and below the second.
-pub(crate) fn leaving(
-    rows: &[StopRow],
-    step: usize,
-    row: &FrequencyRow,
-    day: ServiceDay,
-    window: Window,
-) -> (u32, u32)
-    requires window { IsWindow window }
-    requires departures { AreDepartures rows.now }
-    requires step { step < length rows.now }
+pub(crate) fn leaving(trip: &TripWindow<'_>, step: usize, row: &FrequencyRow) -> (u32, u32)
+    requires step { step < length trip.now.rows.now }
     requires row { IsFrequency row.now }
     ensures before { AreBelow result.0 (λ m. IsRunOf row.now m
-        × (departs rows.now (origin_at rows.now day (departure row.now m)) step <ℤ pos window.start)) }
+        × (departs trip.now.rows.now (origin_at trip.now.rows.now trip.now.day (departure row.now m)) step
+        <ℤ pos trip.now.window.start)) }
     ensures up_to { AreBelow result.1 (λ m. IsRunOf row.now m
-        × (departs rows.now (origin_at rows.now day (departure row.now m)) step ≤ℤ pos window.end)) }
+        × (departs trip.now.rows.now (origin_at trip.now.rows.now trip.now.day (departure row.now m)) step
+        ≤ℤ pos trip.now.window.end)) }
 {
-    let begin = Origin::of_day(day).plus(0);
-    let offset = rows[step].departure - rows[0].departure;
+    let begin = Origin::of_day(trip.day).plus(0);
+    let offset = trip.rows[step].departure - trip.rows[0].departure;
     within(
         row,
         offset,
-        window.start as i64 - begin,
-        window.end as i64 - begin,
+        trip.window.start as i64 - begin,
+        trip.window.end as i64 - begin,
     )
 }
 
@@ -90,62 +81,41 @@ fn add_between(
 /// to leave it in the window.
 fn add_riding(
     repeats: &mut Vec<Repeat>,
-    rows: &[StopRow],
+    trip: &TripWindow<'_>,
     row: &FrequencyRow,
-    day: ServiceDay,
-    window: Window,
 ) -> Result<(), NoMemory>
-    requires window { IsWindow window }
-    requires departures { AreDepartures rows.now }
-    requires row { IsFrequency row.now }
+    requires { IsFrequency row.now }
     ensures { OnOk result (repeats.new.items
-        ≡ repeats.old.items ++ riding_by window rows.now day row.now) }
+        ≡ repeats.old.items ++ riding_by trip.now.window trip.now.rows.now trip.now.day row.now) }
 {
     let mut next = 0;
-    for step in (0..rows.len().saturating_sub(1)).rev() {
-        let (from, to) = leaving(rows, step, row, day, window);
+    for step in (0..trip.rows.len().saturating_sub(1)).rev() {
+        let (from, to) = leaving(trip, step, row);
         add_between(repeats, row, from.max(next), to)?;
         next = next.max(to);
     }
     Ok(())
 }
 
-/// The runs of these rows that ride in the window, row by row.
+/// The runs of a trip that repeats which ride in the window, row by row.
 #[tactic(auto, using(crate::proofs::JoinLemmas::join_steps), unfolding(crate::specs::RepeatedRuns::riding_of))]
-fn riding_of(
-    alloc: Global,
-    rows: &[StopRow],
-    frequencies: &[FrequencyRow],
-    day: ServiceDay,
-    window: Window,
-) -> Result<Vec<Repeat>, NoMemory>
-    requires window { IsWindow window }
-    requires departures { AreDepartures rows.now }
-    requires repeats { AreRepeats frequencies.now }
-    ensures { IfOk result (λ found. found.items ≡ riding_of window rows.now day frequencies.now) }
+fn riding_of(alloc: Global, trip: &TripWindow<'_>) -> Result<Vec<Repeat>, NoMemory>
+    ensures { IfOk result (λ found. found.items
+        ≡ riding_of trip.now.window trip.now.rows.now trip.now.day trip.now.frequencies.now) }
 {
     let mut repeats: Vec<Repeat> = Vec::new(alloc);
-    for i in 0..frequencies.len() {
-        add_riding(&mut repeats, rows, &frequencies[i], day, window)?;
+    for i in 0..trip.frequencies.len() {
+        add_riding(&mut repeats, trip, &trip.frequencies[i])?;
     }
     Ok(repeats)
 }
 
-/// The runs of these rows that ride in the window, by departure and then by line.
-pub(crate) fn repeats_of(
-    alloc: Global,
-    rows: &[StopRow],
-    frequencies: &[FrequencyRow],
-    day: ServiceDay,
-    window: Window,
-) -> Result<Vec<Repeat>, NoMemory>
-    requires window { IsWindow window }
-    requires departures { AreDepartures rows.now }
-    requires repeats { AreRepeats frequencies.now }
+/// The same by departure and then by line.
+pub(crate) fn repeats_of(alloc: Global, trip: &TripWindow<'_>) -> Result<Vec<Repeat>, NoMemory>
     ensures { IfOk result (λ found. found.items
-        ≡ in_order (riding_of window rows.now day frequencies.now)) }
+        ≡ in_order (riding_of trip.now.window trip.now.rows.now trip.now.day trip.now.frequencies.now)) }
 {
-    let mut repeats = riding_of(alloc, rows, frequencies, day, window)?;
+    let mut repeats = riding_of(alloc, trip)?;
     repeats.sort_unstable();
     Ok(repeats)
 }

@@ -2,11 +2,11 @@
 ghost use Rattle.std.specs.Prelude.{◌≡◌, ◌+◌, ◌≤◌, ◌<◌, ◌++◌, ℕ, length, map, unsigned_abs, OnOk, IfOk, IfSome};
 ghost use Rattle.plan_model.specs.Bounds.{end_of_steps, most_connections};
 ghost use Rattle.connections.specs.Rides.{steps_of};
-ghost use Rattle.gtfs_tables.specs.Timed.{IsTimed};
 ghost use Rattle.connections.specs.FeedRuns.{AreRunsOf};
 ghost use Rattle.connections.specs.RouteNumbers.{route_numbers, IsRouteOf, IsClassOfHour};
 ghost use Rattle.connections.specs.FeedNetworks.{arrives, class_of_trip, ride, rides_below};
 
+use crate::feed_window::FeedWindow;
 use crate::origins::Origin;
 use crate::runs::{Run, leaves};
 use crate::window::Window;
@@ -153,18 +153,17 @@ fn add_rides(
 #[tactic(auto, using(crate::proofs::JoinLemmas::join_steps), unfolding(crate::specs::FeedNetworks::rides_below, crate::specs::FeedNetworks::run_rides))]
 pub(crate) fn connections_of(
     alloc: Global,
-    feed: &Feed,
+    trips: &FeedWindow<'_>,
     delays: &DelayTable,
     runs: &[Run],
-    window: Window,
     room: u64,
 ) -> Result<List<Connection>, NoMemory>
     requires few { length runs.now ≤ most_connections }
-    requires runs { AreRunsOf feed.now runs.now }
-    requires timed { IsTimed feed.now }
-    ensures { IfOk result (λ connections.
-        connections ≡ rides_below feed.now delays.now window runs.now (length runs.now)) }
+    requires runs { AreRunsOf trips.now.feed.now runs.now }
+    ensures { IfOk result (λ connections. connections
+        ≡ rides_below trips.now.feed.now delays.now trips.now.window runs.now (length runs.now)) }
 {
+    let feed = trips.feed;
     let routes = route_numbers(alloc, feed, delays)?;
     let mut connections: Vec<Connection> = Vec::with_capacity(alloc, room as usize)?;
     for r in 0..runs.len() {
@@ -181,7 +180,7 @@ pub(crate) fn connections_of(
             delays,
             feed.stop_times(run.trip),
             &numbered,
-            window,
+            trips.window,
         )?;
     }
     Ok(List::from_vec(connections))

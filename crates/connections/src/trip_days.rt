@@ -62,6 +62,13 @@ impl<'a> TripDays<'a> {
         })
     }
 
+    /// The feed.
+    pub(crate) fn feed(&self) -> &'a Feed
+        ensures { result.now ≡ self.now.feed }
+    {
+        self.feed
+    }
+
     /// Whether the service of a trip is active on a day.
     pub(crate) fn is_active(&self, trip: u32, day: ServiceDay) -> bool
         requires { trip < length self.now.feed.trip_ids }

@@ -1,7 +1,8 @@
 //! A window of time.
 ghost use Rattle.std.specs.Prelude.{◌≡◌, ◌+◌, ◌*◌, ◌≤◌, ◌<◌, pos, int_lt};
+ghost use Rattle.plan_model.specs.Bounds.{last_start};
 ghost use Rattle.connections.specs.TripRuns.{days};
-ghost use Rattle.connections.specs.Window.{window_of, holds, day_at, IsWindow};
+ghost use Rattle.connections.specs.Window.{window_of, holds, day_at, most_hours, IsWindow};
 
 use crate::origins::ServiceDay;
 
@@ -21,8 +22,8 @@ pub(crate) struct Window {
 impl Window {
     /// The window of so many hours from a start on.
     pub(crate) fn new(start: u64, horizon: u32) -> Window
-        requires start { start < 13_569_465_600 }
-        requires horizon { horizon ≤ 72 }
+        requires start { start ≤ last_start }
+        requires horizon { horizon ≤ most_hours }
         ensures { result ≡ window_of start horizon }
     {
         Window {

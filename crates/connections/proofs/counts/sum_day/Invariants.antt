@@ -3,4 +3,4 @@ use Rattle.connections.specs.Counts.{each_of, day_sum}
 use Rattle.connections.proofs.counts.sum_day.Given as goal
 
 abbrev pub invariant-loop-trip : goal.invariant-loop-trip
-invariant-loop-trip l = l.sum ≡ min (day_sum (each_of l.changes l.counted) l.feed l.services.services l.window l.day l.trip) (2 ^ 64 - 1)
+invariant-loop-trip l = l.sum ≡ min (day_sum (each_of l.trips.changes.now l.counted) l.trips.feed.now l.trips.days.now.services l.trips.window l.day l.trip) (2 ^ 64 - 1)

@@ -6,7 +6,7 @@ use Rattle.connections.proofs.counts.sum_leaving.Goals as goal
 pub returns : goal.returns
 returns c =
     let from = c.leaving-from.result.0 in let to = c.leaving-from.result.1 in
-    let is = leaving_sum-is (each_of c.args.changes.now c.args.counted) c.args.window c.args.rows.now c.requires.departures c.args.day c.args.row.now c.requires.row c.args.step
+    let is = leaving_sum-is (each_of c.args.changes.now c.args.counted) c.args.trip.now.window c.args.trip.now.rows.now c.args.trip.now.departures c.args.trip.now.day c.args.row.now c.requires.row c.args.step
     from to (record { before = c.leaving-from.ensures.before; up_to = c.leaving-from.ensures.up_to }) in
     let count : c.from-count.result ≡ to - from = omega (arith, c.from-count.ensures, c.saturating_sub.ensures) in
     let product = ap₂ (λ (a b : ℕ). a * b) count c.each.ensures in

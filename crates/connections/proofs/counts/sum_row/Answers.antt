@@ -7,6 +7,6 @@ use Rattle.connections.proofs.counts.sum_row.Goals as goal
 pub returns : goal.returns
 returns c =
     let each = each_of c.args.changes.now c.args.counted in
-    let end : c.loop-k.k ≡ length c.args.rows.now - 1 = omega (arith, c.saturating_sub-k-end.ensures) in
-    let same = ap (sum_below (leaving_sum each c.args.window c.args.rows.now c.args.day c.args.row.now)) end in
-    omega (arith, c.loop-k.invariant, same, row_sum-leaving each c.args.window c.args.rows.now c.args.day c.args.row.now)
+    let end : c.loop-k.k ≡ length c.args.trip.now.rows.now - 1 = omega (arith, c.saturating_sub-k-end.ensures) in
+    let same = ap (sum_below (leaving_sum each c.args.trip.now.window c.args.trip.now.rows.now c.args.trip.now.day c.args.row.now)) end in
+    omega (arith, c.loop-k.invariant, same, row_sum-leaving each c.args.trip.now.window c.args.trip.now.rows.now c.args.trip.now.day c.args.row.now)

@@ -1,7 +1,9 @@
-use Rattle.std.proofs.Common.{◌-◌, ◌^◌, List, min, sym, ap₂, ◌∙◌}
+use Rattle.std.proofs.Common.{ℕ, ◌-◌, ◌^◌, List, min, sym, ap, ap₂, ◌∙◌}
 use Rattle.trip_frequencies.specs.declared.frequencies.FrequencyRow.{FrequencyRow}
 use Rattle.stop_times.specs.declared.rows.StopRow.{StopRow}
 use Rattle.gtfs_tables.specs.Timed.{rows_of}
+use Rattle.connections.specs.declared.origins.ServiceDay.{ServiceDay}
+use Rattle.connections.specs.declared.window.Window.{Window}
 use Rattle.connections.specs.Rides.{is_active_trip}
 use Rattle.connections.specs.TripRuns.{frequencies_of}
 use Rattle.connections.specs.Counts.{each_of, runs_sum}
@@ -10,9 +12,13 @@ use Rattle.connections.proofs.counts.sum_trip.Goals as goal
 
 pub returns : goal.returns
 returns c =
-    active-sum (is_active_trip c.args.feed.now c.args.services.now.services c.args.day c.args.trip)
-    (runs_sum (each_of c.args.changes.now c.args.counted) c.args.window (rows_of c.args.feed.now c.args.trip) (frequencies_of c.args.feed.now c.args.trip) c.args.day)
-    c.sum_runs.result (sym c.has_service.ensures ∙ c.if-not-has_service.false)
-    (c.sum_runs.ensures ∙ ap₂ (λ (rows : List StopRow) (fs : List FrequencyRow). min
-    (runs_sum (each_of c.args.changes.now c.args.counted) c.args.window rows fs c.args.day)
-    (2 ^ 64 - 1)) c.rows_of-rows.ensures.rows c.frequencies_of-frequencies.ensures.rows)
+    let all = c.args.trips.now in let feed = all.feed.now in
+    let each = each_of all.changes.now c.args.counted in
+    let found = c.trip-runs.result in let is = c.trip-runs.ensures in
+    let total : Window → List StopRow → List FrequencyRow → ServiceDay → ℕ = λ w rows fs day. min (runs_sum each w rows fs day) (2 ^ 64 - 1) in
+    active-sum (is_active_trip feed all.days.now.services c.args.day c.args.trip)
+    (runs_sum each all.window (rows_of feed c.args.trip) (frequencies_of feed c.args.trip) c.args.day)
+    c.sum_runs.result (sym c.is_active.ensures ∙ c.if-not-is_active.false)
+    (c.sum_runs.ensures
+    ∙ ap₂ (λ (w : Window) (day : ServiceDay). total w found.rows.now found.frequencies.now day) is.window is.day
+    ∙ ap₂ (λ (rows : List StopRow) (fs : List FrequencyRow). total all.window rows fs c.args.day) is.rows is.frequencies)

@@ -4,5 +4,5 @@ use Rattle.connections.proofs.cuts.connections_within.Goals as goal
 
 pub returns : goal.returns
 returns c =
-    let trips = c.trip_count-trips.ensures in
-    omega (arith, c.sum_window.ensures, window-few c.args.feed.now c.args.services.now.services c.args.window c.requires.window trips.repeats trips.small trips.few)
+    let trips = c.args.trips.now in
+    omega (arith, c.sum_window.ensures, window-few trips.feed.now trips.days.now.services trips.window trips.bounds trips.repeating trips.small (omega (arith, trips.few, trips.counted)))

@@ -10,32 +10,32 @@ use Rattle.connections.proofs.cuts.network_of.Goals as goal
 
 pub network_of_runs-requires-clause-runs : goal.network_of_runs-requires-clause-runs
 network_of_runs-requires-clause-runs c =
-    (runs_are c.args.feed.now c.args.services.now.services c.args.window c.trip_count-trips.ensures.repeats c.requires.window c.as_slice.result.now
+    (runs_are c.args.trips.now.feed.now c.args.trips.now.days.now.services c.args.trips.now.window c.args.trips.now.repeating c.args.trips.now.bounds c.as_slice.result.now
     (c.as_slice.ensures.value ∙ c.in_ok-runs.ensures)).0
 
 pub network_of_runs-requires-clause-rides : goal.network_of_runs-requires-clause-rides
 network_of_runs-requires-clause-rides c =
-    (runs_are c.args.feed.now c.args.services.now.services c.args.window c.trip_count-trips.ensures.repeats c.requires.window c.as_slice.result.now
+    (runs_are c.args.trips.now.feed.now c.args.trips.now.days.now.services c.args.trips.now.window c.args.trips.now.repeating c.args.trips.now.bounds c.as_slice.result.now
     (c.as_slice.ensures.value ∙ c.in_ok-runs.ensures)).1
 
 pub network_of_runs-requires-clause-few : goal.network_of_runs-requires-clause-few
 network_of_runs-requires-clause-few c =
-    let size = rides_counted c.args.feed.now c.args.services.now.services c.args.delays.now c.args.window c.as_slice.result.now (c.as_slice.ensures.value ∙ c.in_ok-runs.ensures) in
+    let size = rides_counted c.args.trips.now.feed.now c.args.trips.now.days.now.services c.args.delays.now c.args.trips.now.window c.as_slice.result.now (c.as_slice.ensures.value ∙ c.in_ok-runs.ensures) in
     omega (arith, size, c.requires.few)
 
 pub with_links-requires-clause-each : goal.with_links-requires-clause-each
 with_links-requires-clause-each c =
-    let places : length c.in_ok-network.network.change ≡ length c.args.feed.now.stop_ids
-    = ap length c.in_ok-network.ensures.change ∙ ap length c.in_ok-change.ensures.seconds ∙ length-list_below (seconds_of c.args.changes.now) c.stop_count.result ∙ c.stop_count.ensures.count in
-    let links : c.in_ok-links.links ≡ list_below (links_of c.args.changes.now) (length c.args.feed.now.stop_ids)
-    = c.in_ok-links.ensures ∙ ap (list_below (links_of c.args.changes.now)) c.stop_count-2.ensures.count in
+    let places : length c.in_ok-network.network.change ≡ length c.args.trips.now.feed.now.stop_ids
+    = ap length c.in_ok-network.ensures.change ∙ ap length c.in_ok-change.ensures.seconds ∙ length-list_below (seconds_of c.args.trips.now.changes.now) c.args.trips.now.stops ∙ c.args.trips.now.stops_counted in
+    let links : c.in_ok-links.links ≡ list_below (links_of c.args.trips.now.changes.now) (length c.args.trips.now.feed.now.stop_ids)
+    = c.in_ok-links.ensures ∙ ap (list_below (links_of c.args.trips.now.changes.now)) c.args.trips.now.stops_counted in
     λ r inside. subst (λ n. AreLinksInto n r (slice_index_or c.in_ok-links.links r [])) (sym places)
-    (links_fit (length c.args.feed.now.stop_ids) c.args.changes.now c.links_into-link.ensures.sound c.requires.links c.in_ok-links.links links r (omega (arith, inside, places)))
+    (links_fit (length c.args.trips.now.feed.now.stop_ids) c.args.trips.now.changes.now c.args.trips.now.linked c.requires.links c.in_ok-links.links links r (omega (arith, inside, places)))
 
 pub returns-clause-count : goal.returns-clause-count
 returns-clause-count c =
     ap length (c.with_links.ensures.connections ∙ c.in_ok-network.ensures.connections)
-    ∙ rides_counted c.args.feed.now c.args.services.now.services c.args.delays.now c.args.window c.as_slice.result.now (c.as_slice.ensures.value ∙ c.in_ok-runs.ensures)
+    ∙ rides_counted c.args.trips.now.feed.now c.args.trips.now.days.now.services c.args.delays.now c.args.trips.now.window c.as_slice.result.now (c.as_slice.ensures.value ∙ c.in_ok-runs.ensures)
 
 pub returns-clause-fit : goal.returns-clause-fit
 returns-clause-fit c =

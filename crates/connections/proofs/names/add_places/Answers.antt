@@ -6,14 +6,14 @@ use Rattle.connections.proofs.names.add_places.Goals as goal
 
 pub push_place-requires-clause-absent : goal.push_place-requires-clause-absent
 push_place-requires-clause-absent c =
-    let ids = c.args.feed.now.stop_ids in
+    let ids = c.args.trips.now.feed.now.stop_ids in
     let w = got ids c.loop-stop.stop c.stop_id.result.now [] c.stop_id.ensures in
     subst (λ (xs : List (List ℕ)). ¬ Contains xs c.stop_id.result.now) (sym c.loop-stop.invariant.0)
-    (subst (λ (x : List ℕ). ¬ Contains (take c.loop-stop.stop ids) x) w.1 (new_after_those_before ids c.loop-stop.stop c.requires.ids.names.distinct w.0))
+    (subst (λ (x : List ℕ). ¬ Contains (take c.loop-stop.stop ids) x) w.1 (new_after_those_before ids c.loop-stop.stop c.args.trips.now.stop_ids.names.distinct w.0))
 
 pub loop-stop-preserved : goal.loop-stop-preserved
 loop-stop-preserved c =
-    let ids = c.args.feed.now.stop_ids in
+    let ids = c.args.trips.now.feed.now.stop_ids in
     let w = got ids c.loop-stop.stop c.stop_id.result.now [] c.stop_id.ensures in (
       c.in_ok-push_place.ensures.ok ∙ ap (λ xs. xs ++ c.stop_id.result.now ∷ []) c.loop-stop.invariant.0
           ∙ ap (λ (x : List ℕ). take c.loop-stop.stop ids ++ x ∷ []) (sym w.1) ∙ sym (take_more ids c.loop-stop.stop [] w.0),

@@ -9,7 +9,7 @@ use Rattle.connections.proofs.repeats.add_riding.Goals as goal
 
 pub loop-step-init : goal.loop-step-init
 loop-step-init c =
-    let w = c.args.window in let rows = c.args.rows.now in let day = c.args.day in let row = c.args.row.now in
+    let w = c.args.trip.now.window in let rows = c.args.trip.now.rows.now in let day = c.args.trip.now.day in let row = c.args.row.now in
     let none : ℕ → Bool = λ m. false in
     let old = c.args.repeats.now.items in (
       none,
@@ -19,7 +19,7 @@ loop-step-init c =
 
 pub loop-step-preserved : goal.loop-step-preserved
 loop-step-preserved c =
-    let w = c.args.window in let rows = c.args.rows.now in let day = c.args.day in let row = c.args.row.now in
+    let w = c.args.trip.now.window in let rows = c.args.trip.now.rows.now in let day = c.args.trip.now.day in let row = c.args.row.now in
     let t = c.loop-step.invariant in
     let taken = t.0 in
     let k = c.loop-step.step - 1 in
@@ -33,19 +33,19 @@ loop-step-preserved c =
     let list : ℕ → List Repeat = λ n. list_below (λ i. repeat_of row (n + i)) (to - n) in (
       more next from taken,
       subst (λ n. AreTaken w rows day row k n (more next from taken)) (sym c.max-next.ensures)
-          (step_taken w rows day row c.requires.departures c.requires.row k next from to taken inside leaving before),
+          (step_taken w rows day row c.args.trip.now.departures c.requires k next from to taken inside leaving before),
       c.in_ok-add_between.ensures
           ∙ ap (λ (n : ℕ). c.loop-step.repeats.items ++ list n) c.max.ensures
           ∙ ap (λ (xs : List Repeat). xs ++ list (max from next)) t.2
           ∙ append_assoc old (taken_runs row taken next) (list (max from next))
-          ∙ ap (λ (xs : List Repeat). old ++ xs) (sym (step_list w rows day row c.requires.departures c.requires.row k next from to taken inside leaving before))
+          ∙ ap (λ (xs : List Repeat). old ++ xs) (sym (step_list w rows day row c.args.trip.now.departures c.requires k next from to taken inside leaving before))
           ∙ ap (λ (n : ℕ). old ++ taken_runs row (more next from taken) n) (sym c.max-next.ensures),
     )
 
 pub returns : goal.returns
 returns c =
-    let w = c.args.window in let rows = c.args.rows.now in let day = c.args.day in let row = c.args.row.now in
+    let w = c.args.trip.now.window in let rows = c.args.trip.now.rows.now in let day = c.args.trip.now.day in let row = c.args.row.now in
     let t = c.loop-step.invariant in
     let end : c.loop-step.step ≡ 0 = omega (arith, c.loop-step-test.false) in
     let all = subst (λ n. AreTaken w rows day row n c.loop-step.next t.0) end t.1 in
-    t.2 ∙ ap (λ (xs : List Repeat). c.args.repeats.now.items ++ xs) (all_taken w rows day row c.requires.departures c.requires.row c.loop-step.next t.0 all)
+    t.2 ∙ ap (λ (xs : List Repeat). c.args.repeats.now.items ++ xs) (all_taken w rows day row c.args.trip.now.departures c.requires c.loop-step.next t.0 all)

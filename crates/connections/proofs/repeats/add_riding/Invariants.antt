@@ -4,4 +4,4 @@ use Rattle.connections.proofs.repeats.add_riding.Given as goal
 
 abbrev pub invariant-loop-step : goal.invariant-loop-step
 invariant-loop-step l =
-    (taken : ℕ → Bool) × AreTaken l.window l.rows l.day l.row l.step l.next taken × (l.repeats.items ≡ l.initial.repeats.items ++ taken_runs l.row taken l.next)
+    (taken : ℕ → Bool) × AreTaken l.trip.window l.trip.rows.now l.trip.day l.row l.step l.next taken × (l.repeats.items ≡ l.initial.repeats.items ++ taken_runs l.row taken l.next)

@@ -5,4 +5,4 @@ use Rattle.connections.specs.RepeatedRuns.{riding_by}
 use Rattle.connections.proofs.repeats.riding_of.Given as goal
 
 abbrev pub invariant-loop-i : goal.invariant-loop-i
-invariant-loop-i l = l.repeats.items ≡ join_below (λ i. riding_by l.window l.rows l.day (repeat_at l.frequencies i)) l.i
+invariant-loop-i l = l.repeats.items ≡ join_below (λ i. riding_by l.trip.window l.trip.rows.now l.trip.day (repeat_at l.trip.frequencies.now i)) l.i

@@ -7,13 +7,13 @@ use Rattle.connections.proofs.runs.may_ride.Goals.{then-rides-eq0-via-then-rides
 pub returns-then-rides-eq0 : goal.returns-then-rides-eq0
 returns-then-rides-eq0 c = λ is. elim c.then-rides-eq0.branch [
   | then-rides-eq0-via-then-rides-eq0 v ↦
-      none_at_all c.args.window c.args.rows.now c.args.origin (omega (arith, v.if-rides-eq0.true, c.saturating_sub-rides.ensures))
+      none_at_all c.args.trip.now.window c.args.trip.now.rows.now c.args.origin (omega (arith, v.if-rides-eq0.true, c.saturating_sub-rides.ensures))
   | then-rides-eq0-via-else-rides-eq0+then-ends_before v ↦
-      none_late c.args.window c.args.rows.now c.args.origin c.requires (grind (arith, ints, v.if-ends_before.true, v.ends_before.ensures, v.departure_of.ensures))
+      none_late c.args.trip.now.window c.args.trip.now.rows.now c.args.origin c.args.trip.now.departures.ordered (grind (arith, ints, v.if-ends_before.true, v.ends_before.ensures, v.departure_of.ensures))
 ]
 
 pub returns : goal.returns
 returns c = λ is.
-    let rides : c.saturating_sub-rides.result ≡ length c.args.rows.now - 1 = omega (arith, c.saturating_sub-rides.ensures) in
+    let rides : c.saturating_sub-rides.result ≡ length c.args.trip.now.rows.now - 1 = omega (arith, c.saturating_sub-rides.ensures) in
     let last = rw rides at c.departure_of-2.ensures in
-    none_early c.args.window c.args.rows.now c.args.origin c.requires (grind (arith, ints, is, c.starts_after.ensures, last))
+    none_early c.args.trip.now.window c.args.trip.now.rows.now c.args.origin c.args.trip.now.departures.ordered (grind (arith, ints, is, c.starts_after.ensures, last))

@@ -13,6 +13,6 @@ empty_is (row ∷ fs) h = absurd (omega arith)
 
 pub returns-else-not-starts_after : goal.returns-else-not-starts_after
 returns-else-not-starts_after c = λ is.
-    let early : moment_of (origin_of_day c.args.day) first_start <ℤ pos c.args.window.start = grind (arith, ints, is, c.starts_after.ensures, c.plus.ensures, c.of_day-origin.ensures) in
-    let none : length c.args.frequencies.now ≡ 0 = grind (arith, nat_tests, c.is_empty.ensures, c.if-not-is_empty.false) in
-    (empty_is c.args.frequencies.now none, none_early_all c.args.window c.args.rows.now (origin_of_day c.args.day) (λ k h. c.requires.early k h) early)
+    let early : moment_of (origin_of_day c.args.trip.now.day) first_start <ℤ pos c.args.trip.now.window.start = grind (arith, ints, is, c.starts_after.ensures, c.plus.ensures, c.of_day-origin.ensures) in
+    let none : length c.args.trip.now.frequencies.now ≡ 0 = grind (arith, nat_tests, c.is_empty.ensures, c.if-not-is_empty.false) in
+    (empty_is c.args.trip.now.frequencies.now none, none_early_all c.args.trip.now.window c.args.trip.now.rows.now (origin_of_day c.args.trip.now.day) (λ k h. c.args.trip.now.departures.early k h) early)

@@ -3,4 +3,4 @@ use Rattle.connections.specs.TripRuns.{runs_below}
 use Rattle.connections.proofs.runs.runs_of.Given as goal
 
 abbrev pub invariant-loop-d : goal.invariant-loop-d
-invariant-loop-d l = l.runs.items ≡ runs_below l.feed l.services.services l.window l.d
+invariant-loop-d l = l.runs.items ≡ runs_below l.trips.feed.now l.trips.days.now.services l.trips.window l.d
