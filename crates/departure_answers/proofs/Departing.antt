@@ -38,7 +38,7 @@ module _ (p : Problem) (q : Query) where
     where
       too_late : (moment : ℕ) → q.deadline.0 < moment → (tree : Tree) → SafeOf p q moment tree → ⊥
       too_late moment later tree safe =
-          let by = arrived p.network q.source.0 q.target.0 q.deadline.0 same tree moment safe in
+          let by = arrived p.timetable.network q.source.0 q.target.0 q.deadline.0 same tree moment safe in
           omega (arith, later, by)
 
   -- and the way to do it is to be there
@@ -46,40 +46,40 @@ module _ (p : Problem) (q : Query) where
   safe_at_once same early = (Done q.start.0, (refl, same, early))
 
   -- the latest moment has a text
-  pub latest_early : IsValid p.network → q.deadline.0 ≤ last_printable → (moment : Moment) → IsGreatestMoment (SafeOf p q) q.start.0 (Some moment) → moment.0 ≤ last_printable
-  latest_early valid small moment is =
-      leaves_early p.network q.source.0 q.target.0 q.deadline.0 valid small is.1.0 moment.0 is.1.1
+  pub latest_early : q.deadline.0 ≤ last_printable → (moment : Moment) → IsGreatestMoment (SafeOf p q) q.start.0 (Some moment) → moment.0 ≤ last_printable
+  latest_early small moment is =
+      leaves_early p.timetable.network q.source.0 q.target.0 q.deadline.0 p.timetable.valid small is.1.0 moment.0 is.1.1
 
   -- where no departure is found nothing is safe
-  pub none_leaves : (last : ℕ) (rows : List DepartureRow) → q.start.0 ≤ last → IsTable p.network (SafeOf p q) q.start.0 last rows → length rows ≡ 0 → HasNoneFor p q
+  pub none_leaves : (last : ℕ) (rows : List DepartureRow) → q.start.0 ≤ last → IsTable p.timetable.network (SafeOf p q) q.start.0 last rows → length rows ≡ 0 → HasNoneFor p q
   none_leaves last [] early is none = is.answers q.start.0 (omega arith) early
   none_leaves last (row ∷ rows) early is none = absurd (omega (arith, none))
 
   -- and where one is something is
-  pub some_leaves : (last : ℕ) (rows : List DepartureRow) → q.start.0 ≤ last → IsTable p.network (SafeOf p q) q.start.0 last rows → length rows ≢ 0 → HasSafeFor p q
+  pub some_leaves : (last : ℕ) (rows : List DepartureRow) → q.start.0 ≤ last → IsTable p.timetable.network (SafeOf p q) q.start.0 last rows → length rows ≢ 0 → HasSafeFor p q
   some_leaves last [] early is some = absurd (some refl)
   some_leaves last (row ∷ rows) early is some =
       let by = is.from_first zero row (omega arith) in
       let test : nat_le q.start.0 row.by.0 ≡ true = grind (arith, nat_tests) in
       let found : first_row_by q.start.0 (row ∷ rows) ≡ Some row = rw test refl in
-      let best = subst (λ (o : Option DepartureRow). MatchOption o (IsNoneSafeFrom (SafeOf p q) q.start.0) (IsBestFrom p.network (SafeOf p q) q.start.0))
+      let best = subst (λ (o : Option DepartureRow). MatchOption o (IsNoneSafeFrom (SafeOf p q) q.start.0) (IsBestFrom p.timetable.network (SafeOf p q) q.start.0))
       found (is.answers q.start.0 (omega arith) early) in
       (best.covers_one.0, best.covers_one.1)
 
   module _ (own : Query) (target : own.target ≡ q.target) (deadline : own.deadline ≡ q.deadline) where
     -- what is said of a query with this target and this deadline is said of the query
-    pub same_table : (first last : ℕ) (rows : List DepartureRow) → IsTable p.network (SafeFrom p.network q.source.0 own) first last rows → IsTable p.network (SafeOf p q) first last rows
+    pub same_table : (first last : ℕ) (rows : List DepartureRow) → IsTable p.timetable.network (SafeFrom p.timetable.network q.source.0 own) first last rows → IsTable p.timetable.network (SafeOf p q) first last rows
     same_table first last rows is =
-        subst (λ (t : PlaceId). IsTable p.network (λ moment tree. IsSafeFromStart p.network t.0 (Some q.deadline.0) tree q.source.0 moment) first last rows) target
-        (subst (λ (d : Moment). IsTable p.network (λ moment tree. IsSafeFromStart p.network own.target.0 (Some d.0) tree q.source.0 moment) first last rows) deadline is)
+        subst (λ (t : PlaceId). IsTable p.timetable.network (λ moment tree. IsSafeFromStart p.timetable.network t.0 (Some q.deadline.0) tree q.source.0 moment) first last rows) target
+        (subst (λ (d : Moment). IsTable p.timetable.network (λ moment tree. IsSafeFromStart p.timetable.network own.target.0 (Some d.0) tree q.source.0 moment) first last rows) deadline is)
 
-    pub same_greatest : (first : ℕ) (result : Option Moment) → IsGreatestMoment (SafeFrom p.network q.source.0 own) first result → IsGreatestMoment (SafeOf p q) first result
+    pub same_greatest : (first : ℕ) (result : Option Moment) → IsGreatestMoment (SafeFrom p.timetable.network q.source.0 own) first result → IsGreatestMoment (SafeOf p q) first result
     same_greatest first result is =
-        subst (λ (t : PlaceId). IsGreatestMoment (λ moment tree. IsSafeFromStart p.network t.0 (Some q.deadline.0) tree q.source.0 moment) first result) target
-        (subst (λ (d : Moment). IsGreatestMoment (λ moment tree. IsSafeFromStart p.network own.target.0 (Some d.0) tree q.source.0 moment) first result) deadline is)
+        subst (λ (t : PlaceId). IsGreatestMoment (λ moment tree. IsSafeFromStart p.timetable.network t.0 (Some q.deadline.0) tree q.source.0 moment) first result) target
+        (subst (λ (d : Moment). IsGreatestMoment (λ moment tree. IsSafeFromStart p.timetable.network own.target.0 (Some d.0) tree q.source.0 moment) first result) deadline is)
 
   -- departures between two places
-  pub departures_away : (last : ℕ) (rows : List DepartureRow) → q.source.0 ≢ q.target.0 → IsTable p.network (SafeOf p q) q.start.0 last rows
+  pub departures_away : (last : ℕ) (rows : List DepartureRow) → q.source.0 ≢ q.target.0 → IsTable p.timetable.network (SafeOf p q) q.start.0 last rows
       → AreByRules p q last rows → AreDepartures p q last rows
   departures_away last rows differ is ruled = record { at_once = λ same. absurd (differ same); table = λ other. is; by_rules = λ other. ruled }
 
@@ -88,6 +88,6 @@ module _ (p : Problem) (q : Query) where
   departures_at_once last rows none same = record { at_once = λ other. none; table = λ differ. absurd (differ same); by_rules = λ differ. absurd (differ same) }
 
   -- the rows have texts
-  pub rows_depart : (last : ℕ) (rows : List DepartureRow) → AreDepartures p q last rows → All (IsDepartureRow p.network) rows
-  rows_depart last [] are = All-nil (IsDepartureRow p.network)
+  pub rows_depart : (last : ℕ) (rows : List DepartureRow) → AreDepartures p q last rows → All (IsDepartureRow p.timetable.network) rows
+  rows_depart last [] are = All-nil (IsDepartureRow p.timetable.network)
   rows_depart last (row ∷ rows) are = (are.table (λ same. let none = are.at_once same in absurd (cc))).departures

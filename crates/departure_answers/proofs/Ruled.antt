@@ -11,10 +11,10 @@ use Rattle.journey_model.specs.declared.problem.Problem.{Problem}
 use Rattle.departure_answers.specs.ByRules.{IsRuled, AreByRules, added_query}
 
 pub by_rules : (p : Problem) (q : Query) (last : ℕ) (rows : List DepartureRow) (n : NetworkModel) (asked : Query) (found : ScanResult MeanSpan)
-    → n ≡ extended p.network q.source.0 → asked ≡ added_query p.network q → IsRuled n asked found
+    → n ≡ extended p.timetable.network q.source.0 → asked ≡ added_query p.timetable.network q → IsRuled n asked found
     → AreLooked (row_found n asked found) last q.start.0 rows → AreByRules p q last rows
 by_rules p q last rows n asked found network query ruled looked =
-    let more = extended p.network q.source.0 in
+    let more = extended p.timetable.network q.source.0 in
     record {
       found = found;
       ruled = subst (λ (r : Query). IsRuled more r found) query (subst (λ (m : NetworkModel). IsRuled m asked found) network ruled);

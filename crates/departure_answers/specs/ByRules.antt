@@ -26,5 +26,5 @@ added_query network query = record { source = record { 0 = length network.change
 -- the rows are those that the rules give in the network with a place more
 pub record AreByRules (p : Problem) (query : Query) (last : ℕ) (rows : List DepartureRow) : Type 0 where
   pub found : ScanResult MeanSpan
-  pub ruled : IsRuled (extended p.network query.source.0) (added_query p.network query) found
-  pub looked : AreLooked (row_found (extended p.network query.source.0) (added_query p.network query) found) last query.start.0 rows
+  pub ruled : IsRuled (extended p.timetable.network query.source.0) (added_query p.timetable.network query) found
+  pub looked : AreLooked (row_found (extended p.timetable.network query.source.0) (added_query p.timetable.network query) found) last query.start.0 rows

@@ -20,33 +20,33 @@ query_until p start until = record { source = p.source; target = p.target; start
 
 -- the trees that are safe for a query, but that it starts at another moment
 abbrev pub SafeOf : Problem → Query → ℕ → Tree → Type 0
-SafeOf p query = SafeFrom p.network query.source.0 query
+SafeOf p query = SafeFrom p.timetable.network query.source.0 query
 
 -- some tree is safe for the query
 abbrev pub HasSafeFor : Problem → Query → Type 0
-HasSafeFor p query = (tree : Tree) × IsSafeFor p.network query tree
+HasSafeFor p query = (tree : Tree) × IsSafeFor p.timetable.network query tree
 
 -- none is
 abbrev pub HasNoneFor : Problem → Query → Type 0
-HasNoneFor p query = (tree : Tree) → IsSafeFor p.network query tree → ⊥
+HasNoneFor p query = (tree : Tree) → IsSafeFor p.timetable.network query tree → ⊥
 
 -- the departures from the start of the query to a last moment, as the rules of the scan give them; none where source and target are one place
 pub record AreDepartures (p : Problem) (query : Query) (last : ℕ) (rows : List DepartureRow) : Type 0 where
   pub at_once : query.source.0 ≡ query.target.0 → rows ≡ []
-  pub table : query.source.0 ≢ query.target.0 → IsTable p.network (SafeOf p query) query.start.0 last rows
+  pub table : query.source.0 ≢ query.target.0 → IsTable p.timetable.network (SafeOf p query) query.start.0 last rows
   pub by_rules : query.source.0 ≢ query.target.0 → AreByRules p query last rows
 
 -- the departures are told; some tree is safe from the first moment
 abbrev pub TellsDepartures : Problem → Query → ℕ → Findings → List ℕ → Type 0
 TellsDepartures p query last found text =
     (rows : List DepartureRow) × (found ≡ departures_findings query rows) × AreDepartures p query last rows × HasSafeFor p query
-    × (text ≡ departures_text p.network p.names query last rows)
+    × (text ≡ departures_text p.timetable.network p.timetable.names query last rows)
 
 -- the latest moment is told from which a tree is safe
 abbrev pub TellsLatest : Problem → Query → Findings → List ℕ → Type 0
 TellsLatest p query found text =
     (moment : Moment) × (found ≡ latest_findings query moment) × IsGreatestMoment (SafeOf p query) query.start.0 (Some moment)
-    × (text ≡ latest_text (place_name p.names query.source.0) (place_name p.names query.target.0) query moment)
+    × (text ≡ latest_text (place_name p.timetable.names query.source.0) (place_name p.timetable.names query.target.0) query moment)
 
 -- why departures are not told: no tree is safe from the first moment
 abbrev pub FailsDepartures : Problem → Query → Fault → Type 0
@@ -58,7 +58,7 @@ FailsLatest p query fault = (fault ≡ NoSafe) × IsGreatestMoment (SafeOf p que
 
 -- its places are the network's, and its moments have texts
 pub record IsUntil (p : Problem) (query : Query) : Type 0 where
-  pub source : query.source.0 < length p.network.change
-  pub target : query.target.0 < length p.network.change
+  pub source : query.source.0 < length p.timetable.network.change
+  pub target : query.target.0 < length p.timetable.network.change
   pub first : 1 ≤ query.start.0
   pub order : query.start.0 ≤ query.deadline.0

@@ -5,4 +5,4 @@ mod lines;
 mod told;
 
 pub use lines::known_line;
-pub use told::{NamedNetwork, fault_line};
+pub use told::fault_line;

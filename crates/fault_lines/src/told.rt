@@ -2,22 +2,14 @@
 ghost use Rattle.std.specs.Prelude.{◌≡◌, ◌<◌, ◌≤◌, ◌++◌, length, IfOk, codes};
 ghost use Rattle.fault_lines.specs.FaultLines.{plain_text, line_of};
 ghost use Rattle.journey_model.specs.Sites.{last_printable, arrival_text, step_text, site_of, site_text, site_text_in, IsTellable, IsTellableSite};
-ghost use Rattle.fault_lines.specs.Known.{known_parts, known_in};
+ghost use Rattle.journey_model.specs.Known.{named_parts};
+ghost use Rattle.fault_lines.specs.Known.{known_in};
 
 use crate::lines::FaultText;
 use clock_text::write_moment;
 use journey_model::{Fault, Site};
-use plan_model::{ConnectionId, Moment, Names, Network, NoMemory, PlaceId};
+use plan_model::{ConnectionId, Moment, Names, NoMemory, PlaceId, Timetable};
 use std::alloc::Global;
-
-/// A timetable with its names, by which a line tells where a fault is.
-#[derive(Clone, Copy)]
-pub struct NamedNetwork<'a> {
-    /// The connections.
-    pub network: &'a Network,
-    /// The names of the places and of the runs.
-    pub names: &'a Names,
-}
 
 /// A line with a place and a moment behind it.
 fn with_arrival(
@@ -44,12 +36,12 @@ fn with_arrival(
 fn with_step(
     alloc: Global,
     line: Vec<u8>,
-    known: NamedNetwork,
+    known: &Timetable,
     id: ConnectionId,
 ) -> Result<Vec<u8>, NoMemory>
-    requires { IsTellableSite (known_parts known) (Site.Connection id) }
+    requires { IsTellableSite (named_parts known.now) (Site.Connection id) }
     ensures { IfOk result (λ text.
-        text.items ≡ line.items ++ step_text (known_parts known.entry) id.0) }
+        text.items ≡ line.items ++ step_text (named_parts known.now) id.0) }
 {
     let connection = known.network.get(id);
     let step = format!(in alloc; "{}", connection.step)?;
@@ -66,20 +58,20 @@ fn with_site(
     alloc: Global,
     line: Vec<u8>,
     site: Site,
-    known: NamedNetwork,
+    known: &Timetable,
 ) -> Result<Vec<u8>, NoMemory>
-    requires { IsTellableSite (known_parts known) site }
+    requires { IsTellableSite (named_parts known.now) site }
     ensures { IfOk result (λ text.
-        text.items ≡ line.items ++ site_text (known_parts known.entry) site) }
+        text.items ≡ line.items ++ site_text (named_parts known.now) site) }
 {
     match site {
-        Site::Arrival(place, moment) => with_arrival(line, known.names, place, moment),
+        Site::Arrival(place, moment) => with_arrival(line, &known.names, place, moment),
         Site::Connection(id) => with_step(alloc, line, known, id),
     }
 }
 
 /// What a fault is, and where in the timetable, where this is known.
-fn front_of(alloc: Global, fault: Fault, known: Option<NamedNetwork>) -> Result<Vec<u8>, NoMemory>
+fn front_of(alloc: Global, fault: Fault, known: Option<&Timetable>) -> Result<Vec<u8>, NoMemory>
     requires { IsTellable (known_in known) fault }
     ensures { IfOk result (λ text. text.items
         ≡ (codes "meat: " ++ plain_text fault) ++ site_text_in (known_in known.entry) (site_of fault)) }
@@ -97,7 +89,7 @@ fn front_of(alloc: Global, fault: Fault, known: Option<NamedNetwork>) -> Result<
 pub fn fault_line(
     alloc: Global,
     fault: Fault,
-    known: Option<NamedNetwork>,
+    known: Option<&Timetable>,
 ) -> Result<Vec<u8>, NoMemory>
     requires { IsTellable (known_in known) fault }
     ensures { IfOk result (λ line. line.items ≡ line_of (known_in known.entry) fault) }

@@ -18,13 +18,13 @@ use Rattle.input_files.specs.Files.{bytes_of}
 
 -- a text tells this query and this certificate, of the problem's source and target and from a start on
 abbrev pub TellsProof : Problem → ℕ → List ℕ → Query → LowerBounds → Type 0
-TellsProof p start text query proof = IsProofTold p.network p.names p.source.0 p.target.0 start (table_of text) query proof.values
+TellsProof p start text query proof = IsProofTold p.timetable.network p.timetable.names p.source.0 p.target.0 start (table_of text) query proof.values
 
 -- the first fault of a text
 abbrev pub FailsText : Problem → ℕ → List ℕ → Fault → Type 0
 FailsText p start text fault =
     (first : ProofFault) × (fault ≡ ProofFile first)
-    × IsFaultAfter p.network p.names (table_of text) (bounds_in p.names p.source.0 p.target.0 start (header (table_of text))) first
+    × IsFaultAfter p.timetable.network p.timetable.names (table_of text) (bounds_in p.timetable.names p.source.0 p.target.0 start (header (table_of text))) first
 
 -- that of a file: of its bytes, where they are there, and else in loading them
 abbrev pub FailsFile : Problem → ℕ → Result (List ℕ) Fault → Fault → Type 0

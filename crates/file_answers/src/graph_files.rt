@@ -1,6 +1,5 @@
 //! What is asked of the graph of a file: the trip by it, and bounds on its expected arrival.
-ghost use Rattle.std.specs.Prelude.{◌≡◌, ◌≢◌, ◌<◌, ◌≤◌, length, Some, None, Ok, Err, IfOk, IfErr, IfSome};
-ghost use Rattle.plan_model.specs.NameLists.{NamesFit};
+ghost use Rattle.std.specs.Prelude.{◌≡◌, ◌≢◌, ◌≤◌, Some, None, Ok, Err, IfOk, IfErr, IfSome};
 ghost use Rattle.plan_graph.specs.Tidy.{IsFit};
 ghost use Rattle.graph_text.specs.Asked.{IsHeadOf};
 ghost use Rattle.graph_text.specs.Reading.{graph_of};
@@ -16,14 +15,13 @@ ghost use Rattle.journey_report.specs.Findings.{findings_of};
 ghost use Rattle.file_answers.specs.GraphFiles.{graph_as, graph_in, InGraphFile, FailsReplay, FailsScore};
 ghost use Rattle.graph_answers.specs.Trips.{IsTripTold};
 ghost use Rattle.graph_answers.specs.Scores.{IsEnclosed};
-ghost use Rattle.plan_model.specs.Bounds.{last_start};
 
 use csv_rows::Limits;
 use file_ports::Files;
-use graph_answers::{score_over, trip_over};
+use graph_answers::{ReadGraph, score_over, trip_over};
 use graph_text::{Head, TextFault, read, read_fits};
 use input_files::load_bytes;
-use journey_model::{Fault, Input, Problem};
+use journey_model::{Fault, Input, Problem, Start};
 use journey_report::Answer;
 use plan_graph::PlanGraph;
 use plan_model::Moment;
@@ -36,11 +34,10 @@ fn graph_of_bytes(
     problem: &Problem,
     start: Moment,
 ) -> Result<(Head, PlanGraph), Fault>
-    requires fit { NamesFit problem.now.names problem.now.network }
-    ensures graph { IfOk result (λ f. graph_of bytes.now problem.now.network problem.now.names
+    ensures graph { IfOk result (λ f. graph_of bytes.now problem.now.timetable.network problem.now.timetable.names
         problem.now.source.0 problem.now.target.0 start.0 ≡ Ok (f.0, f.1)) }
     ensures fault { IfErr result (λ fault. fault ≢ Fault.NoMemory
-        → graph_as (graph_of bytes.now problem.now.network problem.now.names
+        → graph_as (graph_of bytes.now problem.now.timetable.network problem.now.timetable.names
         problem.now.source.0 problem.now.target.0 start.0) ≡ Err fault) }
     ensures stage { IfErr result (λ fault. fault ≢ Fault.NoMemory → IsOfInput Input.Graph fault) }
     ensures read { IfErr result (λ fault. unread_of fault ≡ None) }
@@ -48,8 +45,8 @@ fn graph_of_bytes(
     match read(
         alloc,
         bytes,
-        &problem.network,
-        &problem.names,
+        &problem.timetable.network,
+        &problem.timetable.names,
         problem.source,
         problem.target,
         start,
@@ -69,10 +66,9 @@ fn read_graph_file<F: Files>(
     start: Moment,
     limits: &Limits,
 ) -> Result<(Head, PlanGraph), Fault>
-    requires fit { NamesFit problem.now.names problem.now.network }
     ensures graph { IfSome (F.state files.old).files (λ m. Finds (λ f. (f.0, f.1))
         (λ unread. graph_in limits.now problem.now start.0 unread (file_at m path.now)) result) }
-    ensures fit { IfOk result (λ f. IsFit problem.now.network f.0.query f.1) }
+    ensures fit { IfOk result (λ f. IsFit problem.now.timetable.network f.0.query f.1) }
     ensures head { IfOk result (λ f.
         IsHeadOf problem.now.source.0 problem.now.target.0 start.0 f.0) }
     ensures deadline { IfOk result (λ f. f.0.query.deadline.0 ≤ last_printable) }
@@ -90,26 +86,27 @@ pub fn replay_over<F: Files>(
     alloc: Global,
     files: &mut F,
     problem: &Problem,
-    start: Moment,
+    start: Start,
     graph: &str,
     late: &str,
     limits: &Limits,
 ) -> Result<Answer, Fault>
-    requires fit { NamesFit problem.now.names problem.now.network }
-    requires source { problem.now.source.0 < length problem.now.network.change }
-    requires target { problem.now.target.0 < length problem.now.network.change }
-    requires start { start.0 ≤ last_start }
-    ensures answer { IfOk result (λ a. InGraphFile (F.state files.old).files limits.now start.0
+    ensures answer { IfOk result (λ a. InGraphFile (F.state files.old).files limits.now start.moment.0
         graph.now problem.now (IsTripTold problem.now (late_in late.now)
         (findings_of a.report) a.text.items)) }
     ensures fault { IfErr result (λ fault. fault ≢ Fault.NoMemory
-        → FailsReplay (F.state files.old).files limits.now start.0 graph.now (late_in late.now)
+        → FailsReplay (F.state files.old).files limits.now start.moment.0 graph.now (late_in late.now)
         problem.now fault) }
     ensures tellable { IfErr result (IsTellable (Some (parts_of problem.now))) }
     ensures causes { HasCauses (graph_path graph.now) (F.state files.old) (F.state files.new) result }
 {
-    let (head, graph) = read_graph_file(alloc, files, graph, problem, start, limits)?;
-    trip_over(alloc, problem, head, graph, late)
+    let (head, graph) = read_graph_file(alloc, files, graph, problem, start.moment, limits)?;
+    let read = ReadGraph {
+        problem,
+        head,
+        graph,
+    };
+    trip_over(alloc, read, late)
 }
 
 /// Bounds on the expected arrival of the graph of a file.
@@ -117,21 +114,22 @@ pub fn check_graph_over<F: Files>(
     alloc: Global,
     files: &mut F,
     problem: &Problem,
-    start: Moment,
+    start: Start,
     graph: &str,
     limits: &Limits,
 ) -> Result<Answer, Fault>
-    requires fit { NamesFit problem.now.names problem.now.network }
-    requires source { problem.now.source.0 < length problem.now.network.change }
-    requires target { problem.now.target.0 < length problem.now.network.change }
-    requires start { start.0 ≤ last_start }
-    ensures answer { IfOk result (λ a. InGraphFile (F.state files.old).files limits.now start.0
+    ensures answer { IfOk result (λ a. InGraphFile (F.state files.old).files limits.now start.moment.0
         graph.now problem.now (IsEnclosed problem.now (findings_of a.report) a.text.items)) }
     ensures fault { IfErr result (λ fault. fault ≢ Fault.NoMemory
-        → FailsScore (F.state files.old).files limits.now start.0 graph.now problem.now fault) }
+        → FailsScore (F.state files.old).files limits.now start.moment.0 graph.now problem.now fault) }
     ensures tellable { IfErr result (IsTellable (Some (parts_of problem.now))) }
     ensures causes { HasCauses (graph_path graph.now) (F.state files.old) (F.state files.new) result }
 {
-    let (head, graph) = read_graph_file(alloc, files, graph, problem, start, limits)?;
-    score_over(alloc, problem, head, graph)
+    let (head, graph) = read_graph_file(alloc, files, graph, problem, start.moment, limits)?;
+    let read = ReadGraph {
+        problem,
+        head,
+        graph,
+    };
+    score_over(alloc, read)
 }

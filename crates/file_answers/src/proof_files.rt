@@ -1,6 +1,5 @@
 //! What is asked of the certificate of a file: whether it holds.
-ghost use Rattle.std.specs.Prelude.{◌≡◌, ◌≢◌, ◌<◌, ◌≤◌, length, Some, None, IfOk, IfErr, IfSome};
-ghost use Rattle.plan_model.specs.NameLists.{NamesFit};
+ghost use Rattle.std.specs.Prelude.{◌≡◌, ◌≢◌, Some, None, IfOk, IfErr, IfSome};
 ghost use Rattle.journey_model.specs.Faults.{MayBeUnread, unread_of};
 ghost use Rattle.journey_model.specs.Sites.{IsTellable};
 ghost use Rattle.journey_model.specs.Stages.{IsOfInput};
@@ -10,13 +9,12 @@ ghost use Rattle.journey_model.specs.Known.{parts_of};
 ghost use Rattle.file_answers.specs.ProofFiles.{TellsProof, FailsText, IsProofFile, InProofFile, FailsProof, FailsCheck};
 ghost use Rattle.graph_answers.specs.Checks.{IsHeld};
 ghost use Rattle.journey_report.specs.Findings.{findings_of};
-ghost use Rattle.plan_model.specs.Bounds.{last_start};
 
 use csv_rows::Limits;
 use file_ports::Files;
-use graph_answers::check_over;
+use graph_answers::{ReadProof, check_over};
 use input_files::load_bytes;
-use journey_model::{Fault, Input, Problem};
+use journey_model::{Fault, Input, Problem, Start};
 use journey_report::Answer;
 use lower_proof::{LowerBounds, ProofFault, read_text};
 use plan_model::{Moment, Query};
@@ -38,8 +36,8 @@ fn proof_of_bytes(
     match read_text(
         alloc,
         bytes,
-        &problem.network,
-        &problem.names,
+        &problem.timetable.network,
+        &problem.timetable.names,
         problem.source,
         problem.target,
         start,
@@ -76,21 +74,22 @@ pub fn check_proof_over<F: Files>(
     alloc: Global,
     files: &mut F,
     problem: &Problem,
-    start: Moment,
+    start: Start,
     proof: &str,
     limits: &Limits,
 ) -> Result<Answer, Fault>
-    requires fit { NamesFit problem.now.names problem.now.network }
-    requires source { problem.now.source.0 < length problem.now.network.change }
-    requires target { problem.now.target.0 < length problem.now.network.change }
-    requires start { start.0 ≤ last_start }
-    ensures answer { IfOk result (λ a. InProofFile (F.state files.old).files limits.now start.0
+    ensures answer { IfOk result (λ a. InProofFile (F.state files.old).files limits.now start.moment.0
         proof.now problem.now (IsHeld problem.now (findings_of a.report) a.text.items)) }
     ensures fault { IfErr result (λ fault. fault ≢ Fault.NoMemory
-        → FailsCheck (F.state files.old).files limits.now start.0 proof.now problem.now fault) }
+        → FailsCheck (F.state files.old).files limits.now start.moment.0 proof.now problem.now fault) }
     ensures tellable { IfErr result (IsTellable (Some (parts_of problem.now))) }
     ensures causes { HasCauses (proof_path proof.now) (F.state files.old) (F.state files.new) result }
 {
-    let (query, proof) = read_proof_file(alloc, files, proof, problem, start, limits)?;
-    check_over(alloc, problem, query, proof)
+    let (query, proof) = read_proof_file(alloc, files, proof, problem, start.moment, limits)?;
+    let read = ReadProof {
+        problem,
+        query,
+        proof,
+    };
+    check_over(alloc, read)
 }

@@ -1,8 +1,6 @@
 -- The fault of a trip, and where it is.
 use Rattle.std.proofs.Common.{◌≡◌, ℕ, List, None, Some, Result, Err, sym, subst, arith, refl, ◌≢◌, ◌<◌, ◌≤◌, length}
 use Rattle.plan_model.specs.declared.model.Query.{Query}
-use Rattle.plan_model.specs.NameLists.{NamesFit}
-use Rattle.plan_model.specs.Network.{IsValid}
 use Rattle.plan_graph.specs.declared.PlanGraph.{PlanGraph}
 use Rattle.graph_text.specs.declared.Head.{Head}
 use Rattle.trip_replay.specs.declared.ReplayFault.{ReplayFault}
@@ -20,18 +18,18 @@ use Rattle.journey_report.proofs.TextLemmas.{arrivals, places}
 use Rattle.graph_answers.specs.Trips.{replay_as, IsSafeTrip, trip_by, IsTripFault}
 
 -- a trip is stuck at a place with a name, at a moment that has a text
-pub stuck_tellable : (p : Problem) (q : Query) → NamesFit p.names p.network → IsValid p.network → q.source.0 < length p.network.change → q.start.0 ≤ last_start
-    → (fault : ReplayFault) → IsStuckAfter p.network q fault → IsTellable (Some (parts_of p)) (replay_as fault)
-stuck_tellable p q fit valid source early (replay.Stuck place moment) (rides, all, at, since) =
+pub stuck_tellable : (p : Problem) (q : Query) → q.source.0 < length p.timetable.network.change → q.start.0 ≤ last_start
+    → (fault : ReplayFault) → IsStuckAfter p.timetable.network q fault → IsTellable (Some (parts_of p)) (replay_as fault)
+stuck_tellable p q source early (replay.Stuck place moment) (rides, all, at, since) =
     let few : q.start.0 ≤ last_printable = omega (arith, early) in
-    let inside : place.0 < length p.network.change = subst (λ (k : ℕ). k < length p.network.change) (sym at) (places p.network valid q.source.0 rides source all) in (
-      subst (λ (k : ℕ). place.0 < k) (sym fit.places) inside,
-      subst (λ (k : ℕ). k ≤ last_printable) (sym since) (arrivals p.network valid q.start.0 rides few all),
+    let inside : place.0 < length p.timetable.network.change = subst (λ (k : ℕ). k < length p.timetable.network.change) (sym at) (places p.timetable.network p.timetable.valid q.source.0 rides source all) in (
+      subst (λ (k : ℕ). place.0 < k) (sym p.timetable.fit.places) inside,
+      subst (λ (k : ℕ). k ≤ last_printable) (sym since) (arrivals p.timetable.network p.timetable.valid q.start.0 rides few all),
     )
-stuck_tellable p q fit valid source early (replay.NotADelay number) stuck = tt
-stuck_tellable p q fit valid source early (replay.TooFew ridden) stuck = tt
-stuck_tellable p q fit valid source early (replay.TooMany ridden) stuck = tt
-stuck_tellable p q fit valid source early replay.NoMemory stuck = tt
+stuck_tellable p q source early (replay.NotADelay number) stuck = tt
+stuck_tellable p q source early (replay.TooFew ridden) stuck = tt
+stuck_tellable p q source early (replay.TooMany ridden) stuck = tt
+stuck_tellable p q source early replay.NoMemory stuck = tt
 
 answer_is : (fault : ReplayFault) (trip : Result Trace ReplayFault) → fault ≢ replay.NoMemory → IsAnswer (Err fault) trip → trip ≡ Err fault
 answer_is replay.NoMemory trip other is = absurd (other refl)

@@ -7,7 +7,6 @@ use Rattle.plan_model.specs.declared.model.Leg.{Leg}
 use Rattle.plan_model.specs.declared.model.Outcome.{Outcome}
 use Rattle.plan_model.specs.declared.model.Query.{Query}
 use Rattle.plan_model.specs.NetworkModel.{NetworkModel}
-use Rattle.plan_model.specs.NameLists.{NamesFit}
 use Rattle.plan_model.specs.Network.{IsValid, count, connection, arr_of}
 use Rattle.plan_model.specs.Tree.{Tree, Done, Stuck}
 use Rattle.plan_model.specs.Unfold.{end_of, outcomes_of, kids_after, ride_or_stuck, unfold_after, unfold_from, by_place}
@@ -80,27 +79,27 @@ module _ (n : NetworkModel) (valid : IsValid n) (q : Query) (target_in : q.targe
       (or_stuck (unfold_after n q.target.0 choice (count n - 1)) first p x within (after_printed (count n - 1)) is)
 
 -- the place where one may fail first has a name, and the moment a text
-pub unsafe_tellable : (p : Problem) (q : Query) (graph : PlanGraph) → NamesFit p.names p.network → IsValid p.network → IsFit p.network q graph
-    → q.source.0 < length p.network.change → q.target.0 < length p.network.change
-    → q.start.0 ≤ last_start → (place moment : ℕ) → IsUnsafe p.network q (unfold_plan graph p.network q) place moment → (place < length p.names.places) × (moment ≤ last_printable)
-unsafe_tellable p q graph names valid fit source target early place moment unsafe =
-    let n = p.network in
+pub unsafe_tellable : (p : Problem) (q : Query) (graph : PlanGraph) → IsFit p.timetable.network q graph
+    → q.source.0 < length p.timetable.network.change → q.target.0 < length p.timetable.network.change
+    → q.start.0 ≤ last_start → (place moment : ℕ) → IsUnsafe p.timetable.network q (unfold_plan graph p.timetable.network q) place moment → (place < length p.timetable.names.places) × (moment ≤ last_printable)
+unsafe_tellable p q graph fit source target early place moment unsafe =
+    let n = p.timetable.network in
     let chosen : (leg : Leg) (x : ℕ) (next : Leg) → by_place n (pick_at graph.tables) leg x ≡ Some next
     → next.exit.0 < count n = λ leg x next is. (picked_leg n graph.tables fit.tables (end_of n leg) x next is).exit in
     let first : (leg : Leg) → graph.start ≡ Some leg → leg.exit.0 < count n = λ leg is. (MatchOption-at_some _ _ _ is fit.starts).is_leg.exit in
-    let printed = from_printed n valid q target (by_place n (pick_at graph.tables)) chosen graph.start first q.source.0 q.start.0 (source, omega (arith, early)) place moment unsafe.first.fails in
-    (subst (λ (k : ℕ). place < k) (sym names.places) printed.0, printed.1)
+    let printed = from_printed n p.timetable.valid q target (by_place n (pick_at graph.tables)) chosen graph.start first q.source.0 q.start.0 (source, omega (arith, early)) place moment unsafe.first.fails in
+    (subst (λ (k : ℕ). place < k) (sym p.timetable.fit.places) printed.0, printed.1)
 
 module _ (p : Problem) where
   -- the place of a fault has a name, and its moment a text
   abbrev pub IsPrintedFault : ScoreFault → Type 0
   IsPrintedFault (NoSuchLeg k) = Unit {0}
-  IsPrintedFault (Unsafe place moment) = (place.0 < length p.names.places) × (moment.0 ≤ last_printable)
+  IsPrintedFault (Unsafe place moment) = (place.0 < length p.timetable.names.places) × (moment.0 ≤ last_printable)
   IsPrintedFault NoMemory = Unit {0}
 
-  pub fault_printed : (q : Query) (graph : PlanGraph) → NamesFit p.names p.network → IsValid p.network → IsFit p.network q graph
-      → q.source.0 < length p.network.change → q.target.0 < length p.network.change
-      → q.start.0 ≤ last_start → (fault : ScoreFault) → IsScore p.network q graph (Err fault) → IsPrintedFault fault
-  fault_printed q graph names valid fit source target early (NoSuchLeg k) is = tt
-  fault_printed q graph names valid fit source target early (Unsafe place moment) (fits, unsafe) = unsafe_tellable p q graph names valid fit source target early place.0 moment.0 unsafe
-  fault_printed q graph names valid fit source target early NoMemory is = tt
+  pub fault_printed : (q : Query) (graph : PlanGraph) → IsFit p.timetable.network q graph
+      → q.source.0 < length p.timetable.network.change → q.target.0 < length p.timetable.network.change
+      → q.start.0 ≤ last_start → (fault : ScoreFault) → IsScore p.timetable.network q graph (Err fault) → IsPrintedFault fault
+  fault_printed q graph fit source target early (NoSuchLeg k) is = tt
+  fault_printed q graph fit source target early (Unsafe place moment) (fits, unsafe) = unsafe_tellable p q graph fit source target early place.0 moment.0 unsafe
+  fault_printed q graph fit source target early NoMemory is = tt

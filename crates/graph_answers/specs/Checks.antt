@@ -14,13 +14,13 @@ use Rattle.journey_report.specs.AnswerTexts.{holds_text}
 
 -- that a certificate holds is told, with its least value at the start, which is below each strategy that is safe for its query
 pub record IsHeld (p : Problem) (found : Findings) (text : List ℕ) (query : Query) (proof : LowerBounds) : Type 0 where
-  pub accepted : IsAccepted p.network query proof.values
-  pub sound : IsSound p.network query proof.values
+  pub accepted : IsAccepted p.timetable.network query proof.values
+  pub sound : IsSound p.timetable.network query proof.values
   pub least : Option ℕ
-  pub least_is : IsLeastAtStart p.network query proof.values least
+  pub least_is : IsLeastAtStart p.timetable.network query proof.values least
   pub found_is : found ≡ check_findings query proof least
-  pub text_is : text ≡ holds_text (place_name p.names p.source.0) (place_name p.names p.target.0) query least
+  pub text_is : text ≡ holds_text (place_name p.timetable.names p.source.0) (place_name p.timetable.names p.target.0) query least
 
 -- the fault is that a certificate fails, and at the last connection of the scan order whose value is too great
 abbrev pub IsBroken : Problem → Fault → Query → LowerBounds → Type 0
-IsBroken p fault query proof = (connection : ConnectionId) × (fault ≡ ProofFails connection) × IsLastFault p.network query proof.values connection.0
+IsBroken p fault query proof = (connection : ConnectionId) × (fault ≡ ProofFails connection) × IsLastFault p.timetable.network query proof.values connection.0

@@ -17,12 +17,12 @@ use Rattle.journey_report.specs.AnswerTexts.{encloses_text}
 -- the bounds of a graph are told, whose strategy is safe for its own query
 pub record IsEnclosed (p : Problem) (found : Findings) (text : List ℕ) (head : Head) (graph : PlanGraph) : Type 0 where
   pub bounds : Interval
-  pub scored : IsScored p.network head.query (unfold_plan graph p.network head.query) bounds
+  pub scored : IsScored p.timetable.network head.query (unfold_plan graph p.timetable.network head.query) bounds
   pub found_is : found ≡ score_findings head.query graph bounds
-  pub text_is : text ≡ encloses_text (place_name p.names p.source.0) (place_name p.names p.target.0) head.query bounds
+  pub text_is : text ≡ encloses_text (place_name p.timetable.names p.source.0) (place_name p.timetable.names p.target.0) head.query bounds
 
 -- the fault is that a graph is not safe, with the first place and moment at which one may fail
 abbrev pub IsUnsafeGraph : Problem → Fault → Head → PlanGraph → Type 0
 IsUnsafeGraph p fault head graph =
     (place : PlaceId) × (moment : Moment) × (fault ≡ Unsafe place moment)
-    × IsUnsafe p.network head.query (unfold_plan graph p.network head.query) place.0 moment.0
+    × IsUnsafe p.timetable.network head.query (unfold_plan graph p.timetable.network head.query) place.0 moment.0

@@ -24,11 +24,11 @@ replay_as replay.NoMemory = NoMemory
 
 -- the trip by a graph with these delays
 abbrev pub trip_by : Problem → Head → PlanGraph → List ℕ → Result Trace ReplayFault
-trip_by p head graph late = walk p.network (unfold_plan graph p.network head.query) late []
+trip_by p head graph late = walk p.timetable.network (unfold_plan graph p.timetable.network head.query) late []
 
 -- where the graph unfolds to a safe strategy, the trip is never stuck, and arrives by the deadline
 abbrev pub IsSafeTrip : Problem → Head → PlanGraph → Result Trace ReplayFault → Type 0
-IsSafeTrip p head graph trip = IsSafeFor p.network head.query (unfold_plan graph p.network head.query) → IsSafeAnswer head.query.deadline.0 trip
+IsSafeTrip p head graph trip = IsSafeFor p.timetable.network head.query (unfold_plan graph p.timetable.network head.query) → IsSafeAnswer head.query.deadline.0 trip
 
 -- the trip by a graph is told
 pub record IsTripTold (p : Problem) (late : List ℕ) (found : Findings) (text : List ℕ) (head : Head) (graph : PlanGraph) : Type 0 where
@@ -36,7 +36,7 @@ pub record IsTripTold (p : Problem) (late : List ℕ) (found : Findings) (text :
   pub trip : trip_by p head graph late ≡ Ok trace
   pub safe : IsSafeTrip p head graph (Ok trace)
   pub found_is : found ≡ replay_findings head.query graph trace
-  pub text_is : text ≡ trace_text p.network p.names p.target.0 trace
+  pub text_is : text ≡ trace_text p.timetable.network p.timetable.names p.target.0 trace
 
 -- the fault is that of the trip by a graph
 pub record IsTripFault (p : Problem) (late : List ℕ) (fault : Fault) (head : Head) (graph : PlanGraph) : Type 0 where

@@ -1,6 +1,5 @@
 //! Whether a certificate holds.
-ghost use Rattle.std.specs.Prelude.{◌≡◌, ◌≢◌, ◌<◌, ◌≤◌, length, Some, None, IfOk, IfErr};
-ghost use Rattle.plan_model.specs.NameLists.{NamesFit};
+ghost use Rattle.std.specs.Prelude.{◌≡◌, ◌≢◌, ◌≤◌, length, Some, None, IfOk, IfErr};
 ghost use Rattle.plan_model.specs.Network.{count};
 ghost use Rattle.journey_model.specs.Faults.{unread_of};
 ghost use Rattle.journey_model.specs.Sites.{last_printable, IsTellable};
@@ -12,31 +11,51 @@ ghost use Rattle.plan_model.specs.Bounds.{last_start};
 ghost use Rattle.graph_answers.specs.Checks.{IsHeld, IsBroken};
 
 use journey_model::{Fault, Problem};
-use journey_report::{Answer, Report, holds_text};
+use journey_report::{Answer, Report, ToldQuery, holds_text};
 use lower_proof::{LowerBounds, Verdict, check, least};
 use plan_model::{NoMemory, Query};
 use std::alloc::Global;
 
+/// A certificate of a problem that was read: it has a value for each connection, and the moments of its
+/// query have texts.
+#[derive(Drop)]
+pub struct ReadProof<'a> {
+    /// The problem.
+    pub problem: &'a Problem,
+    /// The query that it is for.
+    pub query: Query,
+    /// Its values.
+    pub proof: LowerBounds,
+    /// That it has a value for each connection.
+    pub ghost as_many: { length proof.values ≡ count problem.now.timetable.network },
+    /// That the query does not start after the last start.
+    pub ghost start: { query.start.0 ≤ last_start },
+    /// That the deadline has a text.
+    pub ghost deadline: { query.deadline.0 ≤ last_printable },
+}
+
 /// The answer that tells that a certificate holds, with its least value at the start.
-fn held_answer(
-    alloc: Global,
-    problem: &Problem,
-    query: Query,
-    proof: LowerBounds,
-    least: Option<u64>,
-) -> Result<Answer, NoMemory>
-    requires fit { NamesFit problem.now.names problem.now.network }
-    requires source { problem.now.source.0 < length problem.now.network.change }
-    requires target { problem.now.target.0 < length problem.now.network.change }
-    requires start { query.start.0 ≤ last_start }
-    requires deadline { query.deadline.0 ≤ last_printable }
-    ensures found { IfOk result (λ a. findings_of a.report ≡ check_findings query proof least) }
-    ensures text { IfOk result (λ a. a.text.items ≡ holds_text (place_name problem.now.names problem.now.source.0)
-        (place_name problem.now.names problem.now.target.0) query least) }
+fn held_answer(alloc: Global, read: ReadProof, least: Option<u64>) -> Result<Answer, NoMemory>
+    ensures found { IfOk result (λ a. findings_of a.report
+        ≡ check_findings read.entry.query read.entry.proof least) }
+    ensures text { IfOk result (λ a. a.text.items ≡ holds_text
+        (place_name read.entry.problem.now.timetable.names read.entry.problem.now.source.0)
+        (place_name read.entry.problem.now.timetable.names read.entry.problem.now.target.0)
+        read.entry.query least) }
 {
-    let source = problem.names.place_name(problem.source);
-    let target = problem.names.place_name(problem.target);
-    let text = holds_text(alloc, source, target, &query, least)?;
+    let ReadProof {
+        problem,
+        query,
+        proof,
+    } = read;
+    let source = problem.timetable.names.place_name(problem.source);
+    let target = problem.timetable.names.place_name(problem.target);
+    let told = ToldQuery {
+        source,
+        target,
+        query,
+    };
+    let text = holds_text(alloc, &told, least)?;
     let report = Report {
         query: Some(query),
         proof: Some(proof),
@@ -46,31 +65,21 @@ fn held_answer(
     Ok(Answer { report, text })
 }
 
-/// Whether a certificate holds for a query.
-pub fn check_over(
-    alloc: Global,
-    problem: &Problem,
-    query: Query,
-    proof: LowerBounds,
-) -> Result<Answer, Fault>
-    requires fit { NamesFit problem.now.names problem.now.network }
-    requires as_many { length proof.values ≡ count problem.now.network }
-    requires source { problem.now.source.0 < length problem.now.network.change }
-    requires target { problem.now.target.0 < length problem.now.network.change }
-    requires start { query.start.0 ≤ last_start }
-    requires deadline { query.deadline.0 ≤ last_printable }
-    ensures told { IfOk result (λ a. IsHeld problem.now (findings_of a.report) a.text.items
-        query proof) }
+/// Whether a certificate holds for its query.
+pub fn check_over(alloc: Global, read: ReadProof) -> Result<Answer, Fault>
+    ensures told { IfOk result (λ a. IsHeld read.entry.problem.now (findings_of a.report)
+        a.text.items read.entry.query read.entry.proof) }
     ensures fault { IfErr result (λ fault. fault ≢ Fault.NoMemory
-        → IsBroken problem.now fault query proof) }
-    ensures tellable { IfErr result (IsTellable (Some (parts_of problem.now))) }
+        → IsBroken read.entry.problem.now fault read.entry.query read.entry.proof) }
+    ensures tellable { IfErr result (IsTellable (Some (parts_of read.entry.problem.now))) }
     ensures read { IfErr result (λ fault. unread_of fault ≡ None) }
 {
-    match check(alloc, &proof, &problem.network, &query)? {
+    let network = &read.problem.timetable.network;
+    match check(alloc, &read.proof, network, &read.query)? {
         Verdict::Fails(id) => Err(Fault::ProofFails(id)),
         Verdict::Holds => {
-            let least = least(&proof, &problem.network, &query);
-            let answer = held_answer(alloc, problem, query, proof, least)?;
+            let least = least(&read.proof, network, &read.query);
+            let answer = held_answer(alloc, read, least)?;
             Ok(answer)
         }
     }

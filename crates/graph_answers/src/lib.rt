@@ -3,9 +3,11 @@
 #![tactic(auto)]
 
 mod checks;
+mod read_graph;
 mod scores;
 mod trips;
 
-pub use checks::check_over;
+pub use checks::{ReadProof, check_over};
+pub use read_graph::ReadGraph;
 pub use scores::score_over;
 pub use trips::trip_over;

@@ -89,7 +89,9 @@ pub fn score(
     requires start { query.now.source.0 ≡ query.now.target.0 → query.now.start.0 < end_of_nanos }
     ensures { IsScore network.now query.now graph.now result }
 {
-    let _count = network.count();
+    // What comes of each connection has its number.
+    let are_numbered = network.count() < u32::MAX;
+    prove!(are_numbered);
     let legs = legs_of(alloc, graph)?;
     if let Some(at) = first_wrong(network, query, &legs) {
         return Err(ScoreFault::NoSuchLeg(at as u64 + 1));

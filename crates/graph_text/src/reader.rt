@@ -211,24 +211,24 @@ fn are_in_order(start: Moment, deadline: Moment, lo: u64, hi: u64) -> bool
 
 impl<'a> Reader<'a> {
     /// Whether a row is of this kind, with as many fields as the version has.
-    fn is_kind(&self, record: &Record<'_>, kind: &[u8]) -> bool
-        ensures { result ≡ is_kind kind.now (width_of self.now.version) record.now.fields }
+    fn is_kind(&self, printed: &Record<'_>, kind: &[u8]) -> bool
+        ensures { result ≡ is_kind kind.now (width_of self.now.version) printed.now.fields }
     {
-        record.is_kind(kind, width(self.version))
+        printed.is_kind(kind, width(self.version))
     }
 
     /// The numbers of a leg's row, where each field is of its form.
-    fn leg_row(&self, record: &Record<'_>, kind: &[u8]) -> Option<LegRow>
-        ensures { result ≡ leg_row_in self.now.version kind.now record.now.fields }
+    fn leg_row(&self, printed: &Record<'_>, kind: &[u8]) -> Option<LegRow>
+        ensures { result ≡ leg_row_in self.now.version kind.now printed.now.fields }
     {
-        if !self.is_kind(record, kind) {
+        if !self.is_kind(printed, kind) {
             return None;
         }
-        let moment = read_moment(record.field(1))?;
-        let enter = whole(record.field(3))?;
-        let dep = read_moment(record.field(4))?;
-        let exit = whole(record.field(5))?;
-        let arr = read_moment(record.field(7))?;
+        let moment = read_moment(printed.field(1))?;
+        let enter = whole(printed.field(3))?;
+        let dep = read_moment(printed.field(4))?;
+        let exit = whole(printed.field(5))?;
+        let arr = read_moment(printed.field(7))?;
         Some(LegRow {
             moment,
             enter,
@@ -239,24 +239,24 @@ impl<'a> Reader<'a> {
     }
 
     /// The place where a row has its leg begin: its own place, or the one that it names.
-    fn entry_of(&self, record: &Record<'_>, here: PlaceId) -> Option<PlaceId>
+    fn entry_of(&self, printed: &Record<'_>, here: PlaceId) -> Option<PlaceId>
         ensures { option_map (λ id. id.0) result ≡ entry_in self.now.version self.now.names here.0
-            record.now.fields }
+            printed.now.fields }
     {
         match self.version {
             Version::First => Some(here),
-            Version::Second => self.names.place(record.field(8)),
+            Version::Second => self.names.place(printed.field(8)),
         }
     }
 
     /// The names of a leg's row of a place, where each is known.
-    fn names_of(&self, record: &Record<'_>, here: PlaceId) -> Option<LegNames>
+    fn names_of(&self, printed: &Record<'_>, here: PlaceId) -> Option<LegNames>
         ensures { result ≡ names_in self.now.version self.now.names here.0
-            record.now.fields }
+            printed.now.fields }
     {
-        let run = self.names.run(record.field(2))?;
-        let exit = self.names.place(record.field(6))?;
-        let entry = self.entry_of(record, here)?;
+        let run = self.names.run(printed.field(2))?;
+        let exit = self.names.place(printed.field(6))?;
+        let entry = self.entry_of(printed, here)?;
         Some(LegNames { run, exit, entry })
     }
 
@@ -295,18 +295,18 @@ impl<'a> Reader<'a> {
     /// The start leg of a row.
     fn start_row(
         &self,
-        record: &Record<'_>,
+        printed: &Record<'_>,
         source: PlaceId,
         start: Moment,
     ) -> Result<Leg, TextFault>
-        ensures { result ≡ start_in self.now.network.now self.now.names self.now.version record.now.line source.0 start.0
-            record.now.fields }
+        ensures { result ≡ start_in self.now.network.now self.now.names self.now.version printed.now.line source.0 start.0
+            printed.now.fields }
     {
-        let line = record.line();
-        let Some(numbers) = self.leg_row(record, b"start") else {
+        let line = printed.line();
+        let Some(numbers) = self.leg_row(printed, b"start") else {
             return Err(TextFault::Row(line));
         };
-        let Some(known) = self.names_of(record, source) else {
+        let Some(known) = self.names_of(printed, source) else {
             return Err(TextFault::UnknownName(line));
         };
         let Some(leg) = self.leg_found(&numbers, &known) else {
@@ -322,19 +322,19 @@ impl<'a> Reader<'a> {
     /// A leg row of a place, after one by an earlier moment.
     fn table_row(
         &self,
-        record: &Record<'_>,
+        printed: &Record<'_>,
         place: PlaceId,
         last: Option<u64>,
     ) -> Result<GraphRow, TextFault>
         requires place { place.0 < length self.now.network.now.change }
-        ensures { result ≡ row_in self.now.network.now self.now.names self.now.version record.now.line place.0 last
-            record.now.fields }
+        ensures { result ≡ row_in self.now.network.now self.now.names self.now.version printed.now.line place.0 last
+            printed.now.fields }
     {
-        let line = record.line();
-        let Some(numbers) = self.leg_row(record, b"leg") else {
+        let line = printed.line();
+        let Some(numbers) = self.leg_row(printed, b"leg") else {
             return Err(TextFault::Row(line));
         };
-        let Some(known) = self.names_of(record, place) else {
+        let Some(known) = self.names_of(printed, place) else {
             return Err(TextFault::UnknownName(line));
         };
         if !rises(last, numbers.moment.0) {
@@ -354,41 +354,41 @@ impl<'a> Reader<'a> {
     }
 
     /// Whether the fields of a place row after its numbers are empty, up to the eighth.
-    fn is_blank(&self, record: &Record<'_>) -> bool
-        ensures { result ≡ is_blank record.now.fields }
+    fn is_blank(&self, printed: &Record<'_>) -> bool
+        ensures { result ≡ is_blank printed.now.fields }
     {
-        record.field(4).len() == 0
-            && record.field(5).len() == 0
-            && record.field(6).len() == 0
-            && record.field(7).len() == 0
+        printed.field(4).len() == 0
+            && printed.field(5).len() == 0
+            && printed.field(6).len() == 0
+            && printed.field(7).len() == 0
     }
 
     /// Whether the field of the entry place is empty, where the version has one.
-    fn has_no_entry(&self, record: &Record<'_>) -> bool
-        ensures { result ≡ has_no_entry self.now.version record.now.fields }
+    fn has_no_entry(&self, printed: &Record<'_>) -> bool
+        ensures { result ≡ has_no_entry self.now.version printed.now.fields }
     {
         match self.version {
             Version::First => true,
-            Version::Second => record.field(8).len() == 0,
+            Version::Second => printed.field(8).len() == 0,
         }
     }
 
     /// Whether a row is a place row, whose fields after its numbers are empty.
-    fn is_place(&self, record: &Record<'_>) -> bool
-        ensures { result ≡ is_place self.now.version record.now.fields }
+    fn is_place(&self, printed: &Record<'_>) -> bool
+        ensures { result ≡ is_place self.now.version printed.now.fields }
     {
-        self.is_kind(record, b"place") && (self.is_blank(record) && self.has_no_entry(record))
+        self.is_kind(printed, b"place") && (self.is_blank(printed) && self.has_no_entry(printed))
     }
 
     /// The numbers of a place row, where each field is of its form.
-    fn place_row(&self, record: &Record<'_>) -> Option<PlaceRow>
-        ensures { result ≡ place_row_in self.now.version record.now.fields }
+    fn place_row(&self, printed: &Record<'_>) -> Option<PlaceRow>
+        ensures { result ≡ place_row_in self.now.version printed.now.fields }
     {
-        if !self.is_place(record) {
+        if !self.is_place(printed) {
             return None;
         }
-        let change = whole(record.field(2))?;
-        let count = whole(record.field(3))?;
+        let change = whole(printed.field(2))?;
+        let count = whole(printed.field(3))?;
         if count == 0 {
             return None;
         }
@@ -396,16 +396,16 @@ impl<'a> Reader<'a> {
     }
 
     /// A place row, after one of an earlier place.
-    fn table_start(&self, record: &Record<'_>, last: Option<u32>) -> Result<TableStart, TextFault>
-        ensures told { result ≡ table_in self.now.network.now self.now.names self.now.version record.now.line last
-            record.now.fields }
+    fn table_start(&self, printed: &Record<'_>, last: Option<u32>) -> Result<TableStart, TextFault>
+        ensures told { result ≡ table_in self.now.network.now self.now.names self.now.version printed.now.line last
+            printed.now.fields }
         ensures there { IfOk result (λ table. table.place.0 < length self.now.network.now.change) }
     {
-        let line = record.line();
-        let Some(numbers) = self.place_row(record) else {
+        let line = printed.line();
+        let Some(numbers) = self.place_row(printed) else {
             return Err(TextFault::Row(line));
         };
-        let Some(place) = self.names.place(record.field(1)) else {
+        let Some(place) = self.names.place(printed.field(1)) else {
             return Err(TextFault::UnknownName(line));
         };
         if !rises(last.map(|last| u64::from(last)), u64::from(place.0)) {
@@ -425,15 +425,15 @@ impl<'a> Reader<'a> {
     fn read_place(
         &self,
         alloc: Global,
-        record: &Record<'_>,
+        printed: &Record<'_>,
         reading: Reading,
     ) -> Result<Reading, TextFault>
-        ensures told { after_place_row reading (table_in self.now.network.now self.now.names self.now.version record.now.line
-            (option_map (λ place. place.0) reading.place) record.now.fields)
+        ensures told { after_place_row reading (table_in self.now.network.now self.now.names self.now.version printed.now.line
+            (option_map (λ place. place.0) reading.place) printed.now.fields)
             ≡ result }
         ensures place { IfOk result (IsPlaced self.now.network.now) }
     {
-        let start = self.table_start(record, reading.place.map(|place| place.0))?;
+        let start = self.table_start(printed, reading.place.map(|place| place.0))?;
         Ok(begin(alloc, reading, start))
     }
 
@@ -441,7 +441,7 @@ impl<'a> Reader<'a> {
     fn read_leg(
         &self,
         alloc: Global,
-        record: &Record<'_>,
+        printed: &Record<'_>,
         reading: Reading,
         place: PlaceId,
     ) -> Result<Reading, TextFault>
@@ -449,11 +449,11 @@ impl<'a> Reader<'a> {
         requires last { reading.place ≡ Some place }
         requires place { place.0 < length self.now.network.now.change }
         ensures told { IsUnlessNoMemory result (after_leg_row reading
-            (row_in self.now.network.now self.now.names self.now.version record.now.line place.0
-            (option_map (λ moment. moment.0) reading.by) record.now.fields)) }
+            (row_in self.now.network.now self.now.names self.now.version printed.now.line place.0
+            (option_map (λ moment. moment.0) reading.by) printed.now.fields)) }
         ensures place { IfOk result (IsPlaced self.now.network.now) }
     {
-        let row = self.table_row(record, place, reading.by.map(|by| by.0))?;
+        let row = self.table_row(printed, place, reading.by.map(|by| by.0))?;
         Ok(extend(alloc, reading, place, row)?)
     }
 
@@ -461,19 +461,19 @@ impl<'a> Reader<'a> {
     fn read_row(
         &self,
         alloc: Global,
-        record: &Record<'_>,
+        printed: &Record<'_>,
         reading: Reading,
     ) -> Result<Reading, TextFault>
         requires place { IsPlaced self.now.network.now reading }
-        ensures told { IsUnlessNoMemory result (step self.now.network.now self.now.names self.now.version record.now.line
-            record.now.fields reading) }
+        ensures told { IsUnlessNoMemory result (step self.now.network.now self.now.names self.now.version printed.now.line
+            printed.now.fields reading) }
         ensures place { IfOk result (IsPlaced self.now.network.now) }
     {
         if reading.left == 0 {
-            return self.read_place(alloc, record, reading);
+            return self.read_place(alloc, printed, reading);
         }
         match reading.place {
-            Some(place) => self.read_leg(alloc, record, reading, place),
+            Some(place) => self.read_leg(alloc, printed, reading, place),
             None => unreachable!(),
         }
     }
@@ -494,24 +494,24 @@ impl<'a> Reader<'a> {
     }
 
     /// Whether a record is the first of a graph.
-    fn is_head(&self, record: &Record<'_>) -> bool
-        ensures { result ≡ is_head self.now.version record.now.fields }
+    fn is_head(&self, printed: &Record<'_>) -> bool
+        ensures { result ≡ is_head self.now.version printed.now.fields }
     {
-        self.is_kind(record, b"graph") && self.has_no_entry(record)
+        self.is_kind(printed, b"graph") && self.has_no_entry(printed)
     }
 
     /// The numbers of the first row, where each field is of its form.
-    fn head_row(&self, record: &Record<'_>) -> Option<HeadRow>
-        ensures told { result ≡ head_row_in self.now.version record.now.fields }
+    fn head_row(&self, printed: &Record<'_>) -> Option<HeadRow>
+        ensures told { result ≡ head_row_in self.now.version printed.now.fields }
         ensures ordered { IfSome result (λ numbers. numbers.lo ≤ numbers.hi) }
     {
-        if !self.is_head(record) {
+        if !self.is_head(printed) {
             return None;
         }
-        let start = read_moment(record.field(4))?;
-        let deadline = read_moment(record.field(5))?;
-        let lo = read_nanos(record.field(6))?;
-        let hi = read_nanos(record.field(7))?;
+        let start = read_moment(printed.field(4))?;
+        let deadline = read_moment(printed.field(5))?;
+        let lo = read_nanos(printed.field(6))?;
+        let hi = read_nanos(printed.field(7))?;
         if !are_in_order(start, deadline, lo, hi) {
             return None;
         }

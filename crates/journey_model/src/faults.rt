@@ -10,6 +10,7 @@ use delay_table::DelayFault;
 use graph_text::TextFault;
 use lower_proof::ProofFault;
 use plan_model::{ConnectionId, Moment, NoMemory, PlaceId};
+use std::alloc::AllocError;
 use trip_replay::ReplayFault;
 
 /// A file that a command reads.
@@ -131,6 +132,17 @@ impl From<NoMemory> for Fault {
     ghost from_gives = { λ _ fault. fault ≡ NoMemoryFault };
 
     fn from(_: NoMemory) -> Self {
+        Fault::NoMemory
+    }
+}
+
+impl From<AllocError> for Fault {
+    ghost use Rattle.std.specs.Prelude.{◌≡◌};
+    ghost use Rattle.journey_model.specs.declared.faults.Fault.TheVariants.{NoMemory as NoMemoryFault};
+
+    ghost from_gives = { λ _ fault. fault ≡ NoMemoryFault };
+
+    fn from(_: AllocError) -> Self {
         Fault::NoMemory
     }
 }

@@ -4,6 +4,8 @@
 
 mod faults;
 mod problem;
+mod ranges;
 
 pub use faults::{Fault, Input, LimitKind, Site, Which};
 pub use problem::{Ends, Problem};
+pub use ranges::{Percent, Start};

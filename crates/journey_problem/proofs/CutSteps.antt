@@ -8,8 +8,8 @@ use Rattle.cut_file.specs.Read.{Cut as CutParts, IsRead}
 use Rattle.delay_table.specs.DelayLists.{DelayLists}
 use Rattle.delay_table.specs.Slots.{AreDelays}
 use Rattle.plan_model.specs.NameLists.{NameLists}
-use Rattle.plan_model.specs.Network.{IsValid}
 use Rattle.plan_model.specs.NetworkModel.{NetworkModel}
+use Rattle.plan_model.specs.declared.timetable.Timetable.{Timetable}
 use Rattle.command_line.specs.Jobs.{JourneyModel}
 use Rattle.journey_model.specs.declared.faults.Input.{Input}
 use Rattle.journey_model.specs.declared.faults.Input.TheVariants as input
@@ -22,24 +22,25 @@ use Rattle.input_files.specs.InputTables.{HasCut, cut_fault, cut_records, delay_
 use Rattle.journey_problem.specs.CutProblems.{places_in, stop_fault, cut_problem_fault, IsNamed, IsCutProblem, HasCutTimetable}
 
 -- what holds of a network and its names, holds of the problem of them
-pub of_parts : (P : NetworkModel → NameLists → Type 0) (n : NetworkModel) (names : NameLists) (r : Result Problem Fault)
-    → IfOk r (λ p. p.network ≡ n) → IfOk r (λ p. p.names ≡ names) → P n names → IfOk r (λ p. P p.network p.names)
-of_parts P n names (Ok p) e f h = subst (λ (m : NetworkModel). P m p.names) (sym e) (subst (P n) (sym f) h)
-of_parts P n names (Err fault) e f h = tt
+pub of_parts : (P : NetworkModel → NameLists → Type 0) (n : NetworkModel) (names : NameLists) (t : Timetable) → t.network ≡ n → t.names ≡ names → P n names
+    → (r : Result Problem Fault) → IfOk r (λ p. p.timetable ≡ t) → IfOk r (λ p. P p.timetable.network p.timetable.names)
+of_parts P n names t network named h (Ok p) is =
+    subst (λ (u : Timetable). P u.network u.names) (sym is) (subst (λ (m : NetworkModel). P m t.names) (sym network) (subst (P n) (sym named) h))
+of_parts P n names t network named h (Err fault) is = tt
 
 -- the network of a table that was read
 abbrev pub IsNetworkOf : CutParts → DelayLists → Problem → Type 0
 IsNetworkOf cut lists p =
-    (table : Records) → IsRead table cut.runs cut.places cut.rows cut.keys → IsCutNetwork table lists p.network p.names
+    (table : Records) → IsRead table cut.runs cut.places cut.rows cut.keys → IsCutNetwork table lists p.timetable.network p.timetable.names
 
 module _ (j : JourneyModel) (cut : CutParts) (lists : DelayLists) where
   -- the timetable of a cut file is that of some cut file
   pub cut_timetable : (r : Result Problem Fault) → IsCutOfSome cut → AreDelays lists → IfOk r (IsNetworkOf cut lists)
-      → IfOk r (λ p. IsValid p.network) → IfOk r (λ p. IsNamed p.names p.source.0 j.from) → IfOk r (λ p. IsNamed p.names p.target.0 j.to)
+      → IfOk r (λ p. IsNamed p.timetable.names p.source.0 j.from) → IfOk r (λ p. IsNamed p.timetable.names p.target.0 j.to)
       → IfOk r (HasCutTimetable j)
-  cut_timetable (Ok p) (table, is, read) are network valid source target =
-      (table, lists, is, are, record { is_network = network table read; valid = valid; source = source; target = target })
-  cut_timetable (Err fault) some are network valid source target = tt
+  cut_timetable (Ok p) (table, is, read) are network source target =
+      (table, lists, is, are, record { is_network = network table read; source = source; target = target })
+  cut_timetable (Err fault) some are network source target = tt
 
   module _ (limits : Limits) (files : FileMap) where
     faults_by : (path : List ℕ) (o : Option Fault) → HasCut limits (file_at files path) cut → delay_fault limits (file_at files j.delays) None ≡ None
@@ -55,19 +56,19 @@ module _ (j : JourneyModel) (cut : CutParts) (lists : DelayLists) where
     -- the problem of a cut file and a delay file
     pub cut_file_problem : (r : Result Problem Fault)
         → (delay_fault limits (file_at files j.delays) None ≡ None) × AreDelaysOf limits (file_at files j.delays) lists
-        → IfOk r (IsNetworkOf cut lists) → IfOk r (λ p. IsValid p.network)
-        → IfOk r (λ p. IsNamed p.names p.source.0 j.from) → IfOk r (λ p. IsNamed p.names p.target.0 j.to)
+        → IfOk r (IsNetworkOf cut lists)
+        → IfOk r (λ p. IsNamed p.timetable.names p.source.0 j.from) → IfOk r (λ p. IsNamed p.timetable.names p.target.0 j.to)
         → OnOk r (stop_fault cut.places j.from j.to ≡ None)
         → IfOk r (λ p. (path : List ℕ) → HasCut limits (file_at files path) cut → IsCutProblem limits files path j p)
-    cut_file_problem (Ok p) (no_delays, are) network valid source target stops = λ path has. record {
+    cut_file_problem (Ok p) (no_delays, are) network source target stops = λ path has. record {
       table = has.1.0;
       lists = lists;
       no_fault = faults_by path None has no_delays stops;
       is_table = has.1.1;
       are_delays = are;
-      timetable = record { is_network = network has.1.0 has.1.2; valid = valid; source = source; target = target };
+      timetable = record { is_network = network has.1.0 has.1.2; source = source; target = target };
     }
-    cut_file_problem (Err fault) delays network valid source target stops = tt
+    cut_file_problem (Err fault) delays network source target stops = tt
 
     -- the fault of a stop after two files with none
     pub stop_first : (r : Result Problem Fault) → delay_fault limits (file_at files j.delays) None ≡ None

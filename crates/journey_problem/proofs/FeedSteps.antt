@@ -24,7 +24,7 @@ if_some_both (Some a) (Some b) {Q = Q} same p q f = let one : b ≡ a = (cc) in 
 -- a window of a feed is that of some feed
 pub feed_timetable : (horizon : ℕ) (j : JourneyModel) (h : GtfsFolder) (lists : DelayLists) (r : Result Problem Fault)
     → IsSoundFolder h → AreDelays lists
-    → IfOk r (λ p. IsNetworkFrom h.feed h.services h.changes lists j.start horizon p.network p.names)
+    → IfOk r (λ p. IsNetworkFrom h.feed h.services h.changes lists j.start horizon p.timetable.network p.timetable.names)
     → IfOk r (λ p. place_of_stop h.feed j.from ≡ Some p.source.0)
     → IfOk r (λ p. place_of_stop h.feed j.to ≡ Some p.target.0)
     → IfOk r (HasFeedTimetable horizon j)
@@ -39,7 +39,7 @@ module _ (limits : Limits) (files : FileMap) (horizon : ℕ) (j : JourneyModel) 
   window_fault (Err fault) f = λ other. inr (sound, f other)
 
   pub window_problem : (r : Result Problem Fault)
-      → IfOk r (λ p. IsNetworkFrom h.feed h.services h.changes lists j.start horizon p.network p.names)
+      → IfOk r (λ p. IsNetworkFrom h.feed h.services h.changes lists j.start horizon p.timetable.network p.timetable.names)
       → OnOk r (window_fault_of limits horizon j h ≡ None)
       → IfOk r (λ p. place_of_stop h.feed j.from ≡ Some p.source.0)
       → IfOk r (λ p. place_of_stop h.feed j.to ≡ Some p.target.0)

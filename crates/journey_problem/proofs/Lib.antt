@@ -2,6 +2,7 @@ pub mod StopNames
 pub mod FeedSteps
 pub mod OneOrder
 pub mod OneCutNetwork
+pub mod SameProblem
 pub mod OneCutProblem
 pub mod OneFeed
 pub mod OneWindow

@@ -13,6 +13,7 @@ use Rattle.input_files.specs.Files.{Records}
 use Rattle.input_files.specs.InputTables.{AreDelaysOf}
 use Rattle.journey_problem.specs.CutProblems.{IsCutProblem}
 use Rattle.journey_problem.proofs.OneCutNetwork.{one_network, same_names, runs_apart, places_apart}
+use Rattle.journey_problem.proofs.SameProblem.{same_problem}
 
 pub same_ok : {A E : Type 0} (r : Result A E) (x y : A) → r ≡ Ok x → r ≡ Ok y → x ≡ y
 same_ok r x y h k = cc
@@ -29,24 +30,19 @@ pub one_cut_problem : (limits : Limits) (files : FileMap) (path : List ℕ) (j :
 one_cut_problem limits files path j p q a b =
     let table : b.table ≡ a.table = same_ok _ b.table a.table b.is_table a.is_table in
     let lists : b.lists ≡ a.lists = delays_of_one limits (file_at files j.delays) b.lists a.lists b.are_delays a.are_delays in
-    let first : IsCutNetwork a.table a.lists p.network p.names = a.timetable.is_network in
-    let other : IsCutNetwork a.table a.lists q.network q.names
-    = subst (λ (t : Records). IsCutNetwork t a.lists q.network q.names) table
-    (subst (λ (d : DelayLists). IsCutNetwork b.table d q.network q.names) lists b.timetable.is_network) in
-    let names : q.names ≡ p.names = same_names a.table a.lists a.lists q.network p.network q.names p.names other first in
-    let second : IsCutNetwork a.table a.lists q.network p.names = subst (λ (ns : NameLists). IsCutNetwork a.table a.lists q.network ns) names other in
-    let runs = runs_apart a.table a.lists p.network p.names first in
-    let places = places_apart a.table a.lists p.network p.names first in
-    let network : p.network ≡ q.network
-    = one_network a.table a.lists p.names runs places
-    p.network q.network first second a.timetable.valid b.timetable.valid in
-    let source : p.source.0 ≡ q.source.0 = one_end p.names.places places p.source.0 q.source.0 j.from a.timetable.source
+    let first : IsCutNetwork a.table a.lists p.timetable.network p.timetable.names = a.timetable.is_network in
+    let other : IsCutNetwork a.table a.lists q.timetable.network q.timetable.names
+    = subst (λ (t : Records). IsCutNetwork t a.lists q.timetable.network q.timetable.names) table
+    (subst (λ (d : DelayLists). IsCutNetwork b.table d q.timetable.network q.timetable.names) lists b.timetable.is_network) in
+    let names : q.timetable.names ≡ p.timetable.names = same_names a.table a.lists a.lists q.timetable.network p.timetable.network q.timetable.names p.timetable.names other first in
+    let second : IsCutNetwork a.table a.lists q.timetable.network p.timetable.names = subst (λ (ns : NameLists). IsCutNetwork a.table a.lists q.timetable.network ns) names other in
+    let runs = runs_apart a.table a.lists p.timetable.network p.timetable.names first in
+    let places = places_apart a.table a.lists p.timetable.network p.timetable.names first in
+    let network : p.timetable.network ≡ q.timetable.network
+    = one_network a.table a.lists p.timetable.names runs places
+    p.timetable.network q.timetable.network first second p.timetable.valid q.timetable.valid in
+    let source : p.source.0 ≡ q.source.0 = one_end p.timetable.names.places places p.source.0 q.source.0 j.from a.timetable.source
     (subst (λ (ns : NameLists). slice_get ns.places q.source.0 ≡ Some j.from) names b.timetable.source) in
-    let target : p.target.0 ≡ q.target.0 = one_end p.names.places places p.target.0 q.target.0 j.to a.timetable.target
+    let target : p.target.0 ≡ q.target.0 = one_end p.timetable.names.places places p.target.0 q.target.0 j.to a.timetable.target
     (subst (λ (ns : NameLists). slice_get ns.places q.target.0 ≡ Some j.to) names b.timetable.target) in
-    λ i. record {
-      network = network i;
-      names = sym names i;
-      source = record { 0 = source i };
-      target = record { 0 = target i };
-    }
+    same_problem p q network (sym names) (λ i. record { 0 = source i }) (λ i. record { 0 = target i })

@@ -18,6 +18,7 @@ use Rattle.command_line.specs.Jobs.{JourneyModel}
 use Rattle.journey_problem.specs.FeedProblems.{GtfsFolder, IsFolder, IsFeedProblem, window_as, window_fault_of}
 use Rattle.journey_problem.proofs.OneCutProblem.{delays_of_one}
 use Rattle.journey_problem.proofs.OneFeed.{one_feed_of}
+use Rattle.journey_problem.proofs.SameProblem.{same_problem}
 use Rattle.journey_problem.proofs.OneWindow.{SameDays, same_count, same_entries, one_window}
 
 -- two folders as they are read: one feed, services that run on the same days, and the same change times and links
@@ -72,16 +73,11 @@ module _ (limits : Limits) (files : FileMap) (folder : List ℕ) where
   one_feed_problem horizon j p q a b =
       let parts = one_folder a.parts b.parts a.is_folder b.is_folder in
       let lists : a.lists ≡ b.lists = delays_of_one limits (file_at files j.delays) a.lists b.lists a.are_delays b.are_delays in
-      let other : IsNetworkFrom a.parts.feed b.parts.services b.parts.changes a.lists j.start horizon q.network q.names
-      = subst (λ (f : FeedParts). IsNetworkFrom f b.parts.services b.parts.changes a.lists j.start horizon q.network q.names) (sym parts.feed)
-      (subst (λ (d : DelayLists). IsNetworkFrom b.parts.feed b.parts.services b.parts.changes d j.start horizon q.network q.names) (sym lists) b.timetable.is_network) in
+      let other : IsNetworkFrom a.parts.feed b.parts.services b.parts.changes a.lists j.start horizon q.timetable.network q.timetable.names
+      = subst (λ (f : FeedParts). IsNetworkFrom f b.parts.services b.parts.changes a.lists j.start horizon q.timetable.network q.timetable.names) (sym parts.feed)
+      (subst (λ (d : DelayLists). IsNetworkFrom b.parts.feed b.parts.services b.parts.changes d j.start horizon q.timetable.network q.timetable.names) (sym lists) b.timetable.is_network) in
       let w = one_window a.parts.feed a.parts.services b.parts.services a.parts.changes b.parts.changes a.lists j.start horizon parts.days parts.changes parts.links
-      p.network q.network p.names q.names a.timetable.is_network other in
+      p.timetable.network q.timetable.network p.timetable.names q.timetable.names a.timetable.is_network other in
       let source : p.source.0 ≡ q.source.0 = one_place a.parts.feed b.parts.feed parts.feed j.from p.source.0 q.source.0 a.timetable.source b.timetable.source in
       let target : p.target.0 ≡ q.target.0 = one_place a.parts.feed b.parts.feed parts.feed j.to p.target.0 q.target.0 a.timetable.target b.timetable.target in
-      λ i. record {
-        network = w.0 i;
-        names = w.1 i;
-        source = record { 0 = source i };
-        target = record { 0 = target i };
-      }
+      same_problem p q w.0 w.1 (λ i. record { 0 = source i }) (λ i. record { 0 = target i })

@@ -11,7 +11,6 @@ use Rattle.cut_file.specs.CutNetwork.{IsCutNetwork}
 use Rattle.delay_table.specs.DelayLists.{DelayLists}
 use Rattle.delay_table.specs.Slots.{AreDelays}
 use Rattle.plan_model.specs.NameLists.{NameLists}
-use Rattle.plan_model.specs.Network.{IsValid}
 use Rattle.command_line.specs.Jobs.{JourneyModel}
 use Rattle.journey_model.specs.declared.faults.Input.{Input}
 use Rattle.journey_model.specs.declared.faults.Which.TheVariants as which
@@ -51,10 +50,9 @@ IsNamed names place name = slice_get names.places place ≡ Some name
 -- the network and the names are those of the cut file of this table with these delays; and the journey goes from the place
 -- that is named as its first stop to that of its last
 pub record IsCutTimetable (table : Records) (lists : DelayLists) (j : JourneyModel) (p : Problem) : Type 0 where
-  pub is_network : IsCutNetwork table lists p.network p.names
-  pub valid : IsValid p.network
-  pub source : IsNamed p.names p.source.0 j.from
-  pub target : IsNamed p.names p.target.0 j.to
+  pub is_network : IsCutNetwork table lists p.timetable.network p.timetable.names
+  pub source : IsNamed p.timetable.names p.source.0 j.from
+  pub target : IsNamed p.timetable.names p.target.0 j.to
 
 -- this is so of some cut file with no fault and some delays
 abbrev pub HasCutTimetable : JourneyModel → Problem → Type 0

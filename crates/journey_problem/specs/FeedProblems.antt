@@ -106,7 +106,7 @@ IsFeedProblemFault limits files folder horizon j fault =
 -- the network and the names are those of the window of a feed of these parts with these delays; and the journey goes from
 -- the place of its first stop to that of its last
 pub record IsFeedTimetable (parts : GtfsFolder) (lists : DelayLists) (horizon : ℕ) (j : JourneyModel) (p : Problem) : Type 0 where
-  pub is_network : IsNetworkFrom parts.feed parts.services parts.changes lists j.start horizon p.network p.names
+  pub is_network : IsNetworkFrom parts.feed parts.services parts.changes lists j.start horizon p.timetable.network p.timetable.names
   pub source : place_of_stop parts.feed j.from ≡ Some p.source.0
   pub target : place_of_stop parts.feed j.to ≡ Some p.target.0
 

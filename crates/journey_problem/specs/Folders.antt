@@ -1,5 +1,5 @@
 -- What a folder holds, as it is read.
-use Rattle.journey_problem.specs.declared.feed_problem.FeedTables.{FeedTables}
+use Rattle.journey_problem.specs.declared.feed_tables.FeedTables.{FeedTables}
 use Rattle.journey_problem.specs.FeedProblems.{GtfsFolder}
 
 abbrev pub gtfs_folder_of : FeedTables → GtfsFolder

@@ -2,8 +2,6 @@
 use Rattle.std.specs.Prelude.{◌≡◌, ◌≢◌, Option, Some, IfSome}
 use Rattle.file_ports.specs.Ports.{FileMap}
 use Rattle.csv_rows.specs.declared.limits.Limits.{Limits}
-use Rattle.plan_model.specs.Network.{IsValid}
-use Rattle.plan_model.specs.NameLists.{NamesFit}
 use Rattle.command_line.specs.Jobs.{TimetableModel, CutFile, FeedFolder, JourneyModel}
 use Rattle.journey_model.specs.declared.faults.Fault.{Fault}
 use Rattle.journey_model.specs.declared.faults.Fault.TheVariants.{NoMemory}
@@ -43,11 +41,6 @@ abbrev pub HasTimetable : TimetableModel → JourneyModel → Problem → Type 0
 HasTimetable (CutFile path) j p = HasCutTimetable j p
 HasTimetable (FeedFolder folder horizon) j p = HasFeedTimetable horizon j p
 
-pub record IsValidProblem (j : JourneyModel) (p : Problem) : Type 0 where
-  pub valid : IsValid p.network
-  pub fit : NamesFit p.names p.network
-  pub timetable : HasTimetable j.timetable j p
-
 -- there is a problem of the journey, where the files are told theirs, of which this holds
 abbrev pub InProblem : Option FileMap → Limits → JourneyModel → (Problem → Type 0) → Type 0
-InProblem contents limits j P = (p : Problem) × IsValidProblem j p × IfSome contents (λ files. IsProblem limits files j p) × P p
+InProblem contents limits j P = (p : Problem) × HasTimetable j.timetable j p × IfSome contents (λ files. IsProblem limits files j p) × P p

@@ -3,8 +3,6 @@ ghost use Rattle.std.specs.Prelude.{◌≡◌, ◌≢◌, ℕ, List as Bytes, No
 ghost use Rattle.cut_file.specs.CutNetwork.{IsCutNetwork};
 ghost use Rattle.cut_file.specs.Read.{IsRead};
 ghost use Rattle.file_ports.specs.Ports.{file_at};
-ghost use Rattle.plan_model.specs.NameLists.{NamesFit};
-ghost use Rattle.plan_model.specs.Network.{IsValid};
 ghost use Rattle.command_line.specs.Shown.{journey_shown};
 ghost use Rattle.command_line.specs.Jobs.{TimetableModel, CutFile};
 ghost use Rattle.journey_model.specs.Faults.{IsFirst, MayBeUnread, unread_of};
@@ -20,7 +18,7 @@ use delay_table::DelayTable;
 use file_ports::Files;
 use input_files::{read_cut_file, read_delay_file};
 use journey_model::{Ends, Fault, Input, Problem, Which};
-use plan_model::{Names, Network};
+use plan_model::{Names, Timetable};
 use std::alloc::Global;
 
 /// The places that are named as the stops of a journey.
@@ -42,22 +40,22 @@ fn ends_of(names: &Names, from: &str, to: &str) -> Result<Ends, Fault>
     Ok(Ends { source, target })
 }
 
-/// The problem of a journey in a network whose places and runs have these names.
-fn problem_between(network: Network, names: Names, journey: &Journey) -> Result<Problem, Fault>
-    ensures network { IfOk result (λ p. p.network ≡ network) }
-    ensures names { IfOk result (λ p. p.names ≡ names) }
-    ensures valid { IfOk result (λ p. IsValid p.network) }
-    ensures source { IfOk result (λ p. IsNamed p.names p.source.0 journey.now.from.now) }
-    ensures target { IfOk result (λ p. IsNamed p.names p.target.0 journey.now.to.now) }
+/// The problem of a journey in a timetable.
+fn problem_between(timetable: Timetable, journey: &Journey) -> Result<Problem, Fault>
+    ensures timetable { IfOk result (λ p. p.timetable ≡ timetable) }
+    ensures source { IfOk result (λ p.
+        IsNamed p.timetable.names p.source.0 journey.now.from.now) }
+    ensures target { IfOk result (λ p.
+        IsNamed p.timetable.names p.target.0 journey.now.to.now) }
     ensures none { OnOk result
-        (stop_fault names.places journey.now.from.now journey.now.to.now ≡ None) }
+        (stop_fault timetable.names.places journey.now.from.now journey.now.to.now ≡ None) }
     ensures fault { IfErr result (λ fault.
-        stop_fault names.places journey.now.from.now journey.now.to.now ≡ Some fault) }
+        stop_fault timetable.names.places journey.now.from.now journey.now.to.now ≡ Some fault) }
     ensures early { (timetable : TimetableModel) → IfErr result (IsBeforeSearch timetable) }
     ensures read { IfErr result (λ fault. unread_of fault ≡ None) }
 {
-    let ends = ends_of(&names, journey.from, journey.to)?;
-    Ok(Problem::between(ends, network, names))
+    let ends = ends_of(&timetable.names, journey.from, journey.to)?;
+    Ok(Problem::between(ends, timetable))
 }
 
 /// The problem of a journey in what its files hold.
@@ -69,11 +67,11 @@ fn problem_in(
 ) -> Result<Problem, Fault>
     ensures network { IfOk result (λ p. (table : Records)
         → IsRead table cut.now.runs cut.now.places cut.now.rows cut.now.keys
-        → IsCutNetwork table delays.now p.network p.names) }
-    ensures valid { IfOk result (λ p. IsValid p.network) }
-    ensures fit { IfOk result (λ p. NamesFit p.names p.network) }
-    ensures source { IfOk result (λ p. IsNamed p.names p.source.0 journey.now.from.now) }
-    ensures target { IfOk result (λ p. IsNamed p.names p.target.0 journey.now.to.now) }
+        → IsCutNetwork table delays.now p.timetable.network p.timetable.names) }
+    ensures source { IfOk result (λ p.
+        IsNamed p.timetable.names p.source.0 journey.now.from.now) }
+    ensures target { IfOk result (λ p.
+        IsNamed p.timetable.names p.target.0 journey.now.to.now) }
     ensures none { OnOk result
         (stop_fault cut.now.places journey.now.from.now journey.now.to.now ≡ None) }
     ensures fault { IfErr result (λ fault. fault ≢ Fault.NoMemory
@@ -82,7 +80,7 @@ fn problem_in(
     ensures read { IfErr result (λ fault. unread_of fault ≡ None) }
 {
     match cut.network(alloc, delays) {
-        Ok((network, names)) => problem_between(network, names, journey),
+        Ok((network, names)) => problem_between(Timetable::new(network, names), journey),
         Err(_) => Err(Fault::NoMemory),
     }
 }
@@ -104,11 +102,7 @@ fn problem_after<F: Files>(
         → IsFirst (cut_problem_fault limits.now m path (journey_shown journey.now)) fault)) }
     ensures early { (timetable : TimetableModel) → IfErr result (IsBeforeSearch timetable) }
     ensures own { IfErr result (MayBeUnread Input.Delays) }
-    ensures valid { IfOk result (λ p. IsValid p.network) }
-    ensures fit { IfOk result (λ p. NamesFit p.names p.network) }
     ensures timetable { IfOk result (HasCutTimetable (journey_shown journey.now)) }
-    ensures source { IfOk result (λ p. IsNamed p.names p.source.0 journey.now.from.now) }
-    ensures target { IfOk result (λ p. IsNamed p.names p.target.0 journey.now.to.now) }
     ensures causes { HasCauses (λ other. Some journey.now.delays.now)
         (F.state files.old) (F.state files.new) result }
 {
@@ -131,11 +125,7 @@ pub(crate) fn cut_problem<F: Files>(
     ensures fault { IfSome (F.state files.old).files (λ m. IfErr result
         (IsFirst (cut_problem_fault limits.now m path.now (journey_shown journey.now)))) }
     ensures early { IfErr result (IsBeforeSearch (CutFile path.now)) }
-    ensures valid { IfOk result (λ p. IsValid p.network) }
-    ensures fit { IfOk result (λ p. NamesFit p.names p.network) }
     ensures timetable { IfOk result (HasCutTimetable (journey_shown journey.now)) }
-    ensures source { IfOk result (λ p. IsNamed p.names p.source.0 journey.now.from.now) }
-    ensures target { IfOk result (λ p. IsNamed p.names p.target.0 journey.now.to.now) }
     ensures causes { (own : OwnPaths) → HasCauses
         (path_by (CutFile path.now) (journey_shown journey.now) own)
         (F.state files.old) (F.state files.new) result }

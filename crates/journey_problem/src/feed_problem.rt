@@ -6,8 +6,6 @@ ghost use Rattle.change_times.specs.Changes.{LinksComeFrom, AreToldBySome};
 ghost use Rattle.connections.specs.Cut.{IsNetworkFrom};
 ghost use Rattle.service_days.specs.Services.{runs};
 ghost use Rattle.service_days.specs.Calendars.{RunsBySome};
-ghost use Rattle.plan_model.specs.NameLists.{NamesFit};
-ghost use Rattle.plan_model.specs.Network.{IsValid};
 ghost use Rattle.command_line.specs.Shown.{journey_shown};
 ghost use Rattle.command_line.specs.Jobs.{TimetableModel, FeedFolder};
 ghost use Rattle.command_line.specs.Ranges.{IsJourney};
@@ -17,6 +15,7 @@ ghost use Rattle.input_files.specs.FaultsBeforeSearch.{IsBeforeSearch};
 ghost use Rattle.journey_problem.specs.FeedProblems.{feed_as, feed_stop_fault, window_fault_of, AreRules, IsFolder, IsSoundFolder, IsFolderFault, IsLaterTableFault, IsFaultAfterFolder, IsWindowFault, IsFeedProblem, IsFeedProblemFault, HasFeedTimetable};
 ghost use Rattle.journey_problem.specs.Folders.{gtfs_folder_of};
 
+use crate::feed_tables::{FeedRules, FeedTables};
 use change_times::Changes;
 use command_line::Journey;
 use connections::{WindowFault, cut};
@@ -26,31 +25,9 @@ use file_ports::Files;
 use gtfs_tables::Feed;
 use input_files::read_delay_file;
 use journey_model::{Ends, Fault, Input, LimitKind, Problem, Which};
+use plan_model::Timetable;
 use service_days::Services;
 use std::alloc::Global;
-
-/// When the services of a feed run, and how one changes at its places.
-#[derive(Drop)]
-struct FeedRules {
-    services: Services,
-    changes: Changes,
-}
-
-/// What a folder of GTFS tables holds.
-struct FeedTables {
-    feed: Feed,
-    rules: FeedRules,
-}
-
-impl Drop for FeedTables {
-    /// Lets go of its parts here, so that a caller lets go of one value.
-    fn drop(self) {
-        let FeedTables {
-            feed: _feed,
-            rules: _rules,
-        } = self;
-    }
-}
 
 /// The tables of a folder that come after those of its feed.
 fn read_rules<F: Files>(
@@ -91,7 +68,6 @@ fn read_folder<F: Files>(
     ensures fault { IfSome (F.state files.old).files (λ m. IfErr result (λ f. f ≢ FeedFault.NoMemory
         → IsFolderFault limits.now m folder.now f)) }
     ensures sound { IfOk result (λ t. IsSoundFolder (gtfs_folder_of t)) }
-    ensures links { IfOk result (λ t. LinksComeFrom (length t.feed.stop_ids) t.rules.changes) }
     ensures causes { HasFeedCauses folder.now (F.state files.old) (F.state files.new) result }
 {
     let feed = match Feed::read(alloc, files, folder, limits) {
@@ -101,8 +77,9 @@ fn read_folder<F: Files>(
     match read_rules(alloc, files, folder, &feed, limits) {
         Err(fault) => Err(fault),
         Ok(rules) => {
-            // That the feed is sound is known from its count of stops.
-            let _count = feed.stop_count();
+            // Each stop has its number, as in every sound feed.
+            let are_numbered = feed.stop_count() < u32::MAX;
+            prove!(are_numbered);
             Ok(FeedTables { feed, rules })
         }
     }
@@ -154,19 +131,14 @@ fn window_problem(
 ) -> Result<Problem, Fault>
     requires journey { IsJourney (journey_shown journey.now) }
     requires horizon { horizon ≤ 72 }
-    requires links { LinksComeFrom (length tables.now.feed.stop_ids) tables.now.rules.changes }
     ensures network { IfOk result (λ p. IsNetworkFrom tables.now.feed tables.now.rules.services
-        tables.now.rules.changes delays.now journey.now.start.0 horizon p.network p.names) }
+        tables.now.rules.changes delays.now journey.now.start.0 horizon p.timetable.network p.timetable.names) }
     ensures no_window_fault { OnOk result (window_fault_of limits.now horizon
         (journey_shown journey.now) (gtfs_folder_of tables.now) ≡ None) }
-    ensures valid { IfOk result (λ p. IsValid p.network) }
-    ensures fit { IfOk result (λ p. NamesFit p.names p.network) }
     ensures source { IfOk result (λ p.
         place_of_stop tables.now.feed journey.now.from.now ≡ Some p.source.0) }
     ensures target { IfOk result (λ p.
         place_of_stop tables.now.feed journey.now.to.now ≡ Some p.target.0) }
-    ensures source_in { IfOk result (λ p. p.source.0 < length p.network.change) }
-    ensures target_in { IfOk result (λ p. p.target.0 < length p.network.change) }
     ensures fault { IfErr result (λ fault. fault ≢ Fault.NoMemory → IsWindowFault limits.now
         horizon (journey_shown journey.now) (gtfs_folder_of tables.now) fault) }
     ensures early { (folder : Bytes ℕ) → IfErr result (IsBeforeSearch (FeedFolder folder horizon)) }
@@ -186,7 +158,7 @@ fn window_problem(
         Err(WindowFault::TooMany(count)) => Err(Fault::Limit(LimitKind::Connections, count)),
         Err(WindowFault::TooManyEntries(count)) => Err(Fault::Limit(LimitKind::Entries, count)),
         Err(WindowFault::NoMemory) => Err(Fault::NoMemory),
-        Ok((network, names)) => Ok(Problem::between(ends, network, names)),
+        Ok((network, names)) => { Ok(Problem::between(ends, Timetable::new(network, names))) }
     }
 }
 
@@ -201,7 +173,6 @@ fn problem_in<F: Files>(
 ) -> Result<Problem, Fault>
     requires journey { IsJourney (journey_shown journey.now) }
     requires horizon { horizon ≤ 72 }
-    requires links { LinksComeFrom (length tables.now.feed.stop_ids) tables.now.rules.changes }
     requires sound { IsSoundFolder (gtfs_folder_of tables.now) }
     ensures problem { IfSome (F.state files.old).files (λ m. IfOk result (λ p. (folder : Bytes ℕ)
         → IsFolder limits.now m folder (gtfs_folder_of tables.now)
@@ -211,11 +182,7 @@ fn problem_in<F: Files>(
         (gtfs_folder_of tables.now) fault)) }
     ensures early { (folder : Bytes ℕ) → IfErr result (IsBeforeSearch (FeedFolder folder horizon)) }
     ensures own { IfErr result (MayBeUnread Input.Delays) }
-    ensures valid { IfOk result (λ p. IsValid p.network) }
-    ensures fit { IfOk result (λ p. NamesFit p.names p.network) }
     ensures timetable { IfOk result (HasFeedTimetable horizon (journey_shown journey.now)) }
-    ensures source { IfOk result (λ p. p.source.0 < length p.network.change) }
-    ensures target { IfOk result (λ p. p.target.0 < length p.network.change) }
     ensures causes { HasCauses (λ other. Some journey.now.delays.now)
         (F.state files.old) (F.state files.new) result }
 {
@@ -242,11 +209,7 @@ pub(crate) fn feed_problem<F: Files>(
     ensures fault { IfSome (F.state files.old).files (λ m. IfErr result (λ fault. fault ≢ Fault.NoMemory
         → IsFeedProblemFault limits.now m folder.now horizon (journey_shown journey.now) fault)) }
     ensures early { IfErr result (IsBeforeSearch (FeedFolder folder.now horizon)) }
-    ensures valid { IfOk result (λ p. IsValid p.network) }
-    ensures fit { IfOk result (λ p. NamesFit p.names p.network) }
     ensures timetable { IfOk result (HasFeedTimetable horizon (journey_shown journey.now)) }
-    ensures source { IfOk result (λ p. p.source.0 < length p.network.change) }
-    ensures target { IfOk result (λ p. p.target.0 < length p.network.change) }
     ensures causes { (own : OwnPaths) → HasCauses
         (path_by (FeedFolder folder.now horizon) (journey_shown journey.now) own)
         (F.state files.old) (F.state files.new) result }

@@ -1,10 +1,10 @@
 //! The problem of a journey over its files.
-ghost use Rattle.std.specs.Prelude.{◌≡◌, ◌<◌, length, IfSome, IfOk, IfErr};
+ghost use Rattle.std.specs.Prelude.{◌≡◌, IfSome, IfOk, IfErr};
 ghost use Rattle.command_line.specs.Shown.{journey_shown};
 ghost use Rattle.command_line.specs.Ranges.{IsJourney};
 ghost use Rattle.input_files.specs.FaultsBeforeSearch.{IsBeforeSearch};
 ghost use Rattle.input_files.specs.Files.{OwnPaths, path_of, HasCauses};
-ghost use Rattle.journey_problem.specs.Problems.{IsProblem, IsProblemFault, IsValidProblem};
+ghost use Rattle.journey_problem.specs.Problems.{HasTimetable, IsProblem, IsProblemFault};
 
 use crate::cut_problem::cut_problem;
 use crate::feed_problem::feed_problem;
@@ -28,9 +28,8 @@ pub fn problem_of<F: Files>(
     ensures fault { IfSome (F.state files.old).files (λ m. IfErr result
         (IsProblemFault limits.now m (journey_shown journey.now))) }
     ensures early { IfErr result (IsBeforeSearch (journey_shown journey.now).timetable) }
-    ensures sound { IfOk result (IsValidProblem (journey_shown journey.now)) }
-    ensures source { IfOk result (λ p. p.source.0 < length p.network.change) }
-    ensures target { IfOk result (λ p. p.target.0 < length p.network.change) }
+    ensures sound { IfOk result
+        (HasTimetable (journey_shown journey.now).timetable (journey_shown journey.now)) }
     ensures causes { (own : OwnPaths) → HasCauses
         (path_of (journey_shown journey.now) own)
         (F.state files.old) (F.state files.new) result }

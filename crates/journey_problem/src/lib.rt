@@ -4,6 +4,7 @@
 
 mod cut_problem;
 mod feed_problem;
+mod feed_tables;
 mod journey;
 mod laws;
 

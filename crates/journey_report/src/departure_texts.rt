@@ -1,43 +1,38 @@
 //! The printed texts of departures, and of the latest moment at which one can leave.
 ghost use Rattle.std.specs.Prelude.{◌≡◌, ◌≤◌, ◌<◌, ◌++◌, map, length, All, IfOk};
-ghost use Rattle.plan_model.specs.NameLists.{NamesFit};
 ghost use Rattle.departure_table.specs.Departures.{IsDepartureRow};
 ghost use Rattle.journey_model.specs.Sites.{last_printable};
 ghost use Rattle.journey_report.specs.DepartureTexts.{departures_head, departure_text, rows_text, departures_text, latest_text};
 
-use crate::texts::row;
+use crate::texts::{ToldQuery, row};
 use clock_text::{write_moment, write_nanos};
 use departure_table::DepartureRow;
 use itoa::Buffer;
-use plan_model::{Moment, Names, Network, NoMemory, Query};
+use plan_model::{Moment, NoMemory, Query, Timetable};
 use std::alloc::Global;
 
 /// The first row of departures: between which moments, by which deadline, and how many follow.
 fn departures_head(
     alloc: Global,
-    source: &str,
-    target: &str,
-    query: &Query,
+    told: &ToldQuery,
     last: Moment,
     count: u64,
 ) -> Result<Vec<u8>, NoMemory>
-    requires first { query.now.start.0 ≤ last_printable }
-    requires last { last.0 ≤ last_printable }
-    requires deadline { query.now.deadline.0 ≤ last_printable }
-    ensures { IfOk result (λ text.
-        text.items ≡ departures_head source.now target.now query.now last.0 count) }
+    requires { last.0 ≤ last_printable }
+    ensures { IfOk result (λ text. text.items
+        ≡ departures_head told.now.source.now told.now.target.now told.now.query last.0 count) }
 {
-    let first = write_moment(query.start);
+    let first = write_moment(told.query.start);
     let last = write_moment(last);
-    let deadline = write_moment(query.deadline);
+    let deadline = write_moment(told.query.deadline);
     let mut digits = Buffer::new();
     row(
         alloc,
         &[
             b"departures".as_slice(),
             b"1".as_slice(),
-            source.as_bytes(),
-            target.as_bytes(),
+            told.source.as_bytes(),
+            told.target.as_bytes(),
             first.as_slice(),
             last.as_slice(),
             deadline.as_slice(),
@@ -49,15 +44,15 @@ fn departures_head(
 /// The row of a departure.
 fn departure_text(
     alloc: Global,
-    network: &Network,
-    names: &Names,
+    timetable: &Timetable,
     departure: &DepartureRow,
 ) -> Result<Vec<u8>, NoMemory>
-    requires fit { NamesFit names.now network.now }
-    requires departure { IsDepartureRow network.now departure.now }
-    ensures { IfOk result (λ text. text.items ≡ departure_text network.now names.now departure.now) }
+    requires { IsDepartureRow timetable.now.network departure.now }
+    ensures { IfOk result (λ text.
+        text.items ≡ departure_text timetable.now.network timetable.now.names departure.now) }
 {
-    let _count = network.count();
+    let network = &timetable.network;
+    let names = &timetable.names;
     let enter = network.get(departure.leg.enter);
     let by = write_moment(departure.by);
     let mut digits = Buffer::new();
@@ -79,55 +74,51 @@ fn departure_text(
 /// The text of departures up to a last moment: a first row, and then a row for each.
 pub fn departures_text(
     alloc: Global,
-    network: &Network,
-    names: &Names,
+    timetable: &Timetable,
     query: &Query,
     last: Moment,
     departures: &[DepartureRow],
 ) -> Result<Vec<u8>, NoMemory>
-    requires fit { NamesFit names.now network.now }
-    requires source { query.now.source.0 < length network.now.change }
-    requires target { query.now.target.0 < length network.now.change }
+    requires source { query.now.source.0 < length timetable.now.network.change }
+    requires target { query.now.target.0 < length timetable.now.network.change }
     requires first { query.now.start.0 ≤ last_printable }
     requires last { last.0 ≤ last_printable }
     requires deadline { query.now.deadline.0 ≤ last_printable }
-    requires departures { All (IsDepartureRow network.now) departures.now }
-    ensures { IfOk result (λ text.
-        text.items ≡ departures_text network.now names.now query.now last.0 departures.now) }
+    requires departures { All (IsDepartureRow timetable.now.network) departures.now }
+    ensures { IfOk result (λ text. text.items ≡ departures_text timetable.now.network
+        timetable.now.names query.now last.0 departures.now) }
 {
-    let source = names.place_name(query.source);
-    let target = names.place_name(query.target);
+    let source = timetable.names.place_name(query.source);
+    let target = timetable.names.place_name(query.target);
+    let told = ToldQuery {
+        source,
+        target,
+        query: *query,
+    };
     let count = departures.len() as u64;
-    let mut text = departures_head(alloc, source, target, query, last, count)?;
+    let mut text = departures_head(alloc, &told, last, count)?;
     for departure in departures {
-        let row = departure_text(alloc, network, names, departure)?;
+        let row = departure_text(alloc, timetable, departure)?;
         text.extend_from_slice(row.as_slice())?;
     }
     Ok(text)
 }
 
 /// The text of the latest moment at which one can leave.
-pub fn latest_text(
-    alloc: Global,
-    source: &str,
-    target: &str,
-    query: &Query,
-    moment: Moment,
-) -> Result<Vec<u8>, NoMemory>
-    requires first { query.now.start.0 ≤ last_printable }
-    requires deadline { query.now.deadline.0 ≤ last_printable }
-    requires moment { moment.0 ≤ last_printable }
-    ensures { IfOk result (λ text. text.items ≡ latest_text source.now target.now query.now moment) }
+pub fn latest_text(alloc: Global, told: &ToldQuery, moment: Moment) -> Result<Vec<u8>, NoMemory>
+    requires { moment.0 ≤ last_printable }
+    ensures { IfOk result (λ text.
+        text.items ≡ latest_text told.now.source.now told.now.target.now told.now.query moment) }
 {
-    let first = write_moment(query.start);
-    let deadline = write_moment(query.deadline);
+    let first = write_moment(told.query.start);
+    let deadline = write_moment(told.query.deadline);
     let moment = write_moment(moment);
     row(
         alloc,
         &[
             b"latest".as_slice(),
-            source.as_bytes(),
-            target.as_bytes(),
+            told.source.as_bytes(),
+            told.target.as_bytes(),
             first.as_slice(),
             deadline.as_slice(),
             moment.as_slice(),

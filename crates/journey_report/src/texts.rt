@@ -1,6 +1,5 @@
 //! The printed texts of the answers that are no graphs.
 ghost use Rattle.std.specs.Prelude.{◌≡◌, ◌≤◌, ◌<◌, ◌++◌, [], ◌∷◌, map, length, sum_by, All, IfOk};
-ghost use Rattle.plan_model.specs.NameLists.{NamesFit};
 ghost use Rattle.printed_rows.specs.Writers.{row_of_fields};
 ghost use Rattle.trip_replay.specs.Rides.{IsRide};
 ghost use Rattle.journey_report.specs.AnswerTexts.{safe_text, ride_text, rides_text, arrived_text, trace_text, leg_count, sample_text, least_text, holds_text, encloses_text, punctual_row};
@@ -9,9 +8,10 @@ ghost use Rattle.journey_model.specs.Sites.{last_printable};
 use clock_text::{write_moment, write_nanos};
 use interval_fixed::Span;
 use itoa::Buffer;
+use journey_model::Problem;
 use late_chance::{LateChance, write_chance};
 use plan_graph::PlanGraph;
-use plan_model::{Moment, Names, Network, NoMemory, PlaceId, Query};
+use plan_model::{Moment, NoMemory, Query, Timetable};
 use printed_rows::put_row;
 use std::alloc::Global;
 use trip_replay::{Ridden, Trace};
@@ -24,28 +24,36 @@ pub(crate) fn row(alloc: Global, fields: &[&[u8]]) -> Result<Vec<u8>, NoMemory>
     put_row(Vec::new(alloc), fields)
 }
 
+/// A query as it is told: with the names of its ends, and with moments that have texts.
+#[derive(Clone, Copy)]
+pub struct ToldQuery<'a> {
+    /// The name of the place where it begins.
+    pub source: &'a str,
+    /// The name of the place where it ends.
+    pub target: &'a str,
+    /// The query.
+    pub query: Query,
+    /// That its start has a text.
+    pub ghost start: { query.start.0 ≤ last_printable },
+    /// That its deadline has a text.
+    pub ghost deadline: { query.deadline.0 ≤ last_printable },
+}
+
 /// The text of the least worst arrival and the deadline.
-pub fn safe_text(
-    alloc: Global,
-    source: &str,
-    target: &str,
-    query: &Query,
-    worst: Moment,
-) -> Result<Vec<u8>, NoMemory>
-    requires start { query.now.start.0 ≤ last_printable }
-    requires worst { worst.0 ≤ last_printable }
-    requires deadline { query.now.deadline.0 ≤ last_printable }
-    ensures { IfOk result (λ text. text.items ≡ safe_text source.now target.now query.now worst) }
+pub fn safe_text(alloc: Global, told: &ToldQuery, worst: Moment) -> Result<Vec<u8>, NoMemory>
+    requires { worst.0 ≤ last_printable }
+    ensures { IfOk result (λ text.
+        text.items ≡ safe_text told.now.source.now told.now.target.now told.now.query worst) }
 {
-    let start = write_moment(query.start);
+    let start = write_moment(told.query.start);
     let worst = write_moment(worst);
-    let deadline = write_moment(query.deadline);
+    let deadline = write_moment(told.query.deadline);
     row(
         alloc,
         &[
             b"safe".as_slice(),
-            source.as_bytes(),
-            target.as_bytes(),
+            told.source.as_bytes(),
+            told.target.as_bytes(),
             start.as_slice(),
             worst.as_slice(),
             deadline.as_slice(),
@@ -54,17 +62,13 @@ pub fn safe_text(
 }
 
 /// The row of a ride.
-fn ride_text(
-    alloc: Global,
-    network: &Network,
-    names: &Names,
-    ride: &Ridden,
-) -> Result<Vec<u8>, NoMemory>
-    requires fit { NamesFit names.now network.now }
-    requires ride { IsRide network.now ride.now }
-    ensures { IfOk result (λ text. text.items ≡ ride_text network.now names.now ride.now) }
+fn ride_text(alloc: Global, timetable: &Timetable, ride: &Ridden) -> Result<Vec<u8>, NoMemory>
+    requires { IsRide timetable.now.network ride.now }
+    ensures { IfOk result (λ text.
+        text.items ≡ ride_text timetable.now.network timetable.now.names ride.now) }
 {
-    let _count = network.count();
+    let network = &timetable.network;
+    let names = &timetable.names;
     let enter = network.get(ride.leg.enter);
     let exit = network.get(ride.leg.exit);
     let dep = write_moment(enter.dep);
@@ -99,26 +103,19 @@ fn arrived_text(alloc: Global, target: &str, arrival: Moment) -> Result<Vec<u8>,
 }
 
 /// The text of a trip: a row for each ride, and then the arrival at the target.
-pub fn trace_text(
-    alloc: Global,
-    network: &Network,
-    names: &Names,
-    target: PlaceId,
-    trace: &Trace,
-) -> Result<Vec<u8>, NoMemory>
-    requires fit { NamesFit names.now network.now }
-    requires target { target.0 < length network.now.change }
-    requires rides { All (IsRide network.now) trace.now.rides }
+pub fn trace_text(alloc: Global, problem: &Problem, trace: &Trace) -> Result<Vec<u8>, NoMemory>
+    requires rides { All (IsRide problem.now.timetable.network) trace.now.rides }
     requires arrival { trace.now.arrival.0 ≤ last_printable }
-    ensures { IfOk result (λ text.
-        text.items ≡ trace_text network.now names.now target.0 trace.now) }
+    ensures { IfOk result (λ text. text.items ≡ trace_text problem.now.timetable.network
+        problem.now.timetable.names problem.now.target.0 trace.now) }
 {
     let mut text: Vec<u8> = Vec::new(alloc);
     for ride in trace.rides.as_slice() {
-        let row = ride_text(alloc, network, names, ride)?;
+        let row = ride_text(alloc, &problem.timetable, ride)?;
         text.extend_from_slice(row.as_slice())?;
     }
-    let row = arrived_text(alloc, names.place_name(target), trace.arrival)?;
+    let target = problem.timetable.names.place_name(problem.target);
+    let row = arrived_text(alloc, target, trace.arrival)?;
     text.extend_from_slice(row.as_slice())?;
     Ok(text)
 }
@@ -180,27 +177,19 @@ fn least_text(alloc: Global, least: Option<u64>) -> Result<Vec<u8>, NoMemory>
 }
 
 /// The text of a certificate that holds, with its least value at the start.
-pub fn holds_text(
-    alloc: Global,
-    source: &str,
-    target: &str,
-    query: &Query,
-    least: Option<u64>,
-) -> Result<Vec<u8>, NoMemory>
-    requires start { query.now.start.0 ≤ last_printable }
-    requires deadline { query.now.deadline.0 ≤ last_printable }
+pub fn holds_text(alloc: Global, told: &ToldQuery, least: Option<u64>) -> Result<Vec<u8>, NoMemory>
     ensures { IfOk result (λ text.
-        text.items ≡ holds_text source.now target.now query.now least) }
+        text.items ≡ holds_text told.now.source.now told.now.target.now told.now.query least) }
 {
-    let start = write_moment(query.start);
-    let deadline = write_moment(query.deadline);
+    let start = write_moment(told.query.start);
+    let deadline = write_moment(told.query.deadline);
     let least = least_text(alloc, least)?;
     row(
         alloc,
         &[
             b"holds".as_slice(),
-            source.as_bytes(),
-            target.as_bytes(),
+            told.source.as_bytes(),
+            told.target.as_bytes(),
             start.as_slice(),
             deadline.as_slice(),
             least.as_slice(),
@@ -209,28 +198,20 @@ pub fn holds_text(
 }
 
 /// The text of the bounds of a graph.
-pub fn encloses_text(
-    alloc: Global,
-    source: &str,
-    target: &str,
-    query: &Query,
-    bounds: Span,
-) -> Result<Vec<u8>, NoMemory>
-    requires start { query.now.start.0 ≤ last_printable }
-    requires deadline { query.now.deadline.0 ≤ last_printable }
+pub fn encloses_text(alloc: Global, told: &ToldQuery, bounds: Span) -> Result<Vec<u8>, NoMemory>
     ensures { IfOk result (λ text.
-        text.items ≡ encloses_text source.now target.now query.now bounds) }
+        text.items ≡ encloses_text told.now.source.now told.now.target.now told.now.query bounds) }
 {
-    let start = write_moment(query.start);
-    let deadline = write_moment(query.deadline);
+    let start = write_moment(told.query.start);
+    let deadline = write_moment(told.query.deadline);
     let lower = write_nanos(bounds.lo());
     let upper = write_nanos(bounds.hi());
     row(
         alloc,
         &[
             b"encloses".as_slice(),
-            source.as_bytes(),
-            target.as_bytes(),
+            told.source.as_bytes(),
+            told.target.as_bytes(),
             start.as_slice(),
             deadline.as_slice(),
             lower.as_slice(),

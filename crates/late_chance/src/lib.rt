@@ -24,7 +24,7 @@ mod shift;
 mod text;
 
 pub use chance::LateChance;
-pub use shift::{shifted, sooner, unshifted};
+pub use shift::{SECONDS_PER_WEEK, shifted, sooner, unshifted};
 pub use text::write_chance;
 
 /// The network as it is seen from a start on is valid, and a view of the network: exactly those trees

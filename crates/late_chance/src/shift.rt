@@ -10,8 +10,8 @@ use plan_graph::{GraphRow, PlaceTable, PlanGraph};
 use plan_model::{Connection, ConnectionId, List, Moment, Network, NoMemory, Query};
 use std::alloc::Global;
 
-/// How many seconds a week has.
-pub(crate) const SECONDS_PER_WEEK: u64 = 604_800;
+/// How long before a promise the moment is from which a network is seen for it, in seconds: a week.
+pub const SECONDS_PER_WEEK: u64 = 604_800;
 
 /// The rows by so many seconds later.
 fn later_rows(alloc: Global, rows: &[GraphRow], seconds: u64) -> Result<List<GraphRow>, NoMemory>

@@ -77,10 +77,10 @@ pub(crate) struct Told {
 }
 
 /// Whether a record is the first of a certificate, of the version that is known.
-fn is_bounds(record: &Record<'_>) -> bool
-    ensures { result ≡ is_bounds record.now.fields }
+fn is_bounds(printed: &Record<'_>) -> bool
+    ensures { result ≡ is_bounds printed.now.fields }
 {
-    record.is_kind(b"bounds", 7) && record.field(1) == b"1".as_slice()
+    printed.is_kind(b"bounds", 7) && printed.field(1) == b"1".as_slice()
 }
 
 /// Whether a start is not after a deadline.
@@ -91,15 +91,15 @@ fn is_in_time(start: Moment, deadline: Moment) -> bool
 }
 
 /// The numbers of the first row, where each field is of its form.
-fn bounds_row(record: &Record<'_>) -> Option<BoundsRow>
-    ensures { result ≡ bounds_row_in record.now.fields }
+fn bounds_row(printed: &Record<'_>) -> Option<BoundsRow>
+    ensures { result ≡ bounds_row_in printed.now.fields }
 {
-    if !is_bounds(record) {
+    if !is_bounds(printed) {
         return None;
     }
-    let start = read_moment(record.field(4))?;
-    let deadline = read_moment(record.field(5))?;
-    let number = whole(record.field(6))?;
+    let start = read_moment(printed.field(4))?;
+    let deadline = read_moment(printed.field(5))?;
+    let number = whole(printed.field(6))?;
     if !is_in_time(start, deadline) {
         return None;
     }
@@ -137,32 +137,32 @@ fn read_bounds(
 }
 
 /// The numbers of a value row, where each field is of its form.
-fn value_numbers(record: &Record<'_>) -> Option<ValueRow>
-    ensures { result ≡ value_row_in record.now.fields }
+fn value_numbers(printed: &Record<'_>) -> Option<ValueRow>
+    ensures { result ≡ value_row_in printed.now.fields }
 {
-    if !record.is_kind(b"value", 4) {
+    if !printed.is_kind(b"value", 4) {
         return None;
     }
-    let step = whole(record.field(2))?;
-    let value = read_nanos(record.field(3))?;
+    let step = whole(printed.field(2))?;
+    let value = read_nanos(printed.field(3))?;
     Some(ValueRow { step, value })
 }
 
 /// What a value row tells, after one of an earlier connection.
 fn read_value(
-    record: &Record<'_>,
+    printed: &Record<'_>,
     network: &Network,
     names: &NameIndex<'_>,
     last: Option<u64>,
 ) -> Result<Told, ProofFault>
-    ensures told { result ≡ told_in network.now names.now record.now.line last record.now.fields }
+    ensures told { result ≡ told_in network.now names.now printed.now.line last printed.now.fields }
     ensures there { IfOk result (λ told. told.id.0 < count network.now) }
 {
-    let line = record.line();
-    let Some(numbers) = value_numbers(record) else {
+    let line = printed.line();
+    let Some(numbers) = value_numbers(printed) else {
         return Err(ProofFault::Row(line));
     };
-    let Some(run) = names.run(record.field(1)) else {
+    let Some(run) = names.run(printed.field(1)) else {
         return Err(ProofFault::UnknownName(line));
     };
     let Some(id) = connection_of(network, run, numbers.step) else {

@@ -35,7 +35,7 @@ module _ (p : Problem) (start : ℕ) where
   -- a journey with a query has a safe strategy
   pub asked_ends : (alpha : ℕ) (q : Query) (w : Moment) → IsQueryOf p start alpha q w → EndsBySafety p start 0
   asked_ends alpha q w a =
-      inl (refl, has_tree p.network p.source.0 p.target.0 start q.source.0 q.target.0 q.start.0 w a.source a.target a.start_is a.least)
+      inl (refl, has_tree p.timetable.network p.source.0 p.target.0 start q.source.0 q.target.0 q.start.0 w a.source a.target a.start_is a.least)
 
   pub unsafe_ends : (fault : Fault) → IsNoSafe p start fault → EndsBySafety p start (status_of (Some fault))
   unsafe_ends fault (is, none) = inr (ap (λ (f : Fault). status_of (Some f)) is, λ h. none h.0 h.1)

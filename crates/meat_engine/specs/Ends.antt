@@ -33,7 +33,7 @@ EndsBy safe status = ((status ≡ 0) × safe) ⊎ ((status ≡ 1) × ¬ safe)
 
 -- 0 where some strategy of the problem is safe, and 1 where none is
 abbrev pub EndsBySafety : Problem → ℕ → ℕ → Type 0
-EndsBySafety p start status = EndsBy (HasSafe p.network p.source.0 p.target.0 start) status
+EndsBySafety p start status = EndsBy (HasSafe p.timetable.network p.source.0 p.target.0 start) status
 
 -- 0 where the walk has no fault, and 11 where it has one
 abbrev pub EndsByWalk : Result Trace ReplayFault → ℕ → Type 0
@@ -55,7 +55,7 @@ EndsByVerdict network query values status =
 -- where the proof file reads, as its certificate says; and else the status of its fault
 abbrev pub EndsByProofFile : Limits → FileMap → ℕ → List ℕ → Problem → ℕ → Type 0
 EndsByProofFile limits files start path p status =
-    ((query : Query) × (proof : LowerBounds) × IsProofFile (Some files) limits start path p query proof × EndsByVerdict p.network query proof.values status)
+    ((query : Query) × (proof : LowerBounds) × IsProofFile (Some files) limits start path p query proof × EndsByVerdict p.timetable.network query proof.values status)
     ⊎ ((fault : Fault) × FailsFile p start (bytes_of limits.bytes input.Proof None (file_at files path)) fault × (status ≡ status_of (Some fault)))
 
 -- 0 where the tree is safe, and 15 where it is not
@@ -66,7 +66,7 @@ EndsByTree network query tree status = ((status ≡ 0) × IsSafeFor network quer
 abbrev pub EndsByScore : Limits → FileMap → ℕ → List ℕ → Problem → ℕ → Type 0
 EndsByScore limits files start path p status =
     ((head : Head) × (graph : PlanGraph) × (graph_in limits p start None (file_at files path) ≡ Ok (head, graph))
-    × EndsByTree p.network head.query (unfold_plan graph p.network head.query) status)
+    × EndsByTree p.timetable.network head.query (unfold_plan graph p.timetable.network head.query) status)
     ⊎ ((fault : Fault) × (graph_in limits p start None (file_at files path) ≡ Err fault) × (status ≡ status_of (Some fault)))
 
 -- some tree is safe from the start of the query or from a later moment

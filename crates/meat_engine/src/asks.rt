@@ -1,9 +1,7 @@
 //! What is asked about a journey, over its files.
-ghost use Rattle.std.specs.Prelude.{◌≡◌, ◌≢◌, ◌<◌, ◌≤◌, length, Some, IfOk, IfErr};
-ghost use Rattle.plan_model.specs.NameLists.{NamesFit};
+ghost use Rattle.std.specs.Prelude.{◌≡◌, ◌≢◌, Some, IfOk, IfErr};
 ghost use Rattle.command_line.specs.Ranges.{IsJourney, IsAsk};
 ghost use Rattle.command_line.specs.Shown.{journey_shown, ask_shown};
-ghost use Rattle.plan_model.specs.Bounds.{first_start, last_start};
 ghost use Rattle.journey_model.specs.Sites.{IsTellable};
 ghost use Rattle.input_files.specs.Files.{path_of, HasCauses};
 ghost use Rattle.journey_problem.specs.Problems.{InProblem};
@@ -18,11 +16,10 @@ use csv_rows::Limits;
 use departure_answers::{departures_over, latest_over};
 use file_answers::{check_graph_over, check_proof_over, replay_over};
 use file_ports::Files;
-use journey_model::{Fault, Problem};
+use journey_model::{Fault, Percent, Problem, Start};
 use journey_problem::problem_of;
 use journey_report::Answer;
 use plan_answers::{certify_over, expand_over, plan_over, punctual_over, safe_over};
-use plan_model::Moment;
 use std::alloc::Global;
 
 /// What is asked about a problem, from a start on.
@@ -30,35 +27,32 @@ fn ask_over<F: Files>(
     alloc: Global,
     files: &mut F,
     problem: &Problem,
-    start: Moment,
+    start: Start,
     ask: &Ask,
     limits: &Limits,
 ) -> Result<Answer, Fault>
-    requires fit { NamesFit problem.now.names problem.now.network }
-    requires source { problem.now.source.0 < length problem.now.network.change }
-    requires target { problem.now.target.0 < length problem.now.network.change }
-    requires first { first_start ≤ start.0 }
-    requires start { start.0 ≤ last_start }
-    requires ask { IsAsk start.0 (ask_shown ask.now) }
-    ensures answer { IfOk result (λ a. AnswersAsk (F.state files.old).files limits.now start.0
+    requires { IsAsk start.moment.0 (ask_shown ask.now) }
+    ensures answer { IfOk result (λ a. AnswersAsk (F.state files.old).files limits.now start.moment.0
         problem.now (ask_shown ask.now) (findings_of a.report) a.text.items) }
     ensures fault { IfErr result (λ fault. fault ≢ Fault.NoMemory
-        → FailsAsk (F.state files.old).files limits.now start.0 problem.now (ask_shown ask.now) fault) }
+        → FailsAsk (F.state files.old).files limits.now start.moment.0 problem.now (ask_shown ask.now) fault) }
     ensures tellable { IfErr result (IsTellable (Some (parts_of problem.now))) }
     ensures causes { HasCauses (own_paths (ask_shown ask.now))
         (F.state files.old) (F.state files.new) result }
 {
     match *ask {
-        Ask::Safe { alpha } => safe_over(alloc, problem, start, alpha),
-        Ask::Expand { alpha } => expand_over(alloc, problem, start, alpha),
-        Ask::Plan { alpha } => plan_over(alloc, problem, start, alpha),
+        Ask::Safe { alpha } => safe_over(alloc, problem, start, Percent { value: alpha }),
+        Ask::Expand { alpha } => expand_over(alloc, problem, start, Percent { value: alpha }),
+        Ask::Plan { alpha } => plan_over(alloc, problem, start, Percent { value: alpha }),
         Ask::Replay { graph, late } => {
             replay_over(alloc, files, problem, start, graph, late, limits)
         }
-        Ask::Certify { alpha } => certify_over(alloc, problem, start, alpha),
+        Ask::Certify { alpha } => certify_over(alloc, problem, start, Percent { value: alpha }),
         Ask::CheckProof { proof } => check_proof_over(alloc, files, problem, start, proof, limits),
         Ask::CheckGraph { graph } => check_graph_over(alloc, files, problem, start, graph, limits),
-        Ask::Punctual { alpha, promise } => punctual_over(alloc, problem, start, alpha, promise),
+        Ask::Punctual { alpha, promise } => {
+            punctual_over(alloc, problem, start, Percent { value: alpha }, promise)
+        }
         Ask::Departures { until, last } => departures_over(alloc, problem, start, until, last),
         Ask::Latest { until } => latest_over(alloc, problem, start, until),
     }
@@ -87,7 +81,10 @@ pub(crate) fn journey_over<F: Files>(
         Err(fault) => return Err(Refusal::plain(fault)),
         Ok(problem) => problem,
     };
-    match ask_over(alloc, files, &problem, journey.start, ask, limits) {
+    let start = Start {
+        moment: journey.start,
+    };
+    match ask_over(alloc, files, &problem, start, ask, limits) {
         Err(fault) => Err(Refusal {
             fault,
             problem: Some(problem),

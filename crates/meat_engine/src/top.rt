@@ -18,14 +18,14 @@ ghost use Rattle.meat_engine.specs.RunPromises.{IsRun, sink_state};
 
 use crate::asks::journey_over;
 use crate::refusal::Refusal;
-use crate::samples::sample;
+use crate::samples::{SampleSize, sample};
 use command_line::{Job, read_job};
 use csv_rows::Limits;
-use fault_lines::{NamedNetwork, fault_line, known_line};
-use file_ports::{Files, Sink, put_all};
+use fault_lines::{fault_line, known_line};
+use file_ports::{Failed, Files, Sink, put_all};
 use journey_model::{Fault, Problem};
 use journey_report::{Answer, Report, Status};
-use plan_model::NoMemory;
+use plan_model::{NoMemory, Timetable};
 use std::alloc::Global;
 
 /// What a job asks for, over its files.
@@ -45,7 +45,7 @@ fn answer_of<F: Files>(
 {
     match *job {
         Job::Journey(journey, ask) => journey_over(alloc, files, &journey, &ask, limits),
-        Job::Sample(size) => sample(alloc, size, limits),
+        Job::Sample(size) => sample(alloc, SampleSize { value: size }, limits),
     }
 }
 
@@ -54,19 +54,19 @@ fn put_line<E: Sink>(err: &mut E, line: &[u8])
     ensures { IsLineTold (E.written err.old) (E.written err.new) (E.faults err.old) (E.faults err.new)
         line.now }
 {
-    let _ = put_all(err, line);
+    // A fault of the sink changes nothing.
+    match put_all(err, line) {
+        Ok(()) | Err(Failed) => {}
+    }
 }
 
-/// The timetable of a problem with its names.
-fn named<'a>(problem: &'a Option<Problem>) -> Option<NamedNetwork<'a>>
+/// The timetable of a problem.
+fn named<'a>(problem: &'a Option<Problem>) -> Option<&'a Timetable>
     ensures { known_in result ≡ option_map parts_of problem.now }
 {
     match problem {
         None => None,
-        Some(problem) => Some(NamedNetwork {
-            network: &problem.network,
-            names: &problem.names,
-        }),
+        Some(problem) => Some(&problem.timetable),
     }
 }
 

@@ -32,7 +32,7 @@ pub record IsQueryOf (p : Problem) (start alpha : ℕ) (query : Query) (worst : 
   pub source : query.source.0 ≡ p.source.0
   pub target : query.target.0 ≡ p.target.0
   pub start_is : query.start.0 ≡ start
-  pub least : IsWorst p.network query worst
+  pub least : IsWorst p.timetable.network query worst
   pub deadline : query.deadline.0 ≡ deadline_of query.start.0 worst.0 alpha
 
 -- this holds of the query of the journey and of its least worst arrival
@@ -47,24 +47,24 @@ head_of q bounds = record { query = q; bounds = bounds }
 abbrev pub TellsWorst : Problem → Findings → List ℕ → Query → Moment → Type 0
 TellsWorst p found text query worst =
     (found ≡ safe_findings query worst)
-    × (text ≡ safe_text (place_name p.names query.source.0) (place_name p.names query.target.0) query worst)
+    × (text ≡ safe_text (place_name p.timetable.names query.source.0) (place_name p.timetable.names query.target.0) query worst)
 
 -- a decision graph ride by ride is told, with its bounds
 abbrev pub TellsExpanded : Problem → Findings → List ℕ → Query → Moment → Type 0
 TellsExpanded p found text query worst =
     (graph : ExpandedGraph) × (bounds : Interval) × (found ≡ expand_findings query worst graph bounds)
-    × IsExpanded p.network query graph bounds × (text ≡ expanded_text p.network p.names (head_of query bounds) graph)
+    × IsExpanded p.timetable.network query graph bounds × (text ≡ expanded_text p.timetable.network p.timetable.names (head_of query bounds) graph)
 
 -- a decision graph by place is told, with its bounds; the text reads back
 abbrev pub TellsPlanned : Problem → Findings → List ℕ → Query → Moment → Type 0
 TellsPlanned p found text query worst =
     (graph : PlanGraph) × (bounds : Interval) × (found ≡ plan_findings query worst graph bounds)
-    × IsPlanned p.network query graph bounds × (text ≡ graph_text p.network p.names (head_of query bounds) graph)
-    × IsReadAs p.network p.names (head_of query bounds) graph text
+    × IsPlanned p.timetable.network query graph bounds × (text ≡ graph_text p.timetable.network p.timetable.names (head_of query bounds) graph)
+    × IsReadAs p.timetable.network p.timetable.names (head_of query bounds) graph text
 
 -- no strategy always reaches the target
 abbrev pub HasNoSafe : Problem → ℕ → Type 0
-HasNoSafe p start = IsLeastWorst p.network p.source.0 p.target.0 start None
+HasNoSafe p start = IsLeastWorst p.timetable.network p.source.0 p.target.0 start None
 
 -- the fault is that no strategy is safe, and none is
 abbrev pub IsNoSafe : Problem → ℕ → Fault → Type 0

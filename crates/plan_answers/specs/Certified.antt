@@ -15,7 +15,7 @@ use Rattle.journey_report.specs.Findings.{Findings, certify_findings}
 pub record TellsCertificate (p : Problem) (found : Findings) (text : List ℕ) (query : Query) (worst : Moment) : Type 0 where
   pub proof : LowerBounds
   pub found_is : found ≡ certify_findings query worst proof
-  pub tight : IsTight p.network query proof.values
-  pub best : IsBestCertificate p.network query proof.values
-  pub text_is : text ≡ proof_text p.network p.names query proof.values
-  pub reads_back : ReadsBack p.network p.names query proof.values text
+  pub tight : IsTight p.timetable.network query proof.values
+  pub best : IsBestCertificate p.timetable.network query proof.values
+  pub text_is : text ≡ proof_text p.timetable.network p.timetable.names query proof.values
+  pub reads_back : ReadsBack p.timetable.network p.timetable.names query proof.values text

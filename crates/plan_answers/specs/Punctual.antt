@@ -34,13 +34,13 @@ pub record IsSeenLater (network : NetworkModel) (query : Query) (promise : ℕ) 
 
 -- the text of a graph with its chance is the row of the promise and the text of the graph, which reads back
 pub record IsPunctualText (p : Problem) (promise : ℕ) (query : Query) (graph : PlanGraph) (chance bounds : Interval) (text : List ℕ) : Type 0 where
-  pub rows : text ≡ punctual_row promise chance ++ graph_text p.network p.names (head_of query bounds) graph
-  pub reads_back : IsReadAs p.network p.names (head_of query bounds) graph (graph_text p.network p.names (head_of query bounds) graph)
+  pub rows : text ≡ punctual_row promise chance ++ graph_text p.timetable.network p.timetable.names (head_of query bounds) graph
+  pub reads_back : IsReadAs p.timetable.network p.timetable.names (head_of query bounds) graph (graph_text p.timetable.network p.timetable.names (head_of query bounds) graph)
 
 -- a decision graph by place is told with bounds of its chance to arrive after the promised moment, which is the least, and of its
 -- expected arrival
 abbrev pub TellsPunctual : Problem → ℕ → Findings → List ℕ → Query → Moment → Type 0
 TellsPunctual p promise found text query worst =
     (graph : PlanGraph) × (chance : Interval) × (bounds : Interval) × (found ≡ punctual_findings query worst graph bounds chance)
-    × IsPunctual p.network query promise graph chance × IsSeenLater p.network query promise graph chance
-    × IsScored p.network query (unfold_plan graph p.network query) bounds × IsPunctualText p promise query graph chance bounds text
+    × IsPunctual p.timetable.network query promise graph chance × IsSeenLater p.timetable.network query promise graph chance
+    × IsScored p.timetable.network query (unfold_plan graph p.timetable.network query) bounds × IsPunctualText p promise query graph chance bounds text

@@ -1,19 +1,17 @@
 //! What is told of the strategies of a journey.
-ghost use Rattle.std.specs.Prelude.{◌≡◌, ◌<◌, ◌≤◌, length, Some, None, IfOk, IfErr, IfSome};
-ghost use Rattle.plan_model.specs.NameLists.{NamesFit};
+ghost use Rattle.std.specs.Prelude.{◌≡◌, ◌<◌, ◌≤◌, Some, None, IfOk, IfErr, IfSome};
 ghost use Rattle.plan_model.specs.Order.{IsScanOrder};
 ghost use Rattle.plan_model.specs.Strategy.{IsLeastWorst};
 ghost use Rattle.decision_graph.specs.Planned.{IsPlanned};
 ghost use Rattle.decision_graph.specs.Expanded.{IsExpanded};
-ghost use Rattle.command_line.specs.Ranges.{IsPercentage};
 ghost use Rattle.plan_answers.specs.Answers.{IsWorst, IsQueryOf, InQuery, IsPrintable, TellsWorst, TellsExpanded, TellsPlanned, FailsIn};
 ghost use Rattle.journey_report.specs.Findings.{findings_of};
-ghost use Rattle.plan_model.specs.Bounds.{end_of_time, last_start};
+ghost use Rattle.plan_model.specs.Bounds.{end_of_time};
 
 use decision_graph::{CompactPlan, ExpandedPlan, expand, plan};
 use graph_text::{Head, fit_is_printable, ready_is_printable, write, write_expanded};
-use journey_model::{Fault, Problem};
-use journey_report::{Answer, Report, safe_text};
+use journey_model::{Fault, Percent, Problem, Start};
+use journey_report::{Answer, Report, ToldQuery, safe_text};
 use meat_scan::ScanTables;
 use merged_runs::MergedRuns;
 use plan_model::{BackwardOrder, Moment, NoMemory, Query};
@@ -21,13 +19,17 @@ use safe_arrival::{deadline, least_worst};
 use std::alloc::Global;
 use value_laws::WorstMoment;
 
-/// A query, and the least worst arrival that its deadline follows from.
+/// A query of a problem, and the least worst arrival that its deadline follows from.
 #[derive(Clone, Copy)]
-pub struct Asked {
+pub struct Asked<'a> {
+    /// The problem.
+    pub problem: &'a Problem,
     /// The query, with its deadline.
     pub query: Query,
     /// Its least worst arrival.
     pub worst: Moment,
+    /// That its places are the network's, and its moments have texts.
+    pub ghost printable: { IsPrintable problem.now.timetable.network query worst },
 }
 
 /// The least worst arrival of a journey from a start on.
@@ -35,78 +37,76 @@ fn worst_of<B: BackwardOrder>(
     alloc: Global,
     order: &mut B,
     problem: &Problem,
-    start: Moment,
+    start: Start,
 ) -> Result<Option<Moment>, NoMemory>
-    requires fits { B.fits order.old problem.now.network }
-    requires whole { IsScanOrder problem.now.network (B.rest order.old problem.now.network) }
-    requires source { problem.now.source.0 < length problem.now.network.change }
-    requires target { problem.now.target.0 < length problem.now.network.change }
-    requires start { start.0 < end_of_time }
-    ensures least { IfOk result
-        (IsLeastWorst problem.now.network problem.now.source.0 problem.now.target.0 start.0) }
-    ensures order { IfOk result (λ worst. IfSome worst (λ w. start.0 ≤ w.0)) }
+    requires fits { B.fits order.old problem.now.timetable.network }
+    requires whole { IsScanOrder problem.now.timetable.network
+        (B.rest order.old problem.now.timetable.network) }
+    ensures least { IfOk result (IsLeastWorst problem.now.timetable.network
+        problem.now.source.0 problem.now.target.0 start.moment.0) }
+    ensures order { IfOk result (λ worst. IfSome worst (λ w. start.moment.0 ≤ w.0)) }
     ensures early { IfOk result (λ worst. IfSome worst (λ w. w.0 < end_of_time)) }
-    ensures fits { IfOk result (λ worst. B.fits order.new problem.now.network) }
+    ensures fits { IfOk result (λ worst. B.fits order.new problem.now.timetable.network) }
 {
-    let tables: ScanTables<WorstMoment> = ScanTables::reserve(alloc, &problem.network)?;
+    let network = &problem.timetable.network;
+    let tables: ScanTables<WorstMoment> = ScanTables::reserve(alloc, network)?;
     let worst = least_worst(
         tables,
-        &problem.network,
+        network,
         order,
         problem.source,
         problem.target,
-        start,
+        start.moment,
     );
     Ok(worst)
 }
 
-/// The query of a journey from a start on, by a percentage for the deadline, and an order for the scan
-/// that finds its graph.
+/// The query of a journey from a start on, by a percentage for the deadline, with its least worst
+/// arrival, and an order for the scan that finds its graph.
 pub fn asked_of(
     alloc: Global,
     problem: &Problem,
-    start: Moment,
-    alpha: u32,
-) -> Result<(Asked, MergedRuns), Fault>
-    requires source { problem.now.source.0 < length problem.now.network.change }
-    requires target { problem.now.target.0 < length problem.now.network.change }
-    requires start { start.0 ≤ last_start }
-    requires alpha { IsPercentage alpha }
+    start: Start,
+    alpha: Percent,
+) -> Result<(Query, Moment, MergedRuns), Fault>
     ensures asked { IfOk result (λ found.
-        IsQueryOf problem.now start.0 alpha found.0.query found.0.worst) }
+        IsQueryOf problem.now start.moment.0 alpha.value found.0 found.1) }
     ensures printable { IfOk result (λ found.
-        IsPrintable problem.now.network found.0.query found.0.worst) }
+        IsPrintable problem.now.timetable.network found.0 found.1) }
     ensures fits { IfOk result (λ found.
-        ⟦<MergedRuns as BackwardOrder>⟧.fits found.1 problem.now.network) }
-    ensures fault { IfErr result (FailsIn problem.now start.0) }
+        ⟦<MergedRuns as BackwardOrder>⟧.fits found.2 problem.now.timetable.network) }
+    ensures fault { IfErr result (FailsIn problem.now start.moment.0) }
 {
-    let mut order = MergedRuns::new(alloc, &problem.network)?;
+    let mut order = MergedRuns::new(alloc, &problem.timetable.network)?;
     let Some(worst) = worst_of(alloc, &mut order, problem, start)? else {
         return Err(Fault::NoSafe);
     };
     let query = Query {
         source: problem.source,
         target: problem.target,
-        start,
-        deadline: deadline(start, worst, alpha),
+        start: start.moment,
+        deadline: deadline(start.moment, worst, alpha.value),
     };
-    Ok((Asked { query, worst }, order))
+    Ok((query, worst, order))
 }
 
 /// The answer that tells the least worst arrival and the deadline.
-fn worst_answer(alloc: Global, problem: &Problem, asked: Asked) -> Result<Answer, NoMemory>
-    requires fit { NamesFit problem.now.names problem.now.network }
-    requires printable { IsPrintable problem.now.network asked.query asked.worst }
-    ensures tells { IfOk result (λ a. TellsWorst problem.now (findings_of a.report) a.text.items
-        asked.query asked.worst) }
+fn worst_answer(alloc: Global, asked: &Asked) -> Result<Answer, NoMemory>
+    ensures { IfOk result (λ a. TellsWorst asked.now.problem.now (findings_of a.report) a.text.items
+        asked.now.query asked.now.worst) }
 {
-    let Asked { query, worst } = asked;
-    let source = problem.names.place_name(query.source);
-    let target = problem.names.place_name(query.target);
-    let text = safe_text(alloc, source, target, &query, worst)?;
+    let names = &asked.problem.timetable.names;
+    let source = names.place_name(asked.query.source);
+    let target = names.place_name(asked.query.target);
+    let told = ToldQuery {
+        source,
+        target,
+        query: asked.query,
+    };
+    let text = safe_text(alloc, &told, asked.worst)?;
     let report = Report {
-        query: Some(query),
-        worst: Some(worst),
+        query: Some(asked.query),
+        worst: Some(asked.worst),
         ..Report::empty()
     };
     Ok(Answer { report, text })
@@ -116,17 +116,16 @@ fn worst_answer(alloc: Global, problem: &Problem, asked: Asked) -> Result<Answer
 fn expanded_of<B: BackwardOrder>(
     alloc: Global,
     order: &mut B,
-    problem: &Problem,
-    asked: Asked,
+    asked: &Asked,
 ) -> Result<ExpandedPlan, NoMemory>
-    requires fits { B.fits order.old problem.now.network }
-    requires least { IsWorst problem.now.network asked.query asked.worst }
-    requires printable { IsPrintable problem.now.network asked.query asked.worst }
-    ensures { IfOk result (λ found.
-        IsExpanded problem.now.network asked.query found.graph found.bounds) }
+    requires fits { B.fits order.old asked.now.problem.now.timetable.network }
+    requires least { IsWorst asked.now.problem.now.timetable.network asked.now.query asked.now.worst }
+    ensures { IfOk result (λ found. IsExpanded asked.now.problem.now.timetable.network
+        asked.now.query found.graph found.bounds) }
 {
-    order.rewind(&problem.network);
-    match expand(alloc, order, &problem.network, &asked.query)? {
+    let network = &asked.problem.timetable.network;
+    order.rewind(network);
+    match expand(alloc, order, network, &asked.query)? {
         None => unreachable!(),
         Some(found) => Ok(found),
     }
@@ -136,48 +135,44 @@ fn expanded_of<B: BackwardOrder>(
 pub fn planned_of<B: BackwardOrder>(
     alloc: Global,
     order: &mut B,
-    problem: &Problem,
-    asked: Asked,
+    asked: &Asked,
 ) -> Result<CompactPlan, NoMemory>
-    requires fits { B.fits order.old problem.now.network }
-    requires least { IsWorst problem.now.network asked.query asked.worst }
-    requires printable { IsPrintable problem.now.network asked.query asked.worst }
-    ensures planned { IfOk result (λ found.
-        IsPlanned problem.now.network asked.query found.graph found.bounds) }
-    ensures fits { B.fits order.new problem.now.network }
+    requires fits { B.fits order.old asked.now.problem.now.timetable.network }
+    requires least { IsWorst asked.now.problem.now.timetable.network asked.now.query asked.now.worst }
+    ensures planned { IfOk result (λ found. IsPlanned asked.now.problem.now.timetable.network
+        asked.now.query found.graph found.bounds) }
+    ensures fits { B.fits order.new asked.now.problem.now.timetable.network }
 {
-    order.rewind(&problem.network);
-    match plan(alloc, order, &problem.network, &asked.query)? {
+    let network = &asked.problem.timetable.network;
+    order.rewind(network);
+    match plan(alloc, order, network, &asked.query)? {
         None => unreachable!(),
         Some(found) => Ok(found),
     }
 }
 
 /// The answer of a decision graph ride by ride.
-fn expanded_answer(
-    alloc: Global,
-    problem: &Problem,
-    asked: Asked,
-    found: ExpandedPlan,
-) -> Result<Answer, NoMemory>
-    requires fit { NamesFit problem.now.names problem.now.network }
-    requires printable { IsPrintable problem.now.network asked.query asked.worst }
-    requires found { IsExpanded problem.now.network asked.query found.graph found.bounds }
-    ensures tells { IfOk result (λ a. TellsExpanded problem.now (findings_of a.report) a.text.items
-        asked.query asked.worst) }
+fn expanded_answer(alloc: Global, asked: &Asked, found: ExpandedPlan) -> Result<Answer, NoMemory>
+    requires { IsExpanded asked.now.problem.now.timetable.network asked.now.query found.graph found.bounds }
+    ensures { IfOk result (λ a. TellsExpanded asked.now.problem.now (findings_of a.report) a.text.items
+        asked.now.query asked.now.worst) }
 {
-    let Asked { query, worst } = asked;
     let head = Head {
-        query,
+        query: asked.query,
         bounds: found.bounds,
     };
-    // That the network is valid is known from its count.
-    let _count = problem.network.count();
+    let timetable = &asked.problem.timetable;
     ready_is_printable();
-    let text = write_expanded(alloc, &found.graph, &head, &problem.network, &problem.names)?;
+    let text = write_expanded(
+        alloc,
+        &found.graph,
+        &head,
+        &timetable.network,
+        &timetable.names,
+    )?;
     let report = Report {
-        query: Some(query),
-        worst: Some(worst),
+        query: Some(asked.query),
+        worst: Some(asked.worst),
         expanded: Some(found.graph),
         bounds: Some(head.bounds),
         ..Report::empty()
@@ -186,30 +181,27 @@ fn expanded_answer(
 }
 
 /// The answer of a decision graph with one table for each place.
-fn planned_answer(
-    alloc: Global,
-    problem: &Problem,
-    asked: Asked,
-    found: CompactPlan,
-) -> Result<Answer, NoMemory>
-    requires fit { NamesFit problem.now.names problem.now.network }
-    requires printable { IsPrintable problem.now.network asked.query asked.worst }
-    requires found { IsPlanned problem.now.network asked.query found.graph found.bounds }
-    ensures tells { IfOk result (λ a. TellsPlanned problem.now (findings_of a.report) a.text.items
-        asked.query asked.worst) }
+fn planned_answer(alloc: Global, asked: &Asked, found: CompactPlan) -> Result<Answer, NoMemory>
+    requires { IsPlanned asked.now.problem.now.timetable.network asked.now.query found.graph found.bounds }
+    ensures { IfOk result (λ a. TellsPlanned asked.now.problem.now (findings_of a.report) a.text.items
+        asked.now.query asked.now.worst) }
 {
-    let Asked { query, worst } = asked;
     let head = Head {
-        query,
+        query: asked.query,
         bounds: found.bounds,
     };
-    // That the network is valid is known from its count.
-    let _count = problem.network.count();
+    let timetable = &asked.problem.timetable;
     fit_is_printable();
-    let text = write(alloc, &found.graph, &head, &problem.network, &problem.names)?;
+    let text = write(
+        alloc,
+        &found.graph,
+        &head,
+        &timetable.network,
+        &timetable.names,
+    )?;
     let report = Report {
-        query: Some(query),
-        worst: Some(worst),
+        query: Some(asked.query),
+        worst: Some(asked.worst),
         graph: Some(found.graph),
         bounds: Some(head.bounds),
         ..Report::empty()
@@ -221,20 +213,20 @@ fn planned_answer(
 pub fn safe_over(
     alloc: Global,
     problem: &Problem,
-    start: Moment,
-    alpha: u32,
+    start: Start,
+    alpha: Percent,
 ) -> Result<Answer, Fault>
-    requires fit { NamesFit problem.now.names problem.now.network }
-    requires source { problem.now.source.0 < length problem.now.network.change }
-    requires target { problem.now.target.0 < length problem.now.network.change }
-    requires start { start.0 ≤ last_start }
-    requires alpha { IsPercentage alpha }
-    ensures answer { IfOk result (λ a. InQuery problem.now start.0 alpha
+    ensures answer { IfOk result (λ a. InQuery problem.now start.moment.0 alpha.value
         (TellsWorst problem.now (findings_of a.report) a.text.items)) }
-    ensures fault { IfErr result (FailsIn problem.now start.0) }
+    ensures fault { IfErr result (FailsIn problem.now start.moment.0) }
 {
-    let (asked, _) = asked_of(alloc, problem, start, alpha)?;
-    let answer = worst_answer(alloc, problem, asked)?;
+    let (query, worst, _) = asked_of(alloc, problem, start, alpha)?;
+    let asked = Asked {
+        problem,
+        query,
+        worst,
+    };
+    let answer = worst_answer(alloc, &asked)?;
     Ok(answer)
 }
 
@@ -242,21 +234,21 @@ pub fn safe_over(
 pub fn expand_over(
     alloc: Global,
     problem: &Problem,
-    start: Moment,
-    alpha: u32,
+    start: Start,
+    alpha: Percent,
 ) -> Result<Answer, Fault>
-    requires fit { NamesFit problem.now.names problem.now.network }
-    requires source { problem.now.source.0 < length problem.now.network.change }
-    requires target { problem.now.target.0 < length problem.now.network.change }
-    requires start { start.0 ≤ last_start }
-    requires alpha { IsPercentage alpha }
-    ensures answer { IfOk result (λ a. InQuery problem.now start.0 alpha
+    ensures answer { IfOk result (λ a. InQuery problem.now start.moment.0 alpha.value
         (TellsExpanded problem.now (findings_of a.report) a.text.items)) }
-    ensures fault { IfErr result (FailsIn problem.now start.0) }
+    ensures fault { IfErr result (FailsIn problem.now start.moment.0) }
 {
-    let (asked, mut order) = asked_of(alloc, problem, start, alpha)?;
-    let found = expanded_of(alloc, &mut order, problem, asked)?;
-    let answer = expanded_answer(alloc, problem, asked, found)?;
+    let (query, worst, mut order) = asked_of(alloc, problem, start, alpha)?;
+    let asked = Asked {
+        problem,
+        query,
+        worst,
+    };
+    let found = expanded_of(alloc, &mut order, &asked)?;
+    let answer = expanded_answer(alloc, &asked, found)?;
     Ok(answer)
 }
 
@@ -264,20 +256,20 @@ pub fn expand_over(
 pub fn plan_over(
     alloc: Global,
     problem: &Problem,
-    start: Moment,
-    alpha: u32,
+    start: Start,
+    alpha: Percent,
 ) -> Result<Answer, Fault>
-    requires fit { NamesFit problem.now.names problem.now.network }
-    requires source { problem.now.source.0 < length problem.now.network.change }
-    requires target { problem.now.target.0 < length problem.now.network.change }
-    requires start { start.0 ≤ last_start }
-    requires alpha { IsPercentage alpha }
-    ensures answer { IfOk result (λ a. InQuery problem.now start.0 alpha
+    ensures answer { IfOk result (λ a. InQuery problem.now start.moment.0 alpha.value
         (TellsPlanned problem.now (findings_of a.report) a.text.items)) }
-    ensures fault { IfErr result (FailsIn problem.now start.0) }
+    ensures fault { IfErr result (FailsIn problem.now start.moment.0) }
 {
-    let (asked, mut order) = asked_of(alloc, problem, start, alpha)?;
-    let found = planned_of(alloc, &mut order, problem, asked)?;
-    let answer = planned_answer(alloc, problem, asked, found)?;
+    let (query, worst, mut order) = asked_of(alloc, problem, start, alpha)?;
+    let asked = Asked {
+        problem,
+        query,
+        worst,
+    };
+    let found = planned_of(alloc, &mut order, &asked)?;
+    let answer = planned_answer(alloc, &asked, found)?;
     Ok(answer)
 }

@@ -1,6 +1,5 @@
 //! The decision graph with the least chance of an arrival after a promised moment.
 ghost use Rattle.std.specs.Prelude.{◌≡◌, ◌<◌, ◌≤◌, ◌+◌, length, IfOk, IfErr, MatchOption};
-ghost use Rattle.plan_model.specs.NameLists.{NamesFit};
 ghost use Rattle.plan_graph.specs.Tidy.{IsTidy};
 ghost use Rattle.plan_graph.specs.Unfold.{unfold_plan};
 ghost use Rattle.plan_model.specs.Strategy.{IsSafeFor};
@@ -8,11 +7,9 @@ ghost use Rattle.decision_graph.specs.Expanded.{IsNoneSafe};
 ghost use Rattle.graph_score.specs.Scores.{IsScored};
 ghost use Rattle.late_chance.specs.Chances.{seconds_per_week};
 ghost use Rattle.late_chance.specs.Punctual.{IsPunctual, asked_for, seen_for};
-ghost use Rattle.command_line.specs.Ranges.{IsPercentage};
-ghost use Rattle.journey_model.specs.Sites.{last_printable};
-ghost use Rattle.plan_answers.specs.Answers.{InQuery, IsPrintable, FailsIn};
+ghost use Rattle.plan_answers.specs.Answers.{InQuery, FailsIn};
 ghost use Rattle.journey_report.specs.Findings.{findings_of, punctual_findings};
-ghost use Rattle.plan_model.specs.Bounds.{end_of_time, last_start};
+ghost use Rattle.plan_model.specs.Bounds.{end_of_time};
 ghost use Rattle.plan_answers.specs.Punctual.{IsLeastChance, IsSeenLater, IsPunctualText, TellsPunctual};
 
 use crate::answers::{Asked, asked_of};
@@ -20,16 +17,24 @@ use decision_graph::{ScoredPlan, plan_by};
 use graph_score::{ScoreFault, fit_is_scored, score};
 use graph_text::{Head, fit_is_printable, write};
 use interval_fixed::Span;
-use journey_model::{Fault, Problem};
+use journey_model::{Fault, Percent, Problem, Start};
 use journey_report::{Answer, Report, punctual_row};
-use late_chance::{LateChance, punctual_by_shift, shifted, sooner, unshifted};
+use late_chance::{LateChance, SECONDS_PER_WEEK, punctual_by_shift, shifted, sooner, unshifted};
 use merged_runs::MergedRuns;
 use plan_graph::PlanGraph;
 use plan_model::{BackwardOrder, Moment, Network, NoMemory, Query};
 use std::alloc::Global;
 
-/// How long before a promise the moment is from which a network is seen for it, in seconds: a week.
-const SECONDS_PER_WEEK: u64 = 604_800;
+/// A query that is asked for, and a moment by which one promises to arrive: at most a week after its
+/// start.
+#[derive(Clone, Copy)]
+struct Promise<'a> {
+    asked: Asked<'a>,
+    moment: Moment,
+    ghost week: { seconds_per_week ≤ asked.query.start.0 },
+    ghost later: { asked.query.start.0 ≤ moment.0 },
+    ghost soon: { moment.0 ≤ asked.query.start.0 + seconds_per_week },
+}
 
 /// A decision graph with one table for each place, and bounds on its chance of an arrival after the
 /// promised moment.
@@ -65,56 +70,38 @@ fn least_chance_of(
     }
 }
 
-/// The same in the network as it is seen for the query and the promise.
-fn seen_plan(
-    alloc: Global,
-    network: &Network,
-    query: &Query,
-    promise: Moment,
-) -> Result<Option<PunctualPlan>, NoMemory>
-    requires source { query.now.source.0 < length network.now.change }
-    requires target { query.now.target.0 < length network.now.change }
-    requires start { query.now.start.0 ≤ last_start }
-    requires deadline { query.now.start.0 ≤ query.now.deadline.0 }
-    requires week { seconds_per_week ≤ query.now.start.0 }
-    requires later { query.now.start.0 ≤ promise.0 }
-    requires soon { promise.0 ≤ query.now.start.0 + seconds_per_week }
+/// The same in the network as it is seen for a promise.
+fn seen_plan(alloc: Global, promise: &Promise) -> Result<Option<PunctualPlan>, NoMemory>
     ensures { IfOk result (λ found. MatchOption found
-        (IsNoneSafe (seen_for network.now query.now promise.0) (asked_for query.now promise.0))
-        (λ plan. IsLeastChance (seen_for network.now query.now promise.0)
-        (asked_for query.now promise.0) plan.graph plan.chance)) }
+        (IsNoneSafe (seen_for promise.now.asked.problem.now.timetable.network
+        promise.now.asked.query promise.now.moment.0)
+        (asked_for promise.now.asked.query promise.now.moment.0))
+        (λ plan. IsLeastChance (seen_for promise.now.asked.problem.now.timetable.network
+        promise.now.asked.query promise.now.moment.0)
+        (asked_for promise.now.asked.query promise.now.moment.0) plan.graph plan.chance)) }
 {
-    let seen = shifted(alloc, network, query.start, promise)?;
-    let sought = sooner(query, promise.0 - SECONDS_PER_WEEK);
+    let query = &promise.asked.query;
+    let network = &promise.asked.problem.timetable.network;
+    let seen = shifted(alloc, network, query.start, promise.moment)?;
+    let sought = sooner(query, promise.moment.0 - SECONDS_PER_WEEK);
     least_chance_of(alloc, &seen, &sought)
 }
 
 /// The decision graph with the least chance of an arrival after the promised moment; none where no
 /// strategy is safe for the query.
-fn punctual_of(
-    alloc: Global,
-    network: &Network,
-    query: &Query,
-    promise: Moment,
-) -> Result<Option<PunctualPlan>, NoMemory>
-    requires source { query.now.source.0 < length network.now.change }
-    requires target { query.now.target.0 < length network.now.change }
-    requires start { query.now.start.0 ≤ last_start }
-    requires deadline { query.now.start.0 ≤ query.now.deadline.0 }
-    requires week { seconds_per_week ≤ query.now.start.0 }
-    requires later { query.now.start.0 ≤ promise.0 }
-    requires soon { promise.0 ≤ query.now.start.0 + seconds_per_week }
-    ensures { IfOk result (λ found. MatchOption found (IsNoneSafe network.now query.now)
-        (λ plan. IsPunctual network.now query.now promise.0 plan.graph plan.chance
-        × IsSeenLater network.now query.now promise.0 plan.graph plan.chance)) }
+fn punctual_of(alloc: Global, promise: &Promise) -> Result<Option<PunctualPlan>, NoMemory>
+    ensures { IfOk result (λ found. MatchOption found
+        (IsNoneSafe promise.now.asked.problem.now.timetable.network promise.now.asked.query)
+        (λ plan. IsPunctual promise.now.asked.problem.now.timetable.network
+        promise.now.asked.query promise.now.moment.0 plan.graph plan.chance
+        × IsSeenLater promise.now.asked.problem.now.timetable.network
+        promise.now.asked.query promise.now.moment.0 plan.graph plan.chance)) }
 {
-    // That the network is valid is known from its count.
-    let _count = network.count();
     punctual_by_shift();
-    let Some(found) = seen_plan(alloc, network, query, promise)? else {
+    let Some(found) = seen_plan(alloc, promise)? else {
         return Ok(None);
     };
-    let graph = unshifted(alloc, &found.graph, promise.0 - SECONDS_PER_WEEK)?;
+    let graph = unshifted(alloc, &found.graph, promise.moment.0 - SECONDS_PER_WEEK)?;
     Ok(Some(PunctualPlan {
         graph,
         chance: found.chance,
@@ -122,21 +109,15 @@ fn punctual_of(
 }
 
 /// Bounds on the expected arrival of a graph that is tidy and safe.
-fn bounds_of(
-    alloc: Global,
-    problem: &Problem,
-    query: &Query,
-    graph: &PlanGraph,
-) -> Result<Span, NoMemory>
-    requires tidy { IsTidy problem.now.network query.now graph.now }
-    requires safe { IsSafeFor problem.now.network query.now
-        (unfold_plan graph.now problem.now.network query.now) }
-    requires start { query.now.start.0 ≤ last_start }
-    ensures { IfOk result (IsScored problem.now.network query.now
-        (unfold_plan graph.now problem.now.network query.now)) }
+fn bounds_of(alloc: Global, asked: &Asked, graph: &PlanGraph) -> Result<Span, NoMemory>
+    requires tidy { IsTidy asked.now.problem.now.timetable.network asked.now.query graph.now }
+    requires safe { IsSafeFor asked.now.problem.now.timetable.network asked.now.query
+        (unfold_plan graph.now asked.now.problem.now.timetable.network asked.now.query) }
+    ensures { IfOk result (IsScored asked.now.problem.now.timetable.network asked.now.query
+        (unfold_plan graph.now asked.now.problem.now.timetable.network asked.now.query)) }
 {
     fit_is_scored();
-    match score(alloc, graph, &problem.network, query) {
+    match score(alloc, graph, &asked.problem.timetable.network, &asked.query) {
         Ok(bounds) => Ok(bounds),
         Err(ScoreFault::NoMemory) => Err(NoMemory),
         Err(ScoreFault::NoSuchLeg(_) | ScoreFault::Unsafe(..)) => unreachable!(),
@@ -146,28 +127,29 @@ fn bounds_of(
 /// The text of a decision graph with its chance: the row of the promise, and the text of the graph.
 fn punctual_text(
     alloc: Global,
-    problem: &Problem,
-    asked: Asked,
-    promise: Moment,
+    promise: &Promise,
     found: &PunctualPlan,
     bounds: Span,
 ) -> Result<Vec<u8>, NoMemory>
-    requires fit { NamesFit problem.now.names problem.now.network }
-    requires printable { IsPrintable problem.now.network asked.query asked.worst }
-    requires promise { promise.0 ≤ last_printable }
-    requires tidy { IsTidy problem.now.network asked.query found.now.graph }
-    ensures { IfOk result (λ text. IsPunctualText problem.now promise.0 asked.query found.now.graph
-        found.now.chance bounds text.items) }
+    requires { IsTidy promise.now.asked.problem.now.timetable.network promise.now.asked.query
+        found.now.graph }
+    ensures { IfOk result (λ text. IsPunctualText promise.now.asked.problem.now promise.now.moment.0
+        promise.now.asked.query found.now.graph found.now.chance bounds text.items) }
 {
     let head = Head {
-        query: asked.query,
+        query: promise.asked.query,
         bounds,
     };
-    // That the network is valid is known from its count.
-    let _count = problem.network.count();
+    let timetable = &promise.asked.problem.timetable;
     fit_is_printable();
-    let mut text = punctual_row(alloc, promise, found.chance)?;
-    let graph = write(alloc, &found.graph, &head, &problem.network, &problem.names)?;
+    let mut text = punctual_row(alloc, promise.moment, found.chance)?;
+    let graph = write(
+        alloc,
+        &found.graph,
+        &head,
+        &timetable.network,
+        &timetable.names,
+    )?;
     text.extend_from_slice(graph.as_slice())?;
     Ok(text)
 }
@@ -175,25 +157,21 @@ fn punctual_text(
 /// The answer of a decision graph with its chance.
 fn punctual_answer(
     alloc: Global,
-    problem: &Problem,
-    asked: Asked,
-    promise: Moment,
+    promise: &Promise,
     found: PunctualPlan,
     bounds: Span,
 ) -> Result<Answer, NoMemory>
-    requires fit { NamesFit problem.now.names problem.now.network }
-    requires printable { IsPrintable problem.now.network asked.query asked.worst }
-    requires promise { promise.0 ≤ last_printable }
-    requires tidy { IsTidy problem.now.network asked.query found.graph }
-    ensures found { IfOk result (λ a. findings_of a.report
-        ≡ punctual_findings asked.query asked.worst found.graph bounds found.chance) }
-    ensures text { IfOk result (λ a. IsPunctualText problem.now promise.0 asked.query found.graph
-        found.chance bounds a.text.items) }
+    requires { IsTidy promise.now.asked.problem.now.timetable.network promise.now.asked.query
+        found.graph }
+    ensures found { IfOk result (λ a. findings_of a.report ≡ punctual_findings
+        promise.now.asked.query promise.now.asked.worst found.graph bounds found.chance) }
+    ensures text { IfOk result (λ a. IsPunctualText promise.now.asked.problem.now
+        promise.now.moment.0 promise.now.asked.query found.graph found.chance bounds a.text.items) }
 {
-    let text = punctual_text(alloc, problem, asked, promise, &found, bounds)?;
+    let text = punctual_text(alloc, promise, &found, bounds)?;
     let report = Report {
-        query: Some(asked.query),
-        worst: Some(asked.worst),
+        query: Some(promise.asked.query),
+        worst: Some(promise.asked.worst),
         graph: Some(found.graph),
         bounds: Some(bounds),
         chance: Some(found.chance),
@@ -206,27 +184,30 @@ fn punctual_answer(
 pub fn punctual_over(
     alloc: Global,
     problem: &Problem,
-    start: Moment,
-    alpha: u32,
+    start: Start,
+    alpha: Percent,
     promise: Moment,
 ) -> Result<Answer, Fault>
-    requires fit { NamesFit problem.now.names problem.now.network }
-    requires source { problem.now.source.0 < length problem.now.network.change }
-    requires target { problem.now.target.0 < length problem.now.network.change }
-    requires week { seconds_per_week ≤ start.0 }
-    requires start { start.0 ≤ last_start }
-    requires alpha { IsPercentage alpha }
-    requires later { start.0 ≤ promise.0 }
-    requires soon { promise.0 ≤ start.0 + seconds_per_week }
-    ensures answer { IfOk result (λ a. InQuery problem.now start.0 alpha
+    requires later { start.moment.0 ≤ promise.0 }
+    requires soon { promise.0 ≤ start.moment.0 + seconds_per_week }
+    ensures answer { IfOk result (λ a. InQuery problem.now start.moment.0 alpha.value
         (TellsPunctual problem.now promise.0 (findings_of a.report) a.text.items)) }
-    ensures fault { IfErr result (FailsIn problem.now start.0) }
+    ensures fault { IfErr result (FailsIn problem.now start.moment.0) }
 {
-    let (asked, _) = asked_of(alloc, problem, start, alpha)?;
-    let Some(found) = punctual_of(alloc, &problem.network, &asked.query, promise)? else {
+    let (query, worst, _) = asked_of(alloc, problem, start, alpha)?;
+    let asked = Asked {
+        problem,
+        query,
+        worst,
+    };
+    let promise = Promise {
+        asked,
+        moment: promise,
+    };
+    let Some(found) = punctual_of(alloc, &promise)? else {
         unreachable!()
     };
-    let bounds = bounds_of(alloc, problem, &asked.query, &found.graph)?;
-    let answer = punctual_answer(alloc, problem, asked, promise, found, bounds)?;
+    let bounds = bounds_of(alloc, &asked, &found.graph)?;
+    let answer = punctual_answer(alloc, &promise, found, bounds)?;
     Ok(answer)
 }

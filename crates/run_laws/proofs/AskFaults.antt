@@ -141,9 +141,9 @@ module _ (p : Problem) (files : FileMap) (limits : Limits) (start : ℕ) where
 
     one_text_fault : (text : List ℕ) (a b : Fault) → FailsText p start text a → FailsText p start text b → a ≡ b
     one_text_fault text a b (first, is, late) (second, also, after) =
-        let never = never_memory p.network p.names p.source.0 p.target.0 start (table_of text) first late in
-        let neither = never_memory p.network p.names p.source.0 p.target.0 start (table_of text) second after in
-        let one = read_once p.network p.names p.source.0 p.target.0 start text (Err first) (Err second) (inr late) (inr after) (free text first never) (free text second neither) in
+        let never = never_memory p.timetable.network p.timetable.names p.source.0 p.target.0 start (table_of text) first late in
+        let neither = never_memory p.timetable.network p.timetable.names p.source.0 p.target.0 start (table_of text) second after in
+        let one = read_once p.timetable.network p.timetable.names p.source.0 p.target.0 start text (Err first) (Err second) (inr late) (inr after) (free text first never) (free text second neither) in
         let same : first ≡ second = cc in
         is ∙ ap (λ (f : ProofFault). ProofFile f) same ∙ sym also
 
@@ -155,8 +155,8 @@ module _ (p : Problem) (files : FileMap) (limits : Limits) (start : ℕ) where
     text_or_fault : (r : Result (List ℕ) Fault) (text : List ℕ) (q : Query) (proof : LowerBounds) (a : Fault) → r ≡ Ok text → Told text (Ok (q, proof)) → FailsFile p start r a → ⊥
     text_or_fault (Ok other) text q proof a there told (first, is, late) =
         let same : other ≡ text = cc in
-        let never = never_memory p.network p.names p.source.0 p.target.0 start (table_of other) first late in
-        let both = read_once p.network p.names p.source.0 p.target.0 start other (Ok (q, proof)) (Err first) (subst (λ (t : List ℕ). Told t (Ok (q, proof))) (sym same) told) (inr late)
+        let never = never_memory p.timetable.network p.timetable.names p.source.0 p.target.0 start (table_of other) first late in
+        let both = read_once p.timetable.network p.timetable.names p.source.0 p.target.0 start other (Ok (q, proof)) (Err first) (subst (λ (t : List ℕ). Told t (Ok (q, proof))) (sym same) told) (inr late)
         (λ e. cc) (free other first never) in
         cc
     text_or_fault (Err e) text q proof a there told fails = cc
@@ -164,17 +164,17 @@ module _ (p : Problem) (files : FileMap) (limits : Limits) (start : ℕ) where
     of_proof : (P : Query → LowerBounds → Type 0) (a : Fault) → NotRead a → FailsProof (Some files) limits start path p a → InProofFile (Some files) limits start path p P → ⊥
     of_proof P a m fails (q, proof, is, holds) = text_or_fault bytes_read is.text q proof a is.reads is.tells (proof_fault a m fails)
 
-    one_broken : IsValid p.network → (a b : Fault) (q : Query) (proof : LowerBounds) → IsBroken p a q proof → IsBroken p b q proof → a ≡ b
-    one_broken valid a b q proof (c, is, last) (d, also, other) =
-        let same : c.0 ≡ d.0 = one_last p.network valid q proof.values c.0 d.0 last other in
+    one_broken : (a b : Fault) (q : Query) (proof : LowerBounds) → IsBroken p a q proof → IsBroken p b q proof → a ≡ b
+    one_broken a b q proof (c, is, last) (d, also, other) =
+        let same : c.0 ≡ d.0 = one_last p.timetable.network p.timetable.valid q proof.values c.0 d.0 last other in
         let fault : ProofFails c ≡ ProofFails d = λ i. ProofFails (record { 0 = same i }) in
         is ∙ fault ∙ sym also
 
-    one_check_fault : IsValid p.network → (a b : Fault) → NotRead a → NotRead b → FailsCheck (Some files) limits start path p a → FailsCheck (Some files) limits start path p b → a ≡ b
-    one_check_fault valid a b m n (inl is) (inl also) = one_file_fault bytes_read a b (proof_fault a m is) (proof_fault b n also)
-    one_check_fault valid a b m n (inl is) (inr also) = absurd (of_proof (IsBroken p b) a m is also)
-    one_check_fault valid a b m n (inr is) (inl also) = absurd (of_proof (IsBroken p a) b n also is)
-    one_check_fault valid a b m n (inr is) (inr also) = in_proof p files limits start path (IsBroken p a) (IsBroken p b) (a ≡ b) (one_broken valid a b) is also
+    one_check_fault : (a b : Fault) → NotRead a → NotRead b → FailsCheck (Some files) limits start path p a → FailsCheck (Some files) limits start path p b → a ≡ b
+    one_check_fault a b m n (inl is) (inl also) = one_file_fault bytes_read a b (proof_fault a m is) (proof_fault b n also)
+    one_check_fault a b m n (inl is) (inr also) = absurd (of_proof (IsBroken p b) a m is also)
+    one_check_fault a b m n (inr is) (inl also) = absurd (of_proof (IsBroken p a) b n also is)
+    one_check_fault a b m n (inr is) (inr also) = in_proof p files limits start path (IsBroken p a) (IsBroken p b) (a ≡ b) (one_broken a b) is also
 
     held_or_broken : (found : Findings) (text : List ℕ) (a : Fault) (q : Query) (proof : LowerBounds) → IsHeld p found text q proof → IsBroken p a q proof → ⊥
     held_or_broken found text a q proof held (c, is, last) = last.fault (held.accepted c.0 last.there last.board)
@@ -188,17 +188,17 @@ module _ (p : Problem) (files : FileMap) (limits : Limits) (start : ℕ) where
   one_no_safe : (a b : Fault) → IsNoSafe p start a → IsNoSafe p start b → a ≡ b
   one_no_safe a b is also = is.0 ∙ sym also.0
 
-  pub one_ask_fault : IsValid p.network → (ask : AskModel) (a b : Fault) → NotRead a → NotRead b → FailsAsk (Some files) limits start p ask a → FailsAsk (Some files) limits start p ask b → a ≡ b
-  one_ask_fault valid (Safe alpha) a b m n is also = one_no_safe a b is also
-  one_ask_fault valid (Expand alpha) a b m n is also = one_no_safe a b is also
-  one_ask_fault valid (Plan alpha) a b m n is also = one_no_safe a b is also
-  one_ask_fault valid (Replays graph late) a b m n is also = one_replay_fault graph late a b m n is also
-  one_ask_fault valid (Certify alpha) a b m n is also = one_no_safe a b is also
-  one_ask_fault valid (CheckProof proof) a b m n is also = one_check_fault proof valid a b m n is also
-  one_ask_fault valid (CheckGraph graph) a b m n is also = one_score_fault graph a b m n is also
-  one_ask_fault valid (Punctual alpha promise) a b m n is also = one_no_safe a b is also
-  one_ask_fault valid (Departures until last) a b m n is also = is.0 ∙ sym also.0
-  one_ask_fault valid (Latest until) a b m n is also = is.0 ∙ sym also.0
+  pub one_ask_fault : (ask : AskModel) (a b : Fault) → NotRead a → NotRead b → FailsAsk (Some files) limits start p ask a → FailsAsk (Some files) limits start p ask b → a ≡ b
+  one_ask_fault (Safe alpha) a b m n is also = one_no_safe a b is also
+  one_ask_fault (Expand alpha) a b m n is also = one_no_safe a b is also
+  one_ask_fault (Plan alpha) a b m n is also = one_no_safe a b is also
+  one_ask_fault (Replays graph late) a b m n is also = one_replay_fault graph late a b m n is also
+  one_ask_fault (Certify alpha) a b m n is also = one_no_safe a b is also
+  one_ask_fault (CheckProof proof) a b m n is also = one_check_fault proof a b m n is also
+  one_ask_fault (CheckGraph graph) a b m n is also = one_score_fault graph a b m n is also
+  one_ask_fault (Punctual alpha promise) a b m n is also = one_no_safe a b is also
+  one_ask_fault (Departures until last) a b m n is also = is.0 ∙ sym also.0
+  one_ask_fault (Latest until) a b m n is also = is.0 ∙ sym also.0
 
   -- what has an answer has no fault
   pub answered_or_not : (ask : AskModel) (found : Findings) (text : List ℕ) (a : Fault) → NotRead a → AnswersAsk (Some files) limits start p ask found text → FailsAsk (Some files) limits start p ask a → ⊥

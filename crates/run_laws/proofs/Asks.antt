@@ -6,7 +6,7 @@ use Rattle.file_ports.specs.Ports.{FileMap}
 use Rattle.csv_rows.specs.declared.limits.Limits.{Limits}
 use Rattle.plan_model.specs.declared.model.Moment.{Moment}
 use Rattle.plan_model.specs.declared.model.Query.{Query}
-use Rattle.plan_model.specs.Network.{IsValid, count}
+use Rattle.plan_model.specs.Network.{count}
 use Rattle.plan_graph.specs.declared.PlanGraph.{PlanGraph}
 use Rattle.command_line.specs.Jobs.{JobModel, Ask, Sample, AskModel, Safe, Expand, Plan, Replay, Certify, CheckProof, CheckGraph, Punctual, Departures, Latest}
 use Rattle.journey_model.specs.declared.problem.Problem.{Problem}
@@ -35,25 +35,25 @@ module _ (found others : Findings) (text other : List ℕ) where
   abbrev One : Type 0
   One = IsOneAnswer found others text other
 
-  one_ask : (files : FileMap) (limits : Limits) (start : ℕ) (p : Problem) → IsValid p.network → (a : AskModel) → AnswersAsk (Some files) limits start p a found text
+  one_ask : (files : FileMap) (limits : Limits) (start : ℕ) (p : Problem) → (a : AskModel) → AnswersAsk (Some files) limits start p a found text
       → AnswersAsk (Some files) limits start p a others other → One
-  one_ask files limits start p valid (Safe alpha) = one_safe_answer p found others text other start alpha
-  one_ask files limits start p valid (Expand alpha) = one_expanded_answer p found others text other start alpha
-  one_ask files limits start p valid (Plan alpha) = one_plan_answer p found others text other start alpha
-  one_ask files limits start p valid (Replay graph late) = one_trip_answer p found others text other files limits start graph late
-  one_ask files limits start p valid (Certify alpha) = one_certificate_answer p found others text other valid start alpha
-  one_ask files limits start p valid (CheckProof proof) = one_check_answer p found others text other files limits start proof
-  one_ask files limits start p valid (CheckGraph graph) = one_score_answer p found others text other files limits start graph
-  one_ask files limits start p valid (Punctual alpha promise) = one_punctual_answer p found others text other promise start alpha
-  one_ask files limits start p valid (Departures until last) = one_departures_answer p (query_until p start until) last found others text other
-  one_ask files limits start p valid (Latest until) = one_latest_answer p found others text other (query_until p start until)
+  one_ask files limits start p (Safe alpha) = one_safe_answer p found others text other start alpha
+  one_ask files limits start p (Expand alpha) = one_expanded_answer p found others text other start alpha
+  one_ask files limits start p (Plan alpha) = one_plan_answer p found others text other start alpha
+  one_ask files limits start p (Replay graph late) = one_trip_answer p found others text other files limits start graph late
+  one_ask files limits start p (Certify alpha) = one_certificate_answer p found others text other start alpha
+  one_ask files limits start p (CheckProof proof) = one_check_answer p found others text other files limits start proof
+  one_ask files limits start p (CheckGraph graph) = one_score_answer p found others text other files limits start graph
+  one_ask files limits start p (Punctual alpha promise) = one_punctual_answer p found others text other promise start alpha
+  one_ask files limits start p (Departures until last) = one_departures_answer p (query_until p start until) last found others text other
+  one_ask files limits start p (Latest until) = one_latest_answer p found others text other (query_until p start until)
 
   one_sample_told : (size : ℕ) (p : Problem) (q : Query) (w : Moment) → TellsSampled size p found text q w → TellsSampled size p others other q w → One
   one_sample_told size p q w (graph, bounds, is, plan, text_is) (graphs, spans, is_other, plan_other, text_other) =
-      let both = one_planned p.network q graph graphs bounds spans plan plan_other in
+      let both = one_planned p.timetable.network q graph graphs bounds spans plan plan_other in
       record {
-        found = is ∙ ap₂ (λ (g : PlanGraph) (b : Interval). sample_findings q w g b (count p.network)) both.0 both.1 ∙ sym is_other;
-        text_is = text_is ∙ ap₂ (λ (g : PlanGraph) (b : Interval). sample_text size (count p.network) (leg_count g) b) both.0 both.1 ∙ sym text_other;
+        found = is ∙ ap₂ (λ (g : PlanGraph) (b : Interval). sample_findings q w g b (count p.timetable.network)) both.0 both.1 ∙ sym is_other;
+        text_is = text_is ∙ ap₂ (λ (g : PlanGraph) (b : Interval). sample_text size (count p.timetable.network) (leg_count g) b) both.0 both.1 ∙ sym text_other;
       }
 
   one_sample : (size : ℕ) (p : Problem) → IsSampled size p found text → IsSampled size p others other → One
@@ -62,10 +62,10 @@ module _ (found others : Findings) (text other : List ℕ) where
 
   module _ (one_problem : HasOneProblem) where
     one_job : (files : FileMap) (limits : Limits) (job : JobModel) → AnswersJob (Some files) limits job found text → AnswersJob (Some files) limits job others other → One
-    one_job files limits (Ask j a) (p, valid, is, answers) (q, valid_other, also, told) =
-        one_ask files limits j.start p valid.valid a answers
+    one_job files limits (Ask j a) (p, has, is, answers) (q, has_other, also, told) =
+        one_ask files limits j.start p a answers
         (subst (λ (r : Problem). AnswersAsk (Some files) limits j.start r a others other) (one_problem limits files j q p also is) told)
-    one_job files limits (Sample size) (folder, same, (p, valid, is, answers)) (other_folder, same_other, (q, valid_other, also, told)) =
+    one_job files limits (Sample size) (folder, same, (p, has, is, answers)) (other_folder, same_other, (q, has_other, also, told)) =
         let here = same_feed_problem limits other_folder folder (λ path. same_other path ∙ sym (same path)) _ _ sample_journey q also in
         one_sample size p answers (subst (λ (r : Problem). IsSampled size r others other) (one_problem limits folder sample_journey q p here is) told)
 

@@ -4,7 +4,6 @@ use Rattle.file_ports.specs.Ports.{FileMap}
 use Rattle.csv_rows.specs.declared.limits.Limits.{Limits}
 use Rattle.plan_model.specs.declared.model.Moment.{Moment}
 use Rattle.plan_model.specs.declared.model.Query.{Query}
-use Rattle.plan_model.specs.Network.{IsValid}
 use Rattle.plan_model.specs.Strategy.{IsBoardableAtStart}
 use Rattle.lower_proof.specs.declared.LowerBounds.{LowerBounds}
 use Rattle.lower_proof.specs.CertificateTexts.{proof_text}
@@ -29,25 +28,25 @@ module _ (p : Problem) (found others : Findings) (text other : List ℕ) where
   abbrev One : Type 0
   One = IsOneAnswer found others text other
 
-  one_certified : IsValid p.network → (q : Query) (w : Moment) → TellsCertificate p found text q w → TellsCertificate p others other q w → One
-  one_certified valid q w tells told =
-      let same : tells.proof.values ≡ told.proof.values = one_tight p.network valid q tells.proof.values told.proof.values tells.tight told.tight in
+  one_certified : (q : Query) (w : Moment) → TellsCertificate p found text q w → TellsCertificate p others other q w → One
+  one_certified q w tells told =
+      let same : tells.proof.values ≡ told.proof.values = one_tight p.timetable.network p.timetable.valid q tells.proof.values told.proof.values tells.tight told.tight in
       record {
         found = tells.found_is ∙ ap (λ (values : List (Option ℕ)). certify_findings q w (bounds_with values)) same ∙ sym told.found_is;
-        text_is = tells.text_is ∙ ap (proof_text p.network p.names q) same ∙ sym told.text_is;
+        text_is = tells.text_is ∙ ap (proof_text p.timetable.network p.timetable.names q) same ∙ sym told.text_is;
       }
 
-  pub one_certificate_answer : IsValid p.network → (start alpha : ℕ) → InQuery p start alpha (TellsCertificate p found text)
+  pub one_certificate_answer : (start alpha : ℕ) → InQuery p start alpha (TellsCertificate p found text)
       → InQuery p start alpha (TellsCertificate p others other) → One
-  one_certificate_answer valid start alpha (q, w, is, tells) (r, v, also, told) =
-      one_certified valid q w tells (in_one_query p start alpha (TellsCertificate p others other) q r w v is also told)
+  one_certificate_answer start alpha (q, w, is, tells) (r, v, also, told) =
+      one_certified q w tells (in_one_query p start alpha (TellsCertificate p others other) q r w v is also told)
 
   one_held : (q : Query) (proof : LowerBounds) → IsHeld p found text q proof → IsHeld p others other q proof → One
   one_held q proof tells told =
-      let same = IsLeast-unique p.network q proof.values (IsBoardableAtStart p.network q.source.0 q.start.0) q.source.0 q.start.0 tells.least told.least tells.least_is told.least_is in
+      let same = IsLeast-unique p.timetable.network q proof.values (IsBoardableAtStart p.timetable.network q.source.0 q.start.0) q.source.0 q.start.0 tells.least told.least tells.least_is told.least_is in
       record {
         found = tells.found_is ∙ ap (check_findings q proof) same ∙ sym told.found_is;
-        text_is = tells.text_is ∙ ap (holds_text (place_name p.names p.source.0) (place_name p.names p.target.0) q) same ∙ sym told.text_is;
+        text_is = tells.text_is ∙ ap (holds_text (place_name p.timetable.names p.source.0) (place_name p.timetable.names p.target.0) q) same ∙ sym told.text_is;
       }
 
   pub one_check_answer : (files : FileMap) (limits : Limits) (start : ℕ) (path : List ℕ) → InProofFile (Some files) limits start path p (IsHeld p found text)

@@ -54,16 +54,16 @@ printed_certificate limits files start alpha p found text path status (q, worst,
     back : (query ≡ q) × (proof.values ≡ certified.proof.values)
     back = certified.reads_back (Ok (query, proof)) (rw (asked.source, asked.target, asked.start_is) told)
 
-    accepted : IsAccepted p.network query proof.values
+    accepted : IsAccepted p.timetable.network query proof.values
     accepted = rw (back.0, back.1) certified.best.accepted
 
-    by_verdict : EndsByVerdict p.network query proof.values status → status ≡ 0
+    by_verdict : EndsByVerdict p.timetable.network query proof.values status → status ≡ 0
     by_verdict (inl (good, zero)) = zero
     by_verdict (inr (connection, fault, late)) = absurd (fault.fault (accepted connection fault.there fault.board))
 printed_certificate limits files start alpha p found text path status (q, worst, asked, certified) there small (inr (fault, fails, is)) =
     let bytes = bytes_there limits.bytes files path text there small in
     let (first, is_first, late) = subst (λ (r : Result (List ℕ) Fault). FailsFile p start r fault) bytes fails in
-    let never = never_memory p.network p.names p.source.0 p.target.0 start (table_of text) first late in
+    let never = never_memory p.timetable.network p.timetable.names p.source.0 p.target.0 start (table_of text) first late in
     absurd (never (certified.reads_back (Err first) (inr (rw (asked.source, asked.target, asked.start_is) late))))
 
 -- ---- the value of the certificate, and the bounds of a plan

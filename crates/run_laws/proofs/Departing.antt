@@ -10,7 +10,7 @@ use Rattle.journey_model.specs.declared.problem.Problem.{Problem}
 use Rattle.meat_engine.specs.Ends.{EndsByDepartures, EndsByLatest, HasLater}
 
 later_is_now : (p : Problem) (query : Query) → HasLater p query → HasSafeFor p query
-later_is_now p query (moment, tree, late, safe) = safe_sooner p.network query.source.0 query query.start.0 moment tree late safe
+later_is_now p query (moment, tree, late, safe) = safe_sooner p.timetable.network query.source.0 query query.start.0 moment tree late safe
 
 now_is_later : (p : Problem) (query : Query) → HasSafeFor p query → HasLater p query
 now_is_later p query (tree, safe) = (query.start.0, tree, omega arith, safe)
@@ -21,11 +21,11 @@ alike p query latest departures (inr one) (inr two) = one.0 ∙ sym two.0
 alike p query latest departures (inl one) (inr two) = absurd (two.1 (later_is_now p query one.1))
 alike p query latest departures (inr one) (inl two) = absurd (one.1 (now_is_later p query two.1))
 
-pub by_worst : (p : Problem) (start until : ℕ) (w : Moment) (status : ℕ) → IsLeastWorst p.network p.source.0 p.target.0 start (Some w) → EndsByLatest p (query_until p start until) status
+pub by_worst : (p : Problem) (start until : ℕ) (w : Moment) (status : ℕ) → IsLeastWorst p.timetable.network p.source.0 p.target.0 start (Some w) → EndsByLatest p (query_until p start until) status
     → (w.0 ≤ until → status ≡ 0) × (until < w.0 → status ≡ 1)
 by_worst p start until w status least (inl (zero, later)) =
     let (tree, safe) = later_is_now p (query_until p start until) later in
-    let r = reaches_from_safe p.network p.source.0 p.target.0 start until tree safe in
+    let r = reaches_from_safe p.timetable.network p.source.0 p.target.0 start until tree safe in
     (λ early. zero, λ late. absurd (omega (arith, least.1 tree r.0, r.1, late)))
 by_worst p start until w status least (inr (one, never)) =
-    (λ early. absurd (never (now_is_later p (query_until p start until) (safe_exists p.network p.source.0 p.target.0 start until w least early))), λ late. one)
+    (λ early. absurd (never (now_is_later p (query_until p start until) (safe_exists p.timetable.network p.source.0 p.target.0 start until w least early))), λ late. one)

@@ -46,8 +46,8 @@ one_look n q a b is other next =
 module _ (p : Problem) (q : Query) (last : ℕ) where
   one_by_rules : (xs ys : List DepartureRow) → AreByRules p q last xs → AreByRules p q last ys → xs ≡ ys
   one_by_rules xs ys is other =
-      let n = extended p.network q.source.0 in
-      let asked = added_query p.network q in
+      let n = extended p.timetable.network q.source.0 in
+      let asked = added_query p.timetable.network q in
       let same = one_look n asked is.found other.found is.ruled other.ruled in
       one_looked (row_found n asked is.found) last q.start.0 xs ys is.looked
       (subst (λ (look : ℕ → Option DepartureRow). AreLooked look last q.start.0 ys) (λ i next. sym (same next) i) other.looked)
@@ -64,5 +64,5 @@ module _ (p : Problem) (q : Query) (last : ℕ) where
       let same = one_departures rows more departures departures_other in
       record {
         found = is ∙ ap (departures_findings q) same ∙ sym is_other;
-        text_is = text_is ∙ ap (departures_text p.network p.names q last) same ∙ sym text_other;
+        text_is = text_is ∙ ap (departures_text p.timetable.network p.timetable.names q last) same ∙ sym text_other;
       }

@@ -69,19 +69,19 @@ module _ (limits : Limits) (files : FileMap) where
   Fails j a known fault = FailsJourney (Some files) limits j a known fault
 
   one_journey_fault : (j : JourneyModel) (ask : AskModel) (known other : Option NamedParts) (a b : Fault) → IsCalm a → IsCalm b → Fails j ask known a → Fails j ask other b → IsOneFault known other a b
-  one_journey_fault j ask known other a b m n (inl (p, valid, is, (named, fails))) (inl (q, sound, also, (called, misses))) =
+  one_journey_fault j ask known other a b m n (inl (p, has, is, (named, fails))) (inl (q, has_other, also, (called, misses))) =
       let one = one_problem limits files j q p also is in
-      let same = one_ask_fault p files limits j.start valid.valid ask a b m.read n.read fails (subst (λ (r : Problem). FailsAsk (Some files) limits j.start r ask b) one misses) in
+      let same = one_ask_fault p files limits j.start ask a b m.read n.read fails (subst (λ (r : Problem). FailsAsk (Some files) limits j.start r ask b) one misses) in
       with_line known other a b same (ap (λ (k : Option NamedParts). line_of k a) (one_known p q known other named called (sym one)))
-  one_journey_fault j ask known other a b m n (inl (p, valid, is, fails)) (inr early) = absurd (no_fault limits files j p b is n.read n.memory early.1)
-  one_journey_fault j ask known other a b m n (inr early) (inl (q, sound, also, misses)) = absurd (no_fault limits files j q a also m.read m.memory early.1)
+  one_journey_fault j ask known other a b m n (inl (p, has, is, fails)) (inr early) = absurd (no_fault limits files j p b is n.read n.memory early.1)
+  one_journey_fault j ask known other a b m n (inr early) (inl (q, has_other, also, misses)) = absurd (no_fault limits files j q a also m.read m.memory early.1)
   one_journey_fault j ask known other a b m n (inr early) (inr soon) =
       with_line known other a b (one_first_fault limits files j a b m.read n.read m.memory n.memory early.1 soon.1) (line_before known other a early.0.stage)
 
   -- what is refused over a made timetable is so over other files that tell the same bytes
   made_fault : (other : FileMap) (known : Option NamedParts) (fault : Fault) → ((path : List ℕ) → file_at other path ≡ file_at files path)
       → FailsJourney (Some other) limits sample_journey (Plan sample_alpha) known fault → Fails sample_journey (Plan sample_alpha) known fault
-  made_fault other known fault same (inl (p, valid, is, fails)) = inl (p, valid, same_feed_problem limits other files same _ _ sample_journey p is, fails)
+  made_fault other known fault same (inl (p, has, is, fails)) = inl (p, has, same_feed_problem limits other files same _ _ sample_journey p is, fails)
   made_fault other known fault same (inr early) = inr (early.0, λ some. same_feed_fault limits other files same _ 24 sample_journey fault (early.1 some))
 
 module _ (limits : Limits) (files : FileMap) where
@@ -109,15 +109,15 @@ module _ (limits : Limits) (files : FileMap) where
 
   journey_answered : (j : JourneyModel) (ask : AskModel) (found : Findings) (text : List ℕ) (known : Option NamedParts) (a : Fault) → IsCalm a
       → AnswersJob (Some files) limits (Ask j ask) found text → FailsJourney (Some files) limits j ask known a → ⊥
-  journey_answered j ask found text known a m (p, valid, is, answers) (inl (q, sound, also, (called, fails))) =
+  journey_answered j ask found text known a m (p, has, is, answers) (inl (q, has_other, also, (called, fails))) =
       answered_or_not p files limits j.start ask found text a m.read answers
       (subst (λ (r : Problem). FailsAsk (Some files) limits j.start r ask a) (one_problem limits files j q p also is) fails)
-  journey_answered j ask found text known a m (p, valid, is, answers) (inr early) = no_fault limits files j p a is m.read m.memory early.1
+  journey_answered j ask found text known a m (p, has, is, answers) (inr early) = no_fault limits files j p a is m.read m.memory early.1
 
   job_answered : (job : JobModel) (found : Findings) (text : List ℕ) (known : Option NamedParts) (a : Fault) → IsCalm a → AnswersJob (Some files) limits job found text
       → FailsJob (Some files) limits job known a → ⊥
   job_answered (Ask j ask) found text known a m answers fails = journey_answered j ask found text known a m answers fails
-  job_answered (Sample size) found text known a m (folder, same, (p, valid, is, (q, w, asked, tells))) (read, (made, alike, fails)) =
+  job_answered (Sample size) found text known a m (folder, same, (p, has, is, (q, w, asked, tells))) (read, (made, alike, fails)) =
       sampled (made_fault limits folder made known a (λ path. alike path ∙ sym (same path)) fails)
     where
       sampled : FailsJourney (Some folder) limits sample_journey (Plan sample_alpha) known a → ⊥

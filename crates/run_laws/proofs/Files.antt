@@ -42,7 +42,7 @@ module _ (p : Problem) (found others : Findings) (text other : List ℕ) where
       let same = one_greatest (SafeOf p q) q.start.0 moment moments greatest greatest_other in
       record {
         found = is ∙ ap (latest_findings q) same ∙ sym is_other;
-        text_is = text_is ∙ ap (latest_text (place_name p.names q.source.0) (place_name p.names q.target.0) q) same ∙ sym text_other;
+        text_is = text_is ∙ ap (latest_text (place_name p.timetable.names q.source.0) (place_name p.timetable.names q.target.0) q) same ∙ sym text_other;
       }
 
   one_trip : (late : List ℕ) (head : Head) (graph : PlanGraph) → IsTripTold p late found text head graph → IsTripTold p late others other head graph → One
@@ -51,7 +51,7 @@ module _ (p : Problem) (found others : Findings) (text other : List ℕ) where
       let same : tells.trace ≡ told.trace = cc in
       record {
         found = tells.found_is ∙ ap (replay_findings head.query graph) same ∙ sym told.found_is;
-        text_is = tells.text_is ∙ ap (trace_text p.network p.names p.target.0) same ∙ sym told.text_is;
+        text_is = tells.text_is ∙ ap (trace_text p.timetable.network p.timetable.names p.target.0) same ∙ sym told.text_is;
       }
 
   one_enclosed : (head : Head) (graph : PlanGraph) → IsEnclosed p found text head graph → IsEnclosed p others other head graph → One
@@ -59,7 +59,7 @@ module _ (p : Problem) (found others : Findings) (text other : List ℕ) where
       let same : tells.bounds ≡ told.bounds = tells.scored.means ∙ sym told.scored.means in
       record {
         found = tells.found_is ∙ ap (score_findings head.query graph) same ∙ sym told.found_is;
-        text_is = tells.text_is ∙ ap (encloses_text (place_name p.names p.source.0) (place_name p.names p.target.0) head.query) same ∙ sym told.text_is;
+        text_is = tells.text_is ∙ ap (encloses_text (place_name p.timetable.names p.source.0) (place_name p.timetable.names p.target.0) head.query) same ∙ sym told.text_is;
       }
 
   module _ (files : FileMap) (limits : Limits) (start : ℕ) (path : List ℕ) where

@@ -42,7 +42,7 @@ module _ (limits : Limits) (files : FileMap) (start : ℕ) (p : Problem) (path :
 
   -- the text of a head and a graph is read as these
   read_again : (q : Query) (bounds : Interval) (graph : PlanGraph) (text : List ℕ) → q.source.0 ≡ p.source.0 → q.target.0 ≡ p.target.0 → q.start.0 ≡ start
-      → IsReadAs p.network p.names (head_of q bounds) graph text → file_at files path ≡ Some text → length text ≤ limits.bytes → read_file ≡ Ok (head_of q bounds, graph)
+      → IsReadAs p.timetable.network p.timetable.names (head_of q bounds) graph text → file_at files path ≡ Some text → length text ≤ limits.bytes → read_file ≡ Ok (head_of q bounds, graph)
   read_again q bounds graph text source target begin reads there small =
       let few : nat_lt limits.bytes (length text) ≡ false = grind (arith, nat_tests) in
       let s : p.source.0 ≡ q.source.0 = sym source in
@@ -50,12 +50,12 @@ module _ (limits : Limits) (files : FileMap) (start : ℕ) (p : Problem) (path :
       let b : start ≡ q.start.0 = sym begin in
       rw (there, few, s, t, b, reads) refl
 
-  accepted : (q : Query) (bounds : Interval) (graph : PlanGraph) (status : ℕ) → read_file ≡ Ok (head_of q bounds, graph) → IsSafeFor p.network q (unfold_plan graph p.network q)
+  accepted : (q : Query) (bounds : Interval) (graph : PlanGraph) (status : ℕ) → read_file ≡ Ok (head_of q bounds, graph) → IsSafeFor p.timetable.network q (unfold_plan graph p.timetable.network q)
       → EndsByScore limits files start path p status → status ≡ 0
   accepted q bounds graph status read safe (inl (head, other, is, inl (zero, ok))) = zero
   accepted q bounds graph status read safe (inl (head, other, is, inr (late, unsafe))) =
       let pair = ok_is (head, other) (head_of q bounds, graph) read_file is read in
-      absurd (unsafe (subst (λ (w : Head × PlanGraph). IsSafeFor p.network w.0.query (unfold_plan w.1 p.network w.0.query)) (sym pair) safe))
+      absurd (unsafe (subst (λ (w : Head × PlanGraph). IsSafeFor p.timetable.network w.0.query (unfold_plan w.1 p.timetable.network w.0.query)) (sym pair) safe))
   accepted q bounds graph status read safe (inr (fault, is, told)) =
       absurd (ok_no_err (head_of q bounds, graph) fault read_file is read)
 
@@ -80,17 +80,17 @@ pub never_stuck : (limits : Limits) (files : FileMap) (start alpha : ℕ) (p : P
 never_stuck limits files start alpha p found text path late (q, worst, asked, (graph, bounds, is, planned, told, reads)) there small head other read =
     let again = read_again limits files start p path q bounds graph text asked.source asked.target asked.start_is reads there small in
     let pair = ok_is (head, other) (head_of q bounds, graph) (graph_in limits p start None (file_at files path)) read again in
-    let trip = walk p.network (unfold_plan graph p.network q) late [] in
+    let trip = walk p.timetable.network (unfold_plan graph p.timetable.network q) late [] in
     subst (λ (w : Head × PlanGraph). IsSafeAnswer w.0.query.deadline.0 (trip_by p w.0 w.1 late)) (sym pair)
-    (safe_answer p.network q (unfold_plan graph p.network q) late trip (is_own trip) planned.best.safe)
+    (safe_answer p.timetable.network q (unfold_plan graph p.timetable.network q) late trip (is_own trip) planned.best.safe)
 
 -- and whatever delays come, there is a trip by it
 pub always_arrives : (limits : Limits) (files : FileMap) (start alpha : ℕ) (p : Problem) (found : Findings) (text path : List ℕ) (late : ℕ → ℕ)
-    → InQuery p start alpha (TellsPlanned p found text) → file_at files path ≡ Some text → length text ≤ limits.bytes → ArePossible p.network late
+    → InQuery p start alpha (TellsPlanned p found text) → file_at files path ≡ Some text → length text ≤ limits.bytes → ArePossible p.timetable.network late
     → ArrivesByFile limits files start path p late
 always_arrives limits files start alpha p found text path late (q, worst, asked, (graph, bounds, is, planned, told, reads)) there small possible =
     let again = read_again limits files start p path q bounds graph text asked.source asked.target asked.start_is reads there small in
-    let own = arrives p.network q (unfold_plan graph p.network q) late planned.best.safe possible in
+    let own = arrives p.timetable.network q (unfold_plan graph p.timetable.network q) late planned.best.safe possible in
     record {
       head = head_of q bounds;
       graph = graph;
@@ -105,7 +105,7 @@ always_arrives limits files start alpha p found text path late (q, worst, asked,
     no_fault : (r : Result Trace ReplayFault) (trace : Trace) (e : ReplayFault) → r ≡ Ok trace → r ≡ Err e → ⊥
     no_fault r trace e x y = absurd (cc)
 
-    ends_well : read ≡ Ok (head_of q bounds, graph) → (own : Arrives p.network q.deadline.0 (unfold_plan graph p.network q) late) → (status : ℕ)
+    ends_well : read ≡ Ok (head_of q bounds, graph) → (own : Arrives p.timetable.network q.deadline.0 (unfold_plan graph p.timetable.network q) late) → (status : ℕ)
         → EndsByGraphFile limits files start path own.delays p status → status ≡ 0
     ends_well again own status (inl (head, other, at, inl (trace, trip, zero))) = zero
     ends_well again own status (inl (head, other, at, inr (stop, trip, eleven))) =
@@ -122,7 +122,7 @@ keeps_upper limits files start alpha p found other text path line (q, worst, ask
     let again = read_again limits files start p path q bounds graph text asked.source asked.target asked.start_is reads there small in
     let pair = ok_is (head, read) (head_of q bounds, graph) (graph_in limits p start None (file_at files path)) in_file.reads again in
     let own : IsEnclosed p other line (head_of q bounds) graph = subst (λ (w : Head × PlanGraph). IsEnclosed p other line w.0 w.1) pair enclosed in
-    let both = bounds_of_graph p.network q (unfold_plan graph p.network q) bounds planned.best in
+    let both = bounds_of_graph p.timetable.network q (unfold_plan graph p.timetable.network q) bounds planned.best in
     let low = ap (λ (b : Interval). b.lo) own.scored.means in
     record {
       told = bounds;

@@ -39,9 +39,9 @@ one_seen n q promise a b s t is other =
 module _ (p : Problem) (found others : Findings) (text other : List ℕ) (promise : ℕ) where
   one_told : (q : Query) (w : Moment) → TellsPunctual p promise found text q w → TellsPunctual p promise others other q w → IsOneAnswer found others text other
   one_told q w (graph, chance, bounds, is, least, seen, scored, own) (graphs, chances, spans, is_other, least_other, seen_other, scored_other, own_other) =
-      let both = one_seen p.network q promise graph graphs chance chances seen seen_other in
-      let same : bounds ≡ spans = scored.means ∙ ap (λ (g : PlanGraph). span_of p.network (unfold_plan g p.network q)) both.0 ∙ sym scored_other.means in
-      let text_of : PlanGraph → Interval → List ℕ = λ g b. graph_text p.network p.names (head_of q b) g in
+      let both = one_seen p.timetable.network q promise graph graphs chance chances seen seen_other in
+      let same : bounds ≡ spans = scored.means ∙ ap (λ (g : PlanGraph). span_of p.timetable.network (unfold_plan g p.timetable.network q)) both.0 ∙ sym scored_other.means in
+      let text_of : PlanGraph → Interval → List ℕ = λ g b. graph_text p.timetable.network p.timetable.names (head_of q b) g in
       record {
         found = is ∙ ap₂ (λ (g : PlanGraph) (b : Interval). punctual_findings q w g b chance) both.0 same ∙ ap (punctual_findings q w graphs spans) both.1 ∙ sym is_other;
         text_is = own.rows ∙ ap₂ (λ (c : Interval) (rest : List ℕ). punctual_row promise c ++ rest) both.1 (ap₂ text_of both.0 same) ∙ sym own_other.rows;

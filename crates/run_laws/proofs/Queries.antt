@@ -13,14 +13,14 @@ query_of source target start deadline = record { source = record { 0 = source };
 
 module _ (p : Problem) (start alpha : ℕ) where
   abbrev IsWorstOf : Moment → Type 0
-  IsWorstOf w = IsLeastWorst p.network p.source.0 p.target.0 start (Some w)
+  IsWorstOf w = IsLeastWorst p.timetable.network p.source.0 p.target.0 start (Some w)
 
   worst_is : (q : Query) (w : Moment) → IsQueryOf p start alpha q w → IsWorstOf w
   worst_is q w is =
       let least = is.least in
-      let from : IsLeastWorst p.network p.source.0 q.target.0 q.start.0 (Some w) = subst (λ (place : ℕ). IsLeastWorst p.network place q.target.0 q.start.0 (Some w)) is.source least in
-      let to : IsLeastWorst p.network p.source.0 p.target.0 q.start.0 (Some w) = subst (λ (place : ℕ). IsLeastWorst p.network p.source.0 place q.start.0 (Some w)) is.target from in
-      subst (λ (x : ℕ). IsLeastWorst p.network p.source.0 p.target.0 x (Some w)) is.start_is to
+      let from : IsLeastWorst p.timetable.network p.source.0 q.target.0 q.start.0 (Some w) = subst (λ (place : ℕ). IsLeastWorst p.timetable.network place q.target.0 q.start.0 (Some w)) is.source least in
+      let to : IsLeastWorst p.timetable.network p.source.0 p.target.0 q.start.0 (Some w) = subst (λ (place : ℕ). IsLeastWorst p.timetable.network p.source.0 place q.start.0 (Some w)) is.target from in
+      subst (λ (x : ℕ). IsLeastWorst p.timetable.network p.source.0 p.target.0 x (Some w)) is.start_is to
 
   query_is : (q : Query) (w : Moment) → IsQueryOf p start alpha q w → q ≡ query_of p.source.0 p.target.0 start (deadline_of start w.0 alpha)
   query_is q w is =
@@ -29,7 +29,7 @@ module _ (p : Problem) (start alpha : ℕ) where
 
   pub one_worst : (q r : Query) (w v : Moment) → IsQueryOf p start alpha q w → IsQueryOf p start alpha r v → w ≡ v
   one_worst q r w v is other =
-      let same = IsLeast-unique Tree (Reaches p.network p.source.0 p.target.0 start) worst (Some w) (Some v) (worst_is q w is) (worst_is r v other) in
+      let same = IsLeast-unique Tree (Reaches p.timetable.network p.source.0 p.target.0 start) worst (Some w) (Some v) (worst_is q w is) (worst_is r v other) in
       cc
 
   pub one_query : (q r : Query) (w v : Moment) → IsQueryOf p start alpha q w → IsQueryOf p start alpha r v → q ≡ r
@@ -44,5 +44,5 @@ module _ (p : Problem) (start alpha : ℕ) where
   -- where there is a query some strategy always reaches the target
   pub not_none : (q : Query) (w : Moment) → IsQueryOf p start alpha q w → HasNoSafe p start → ⊥
   not_none q w is none =
-      let same = IsLeast-unique Tree (Reaches p.network p.source.0 p.target.0 start) worst (Some w) None (worst_is q w is) none in
+      let same = IsLeast-unique Tree (Reaches p.timetable.network p.source.0 p.target.0 start) worst (Some w) None (worst_is q w is) none in
       absurd (cc)

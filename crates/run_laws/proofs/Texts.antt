@@ -22,18 +22,18 @@ module _ (p : Problem) (found others : Findings) (text other : List ℕ) where
 
   one_plan_told : (q : Query) (w : Moment) → TellsPlanned p found text q w → TellsPlanned p others other q w → One
   one_plan_told q w (graph, bounds, is, plan, text_is, reads) (graphs, spans, is_other, plan_other, text_other, reads_other) =
-      let both = one_planned p.network q graph graphs bounds spans plan plan_other in
+      let both = one_planned p.timetable.network q graph graphs bounds spans plan plan_other in
       record {
         found = is ∙ ap₂ (plan_findings q w) both.0 both.1 ∙ sym is_other;
-        text_is = text_is ∙ ap₂ (λ (b : Interval) (g : PlanGraph). graph_text p.network p.names (head_of q b) g) both.1 both.0 ∙ sym text_other;
+        text_is = text_is ∙ ap₂ (λ (b : Interval) (g : PlanGraph). graph_text p.timetable.network p.timetable.names (head_of q b) g) both.1 both.0 ∙ sym text_other;
       }
 
   one_expanded_told : (q : Query) (w : Moment) → TellsExpanded p found text q w → TellsExpanded p others other q w → One
   one_expanded_told q w (graph, bounds, is, plan, text_is) (graphs, spans, is_other, plan_other, text_other) =
-      let both = one_expanded p.network q graph graphs bounds spans plan plan_other in
+      let both = one_expanded p.timetable.network q graph graphs bounds spans plan plan_other in
       record {
         found = is ∙ ap₂ (expand_findings q w) both.0 both.1 ∙ sym is_other;
-        text_is = text_is ∙ ap₂ (λ (b : Interval) (g : ExpandedGraph). expanded_text p.network p.names (head_of q b) g) both.1 both.0 ∙ sym text_other;
+        text_is = text_is ∙ ap₂ (λ (b : Interval) (g : ExpandedGraph). expanded_text p.timetable.network p.timetable.names (head_of q b) g) both.1 both.0 ∙ sym text_other;
       }
 
   module _ (start alpha : ℕ) where

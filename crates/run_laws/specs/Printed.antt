@@ -18,7 +18,7 @@ pub record ArrivesByFile (limits : Limits) (files : FileMap) (start : ℕ) (path
   pub head : Head
   pub graph : PlanGraph
   pub reads : graph_in limits p start None (file_at files path) ≡ Ok (head, graph)
-  pub trip : Arrives p.network head.query.deadline.0 (unfold_plan graph p.network head.query) late
+  pub trip : Arrives p.timetable.network head.query.deadline.0 (unfold_plan graph p.timetable.network head.query) late
   pub ends : (status : ℕ) → EndsByGraphFile limits files start path trip.delays p status → status ≡ 0
 
 -- what a check finds has the upper bound of what was planned, and no lesser lower one

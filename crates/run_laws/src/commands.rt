@@ -49,7 +49,7 @@ pub fn a_printed_plan_arrives()
     ensures { (limits : Most) (files : FileMap) (start alpha : ℕ) (p : Parts) (found : Findings) (text path : Bytes ℕ)
         (late : ℕ → ℕ) →
         InQuery p start alpha (TellsPlanned p found text) → file_at files path ≡ Some text → length text ≤ limits.bytes →
-        ArePossible p.network late → ArrivesByFile limits files start path p late }
+        ArePossible p.timetable.network late → ArrivesByFile limits files start path p late }
 {}
 
 /// `check` of this graph finds the upper bound that `plan` told, and no lesser lower bound.
@@ -85,6 +85,6 @@ pub fn latest_ends_as_departures()
 /// `latest` ends with 0 exactly where the least worst arrival, which `safe` tells, is by the deadline, and else with 1.
 pub fn latest_ends_by_the_least_worst()
     ensures { (p : Parts) (start until : ℕ) (worst : When) (status : ℕ)
-        → IsLeastWorst p.network p.source.0 p.target.0 start (Some worst) →
+        → IsLeastWorst p.timetable.network p.source.0 p.target.0 start (Some worst) →
         EndsByLatest p (query_until p start until) status → (worst.0 ≤ until → status ≡ 0) × (until < worst.0 → status ≡ 1) }
 {}

@@ -28,7 +28,11 @@ fn numbers_of(alloc: Global, sources: &[Source]) -> Result<Result<(u32, u32, u32
     let mut files = files_of(alloc, sources)?;
     Ok(
         match problem_of(alloc, &mut files, &JOURNEY, &Limits::standard()) {
-            Ok(problem) => Ok((problem.network.count(), problem.source.0, problem.target.0)),
+            Ok(problem) => Ok((
+                problem.timetable.network.count(),
+                problem.source.0,
+                problem.target.0,
+            )),
             Err(fault) => Err(fault),
         },
     )

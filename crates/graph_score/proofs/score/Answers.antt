@@ -11,7 +11,7 @@ returns-in-Safe c =
     let q = c.args.query.now in
     let graph = c.args.graph.now in
     let fit = subst (All (IsFitLeg n q)) (c.deref.ensures.value ∙ c.in_ok-legs.ensures) c.in_default.ensures.none in
-    (fit, safe_told n c.count-count.ensures.valid q graph fit c.in-Safe.span (subst (λ o. IsOutlook n q o (unfold_plan graph n q)) c.in-Safe.is c.in_ok-span.ensures))
+    (fit, safe_told n c.count-are_numbered.ensures.valid q graph fit c.in-Safe.span (subst (λ o. IsOutlook n q o (unfold_plan graph n q)) c.in-Safe.is c.in_ok-span.ensures))
 
 pub returns : goal.returns
 returns c = grind (arith, failing_told)

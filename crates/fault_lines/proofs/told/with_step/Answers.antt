@@ -8,8 +8,8 @@ use Rattle.fault_lines.proofs.told.with_step.Goals as goal
 
 pub returns : goal.returns
 returns c =
-    let names = c.args.known.names.now in
-    let n = c.args.known.network.now in
+    let names = c.args.known.now.names in
+    let n = c.args.known.now.network in
     let run = c.as_bytes.ensures.value ∙ name_is names.runs c.get-connection.result.run.0 c.run_name.result.now c.run_name.ensures.name
     ∙ ap (λ (k : Connection). run_name names k.run.0) c.get-connection.ensures.connection in
     let step = c.as_bytes-2.ensures.value ∙ c.in_ok-step.ensures.ok ∙ ap (λ (k : Connection). decimal k.step) c.get-connection.ensures.connection in

@@ -18,19 +18,19 @@ returns-clause-graph g c =
 pub returns-clause-fit : goal.returns-clause-fit
 returns-clause-fit g c =
     IfOk-weaker c.graph_of_bytes.result _ _
-    (λ f read. (c.read_fits.ensures c.args.problem.now.network c.args.problem.now.names c.as_slice.result.now c.args.problem.now.source.0 c.args.problem.now.target.0 c.args.start.0 f.0 f.1 read).0)
+    (λ f read. (c.read_fits.ensures c.args.problem.now.timetable.network c.args.problem.now.timetable.names c.as_slice.result.now c.args.problem.now.source.0 c.args.problem.now.target.0 c.args.start.0 f.0 f.1 read).0)
     c.graph_of_bytes.ensures.graph
 
 pub returns-clause-head : goal.returns-clause-head
 returns-clause-head g c =
     IfOk-weaker c.graph_of_bytes.result _ _
-    (λ f read. (c.read_fits.ensures c.args.problem.now.network c.args.problem.now.names c.as_slice.result.now c.args.problem.now.source.0 c.args.problem.now.target.0 c.args.start.0 f.0 f.1 read).1)
+    (λ f read. (c.read_fits.ensures c.args.problem.now.timetable.network c.args.problem.now.timetable.names c.as_slice.result.now c.args.problem.now.source.0 c.args.problem.now.target.0 c.args.start.0 f.0 f.1 read).1)
     c.graph_of_bytes.ensures.graph
 
 pub returns-clause-deadline : goal.returns-clause-deadline
 returns-clause-deadline g c =
     IfOk-weaker c.graph_of_bytes.result _ _
-    (λ f read. graph_deadline c.args.problem.now.network c.args.problem.now.names c.args.problem.now.source.0 c.args.problem.now.target.0 c.args.start.0
+    (λ f read. graph_deadline c.args.problem.now.timetable.network c.args.problem.now.timetable.names c.args.problem.now.source.0 c.args.problem.now.target.0 c.args.start.0
     c.as_slice.result.now f.0 f.1 read)
     c.graph_of_bytes.ensures.graph
 

@@ -13,22 +13,22 @@ use Rattle.graph_answers.proofs.trips.trip_over.Goals as goal
 
 pub returns-in-Err : goal.returns-in-Err
 returns-in-Err c =
-    let p = c.args.problem.now in
+    let p = c.args.read.problem.now in
     let late : List ℕ = late_in c.args.late.now in
     let fault = c.in-Err.fault in
-    let is : IsAnswer (Err fault) (trip_by p c.args.head c.args.graph late) =
-    subst (λ (delays : List ℕ). IsAnswer (Err fault) (trip_by p c.args.head c.args.graph delays)) (c.as_slice.ensures.value ∙ c.in-Ok.ensures) c.in-Err.ensures.walk in
+    let is : IsAnswer (Err fault) (trip_by p c.args.read.head c.args.read.graph late) =
+    subst (λ (delays : List ℕ). IsAnswer (Err fault) (trip_by p c.args.read.head c.args.read.graph delays)) (c.as_slice.ensures.value ∙ c.in_ok-delays.ensures) c.in-Err.ensures.walk in
     let named : replay_as fault ≡ c.fault_of.result = sym c.fault_of.ensures in
     record {
       told = tt;
-      fault = subst (λ (f : Fault). f ≢ NoMemory → IsTripFault p late f c.args.head c.args.graph) named (trip_fault p c.args.head c.args.graph late fault is c.in-Err.ensures.safe);
+      fault = subst (λ (f : Fault). f ≢ NoMemory → IsTripFault p late f c.args.read.head c.args.read.graph) named (trip_fault p c.args.read.head c.args.read.graph late fault is c.in-Err.ensures.safe);
       tellable = subst (IsTellable (Some (parts_of p))) named
-          (stuck_tellable p c.args.head.query c.requires.fit c.count-count.ensures.valid c.requires.source c.requires.start fault c.in-Err.ensures.stuck);
+          (stuck_tellable p c.args.read.head.query c.args.read.source_in c.args.read.start fault c.in-Err.ensures.stuck);
       read = subst (λ (f : Fault). unread_of f ≡ None) named (replay_unread fault);
     }
 
 pub trip_answer-requires-clause-arrival : goal.trip_answer-requires-clause-arrival
 trip_answer-requires-clause-arrival c =
-    subst (λ (k : ℕ). k ≤ last_printable) (sym c.in-Ok-replay.ensures.arrival)
-    (arrivals c.args.problem.now.network c.count-count.ensures.valid c.args.head.query.start.0 c.in-Ok-replay.trace.rides
-    (omega (arith, c.requires.start)) c.in-Ok-replay.ensures.rides)
+    subst (λ (k : ℕ). k ≤ last_printable) (sym c.in-Ok.ensures.arrival)
+    (arrivals c.args.read.problem.now.timetable.network c.args.read.problem.now.timetable.valid c.args.read.head.query.start.0 c.in-Ok.trace.rides
+    (omega (arith, c.args.read.start)) c.in-Ok.ensures.rides)

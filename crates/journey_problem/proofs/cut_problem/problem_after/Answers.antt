@@ -15,7 +15,7 @@ pub returns-in-Ok-clause-problem : goal.returns-in-Ok-clause-problem
 returns-in-Ok-clause-problem g c =
     let is = c.problem_in.ensures in
     IfSome_then (g.F.Files.state c.args.files.now).files c.in-Ok.ensures.table (λ m delays.
-    cut_file_problem (journey_shown c.args.journey.now) c.args.cut.now c.in-Ok.delays c.args.limits.now m c.problem_in.result delays is.network is.valid is.source is.target is.none)
+    cut_file_problem (journey_shown c.args.journey.now) c.args.cut.now c.in-Ok.delays c.args.limits.now m c.problem_in.result delays is.network is.source is.target is.none)
 
 pub returns-in-Ok-clause-fault : goal.returns-in-Ok-clause-fault
 returns-in-Ok-clause-fault g c =
@@ -26,7 +26,7 @@ pub returns-in-Ok-clause-timetable : goal.returns-in-Ok-clause-timetable
 returns-in-Ok-clause-timetable g c =
     cut_timetable (journey_shown c.args.journey.now) c.args.cut.now c.in-Ok.delays c.problem_in.result
     c.requires.sound c.in-Ok.ensures.sound
-    c.problem_in.ensures.network c.problem_in.ensures.valid c.problem_in.ensures.source c.problem_in.ensures.target
+    c.problem_in.ensures.network c.problem_in.ensures.source c.problem_in.ensures.target
 
 pub returns-in-Ok-clause-own : goal.returns-in-Ok-clause-own
 returns-in-Ok-clause-own g c = none_unread_of input.Delays c.problem_in.result c.problem_in.ensures.read

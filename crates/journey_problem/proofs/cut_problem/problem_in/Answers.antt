@@ -1,8 +1,8 @@
-use Rattle.std.proofs.Common.{◌≡◌, List, ℕ, Some, None, subst, IfErr, OnOk}
+use Rattle.std.proofs.Common.{◌≡◌, ◌∙◌, List, ℕ, Some, None, ap, subst, IfErr, OnOk}
 use Rattle.std.proofs.lemmas.Result.{IfErr-weaker}
 use Rattle.cut_file.specs.CutNetwork.{IsCutNetwork}
 use Rattle.cut_file.specs.Read.{IsRead}
-use Rattle.plan_model.specs.NameLists.{NamesFit}
+use Rattle.plan_model.specs.NameLists.{NameLists}
 use Rattle.journey_problem.specs.CutProblems.{stop_fault}
 use Rattle.input_files.specs.Files.{Records}
 use Rattle.journey_problem.proofs.CutSteps.{of_parts}
@@ -12,20 +12,16 @@ pub returns-in-Ok-clause-network : goal.returns-in-Ok-clause-network
 returns-in-Ok-clause-network c =
     let cut = c.args.cut.now in
     of_parts (λ n names. (table : Records) → IsRead table cut.runs cut.places cut.rows cut.keys → IsCutNetwork table c.args.delays.now n names)
-    c.in-Ok.network c.in-Ok.names c.problem_between.result c.problem_between.ensures.network c.problem_between.ensures.names c.in-Ok.ensures.table
-
-pub returns-in-Ok-clause-fit : goal.returns-in-Ok-clause-fit
-returns-in-Ok-clause-fit c =
-    of_parts (λ n names. NamesFit names n) c.in-Ok.network c.in-Ok.names c.problem_between.result c.problem_between.ensures.network c.problem_between.ensures.names c.in-Ok.ensures.fit
+    c.in-Ok.network c.in-Ok.names c.new.result c.new.ensures.network c.new.ensures.names c.in-Ok.ensures.table c.problem_between.result c.problem_between.ensures.timetable
 
 pub returns-in-Ok-clause-none : goal.returns-in-Ok-clause-none
 returns-in-Ok-clause-none c =
     let j = c.args.journey.now in
     let P : List (List ℕ) → Type 0 = λ names. OnOk c.problem_between.result (stop_fault names j.from.now j.to.now ≡ None) in
-    subst P c.in-Ok.ensures.places c.problem_between.ensures.none
+    subst P (ap (λ (ns : NameLists). ns.places) c.new.ensures.names ∙ c.in-Ok.ensures.places) c.problem_between.ensures.none
 
 pub returns-in-Ok-clause-fault : goal.returns-in-Ok-clause-fault
 returns-in-Ok-clause-fault c =
     let j = c.args.journey.now in
     let P : List (List ℕ) → Type 0 = λ names. IfErr c.problem_between.result (λ fault. stop_fault names j.from.now j.to.now ≡ Some fault) in
-    IfErr-weaker c.problem_between.result _ _ (λ fault is other. is) (subst P c.in-Ok.ensures.places c.problem_between.ensures.fault)
+    IfErr-weaker c.problem_between.result _ _ (λ fault is other. is) (subst P (ap (λ (ns : NameLists). ns.places) c.new.ensures.names ∙ c.in-Ok.ensures.places) c.problem_between.ensures.fault)

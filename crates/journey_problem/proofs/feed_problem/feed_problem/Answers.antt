@@ -31,20 +31,8 @@ returns-in-Ok-clause-causes g c = λ own.
 pub returns-in-Ok-clause-early : goal.returns-in-Ok-clause-early
 returns-in-Ok-clause-early g c = c.problem_in.ensures.early c.args.folder.now
 
-pub returns-in-Ok-clause-valid : goal.returns-in-Ok-clause-valid
-returns-in-Ok-clause-valid g c = c.problem_in.ensures.valid
-
-pub returns-in-Ok-clause-fit : goal.returns-in-Ok-clause-fit
-returns-in-Ok-clause-fit g c = c.problem_in.ensures.fit
-
 pub returns-in-Ok-clause-timetable : goal.returns-in-Ok-clause-timetable
 returns-in-Ok-clause-timetable g c = c.problem_in.ensures.timetable
-
-pub returns-in-Ok-clause-source : goal.returns-in-Ok-clause-source
-returns-in-Ok-clause-source g c = c.problem_in.ensures.source
-
-pub returns-in-Ok-clause-target : goal.returns-in-Ok-clause-target
-returns-in-Ok-clause-target g c = c.problem_in.ensures.target
 
 pub returns-in-Err-clause-early : goal.returns-in-Err-clause-early
 returns-in-Err-clause-early g c = c.fault_of.ensures.early c.args.folder.now c.args.horizon

@@ -27,7 +27,7 @@ returns-in-Ok-read_rules-clause-causes g c =
 
 pub returns-in-Ok-read_rules-clause-sound : goal.returns-in-Ok-read_rules-clause-sound
 returns-in-Ok-read_rules-clause-sound g c = record {
-  feed = c.stop_count-count.ensures.sound;
+  feed = c.stop_count-are_numbered.ensures.sound;
   services = c.in-Ok-read_rules.ensures.services;
   changes = c.in-Ok-read_rules.ensures.changes;
 }

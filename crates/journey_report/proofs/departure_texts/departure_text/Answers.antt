@@ -11,7 +11,7 @@ use Rattle.journey_report.proofs.departure_texts.departure_text.Goals as goal
 pub returns : goal.returns
 unfolding departure_text
 returns c =
-    let names = c.args.names.now in
+    let names = c.args.timetable.now.names in
     let by = c.as_slice-2.ensures ∙ c.write_moment-by.ensures.text in
     let run = c.as_bytes.ensures.value ∙ name_is names.runs c.get-enter.result.run.0 c.run_name.result.now c.run_name.ensures.name
     ∙ ap (λ (k : Connection). run_name names k.run.0) c.get-enter.ensures.connection in
@@ -22,11 +22,11 @@ returns c =
 
 pub run_name-requires : goal.run_name-requires
 run_name-requires c =
-    run_named c.args.names.now c.args.network.now c.args.departure.now.leg.enter.0 c.get-enter.result c.requires.fit c.requires.departure.is_leg.enter
+    run_named c.args.timetable.now.names c.args.timetable.now.network c.args.departure.now.leg.enter.0 c.get-enter.result c.args.timetable.now.fit c.requires.is_leg.enter
     c.get-enter.ensures.connection
 
 pub write_moment-by-requires : goal.write_moment-by-requires
 write_moment-by-requires c =
-    let d = c.requires.departure in
-    let valid = c.count-count.ensures.valid.connections c.args.departure.now.leg.enter.0 d.is_leg.enter in
+    let d = c.requires in
+    let valid = c.args.timetable.now.valid.connections c.args.departure.now.leg.enter.0 d.is_leg.enter in
     omega (arith, d.departs, valid.forward, valid.early)

@@ -8,19 +8,19 @@ use Rattle.journey_report.proofs.departure_texts.departures_text.Goals as goal
 pub loop-departure-init : goal.loop-departure-init
 loop-departure-init c =
     let q = c.args.query.now in
-    let names = c.args.names.now in
+    let names = c.args.timetable.now.names in
     let rows = c.args.departures.now in
     let from = name_is names.places q.source.0 c.place_name-source.result.now c.place_name-source.ensures.name in
     let to = name_is names.places q.target.0 c.place_name-target.result.now c.place_name-target.ensures.name in
-    ap (λ (head : List ℕ). head ++ rows_text c.args.network.now names rows)
+    ap (λ (head : List ℕ). head ++ rows_text c.args.timetable.now.network names rows)
     (c.in_ok-text.ensures
     ∙ ap (λ (name : List ℕ). departures_head name c.place_name-target.result.now q c.args.last.0 (length rows)) from
     ∙ ap (λ (name : List ℕ). departures_head (place_name names q.source.0) name q c.args.last.0 (length rows)) to)
 
 pub loop-departure-preserved : goal.loop-departure-preserved
 loop-departure-preserved c =
-    let n = c.args.network.now in
-    let names = c.args.names.now in
+    let n = c.args.timetable.now.network in
+    let names = c.args.timetable.now.names in
     let rows = c.args.departures.now in
     let old = c.loop-departure.text.items in
     rows_step n names rows c.loop-departure.departure-index c.departure-item.result c.extend_from_slice.new.self.items old
@@ -31,5 +31,5 @@ loop-departure-preserved c =
 
 pub returns : goal.returns
 returns c =
-    rows_end c.args.network.now c.args.names.now c.args.departures.now c.loop-departure.departure-index c.loop-departure.text.items _ c.loop-departure-test.false
+    rows_end c.args.timetable.now.network c.args.timetable.now.names c.args.departures.now c.loop-departure.departure-index c.loop-departure.text.items _ c.loop-departure-test.false
     c.loop-departure.invariant

@@ -5,4 +5,4 @@ use Rattle.journey_report.proofs.departure_texts.departures_text.Given as goal
 -- the text so far, and that of the rows that are left
 abbrev pub invariant-loop-departure : goal.invariant-loop-departure
 invariant-loop-departure l =
-    l.text.items ++ rows_text l.network l.names (drop l.departure-index l.departures) ≡ departures_text l.network l.names l.query l.fn.last.0 l.departures
+    l.text.items ++ rows_text l.timetable.network l.timetable.names (drop l.departure-index l.departures) ≡ departures_text l.timetable.network l.timetable.names l.query l.fn.last.0 l.departures

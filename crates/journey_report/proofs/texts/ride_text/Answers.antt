@@ -10,36 +10,36 @@ use Rattle.journey_report.proofs.TextLemmas.{ride_arrival}
 use Rattle.journey_report.proofs.texts.ride_text.Goals as goal
 
 pub write_moment-arrival-requires : goal.write_moment-arrival-requires
-write_moment-arrival-requires c = ride_arrival c.args.network.now c.count-count.ensures.valid c.args.ride.now c.requires.ride
+write_moment-arrival-requires c = ride_arrival c.args.timetable.now.network c.args.timetable.now.valid c.args.ride.now c.requires
 
 pub write_moment-dep-requires : goal.write_moment-dep-requires
 write_moment-dep-requires c =
-    dep_printable c.args.network.now c.args.ride.now.leg.enter.0 c.get-enter.result c.count-count.ensures.valid c.requires.ride.is_leg.enter c.get-enter.ensures.connection
+    dep_printable c.args.timetable.now.network c.args.ride.now.leg.enter.0 c.get-enter.result c.args.timetable.now.valid c.requires.is_leg.enter c.get-enter.ensures.connection
 
 pub write_moment-arr-requires : goal.write_moment-arr-requires
 write_moment-arr-requires c =
-    arr_printable c.args.network.now c.args.ride.now.leg.exit.0 c.get-exit.result c.count-count.ensures.valid c.requires.ride.is_leg.exit c.get-exit.ensures.connection
+    arr_printable c.args.timetable.now.network c.args.ride.now.leg.exit.0 c.get-exit.result c.args.timetable.now.valid c.requires.is_leg.exit c.get-exit.ensures.connection
 
 pub run_name-requires : goal.run_name-requires
 run_name-requires c =
-    subst (λ (k : Connection). k.run.0 < length c.args.names.now.runs) (sym c.get-enter.ensures.connection) (c.requires.fit.below c.args.ride.now.leg.enter.0 c.requires.ride.is_leg.enter)
+    subst (λ (k : Connection). k.run.0 < length c.args.timetable.now.names.runs) (sym c.get-enter.ensures.connection) (c.args.timetable.now.fit.below c.args.ride.now.leg.enter.0 c.requires.is_leg.enter)
 
 pub place_name-requires : goal.place_name-requires
 place_name-requires c =
-    subst (λ (places : ℕ). c.get-enter.result.from.0 < places) (sym c.requires.fit.places)
-    (subst (λ (k : Connection). k.from.0 < length c.args.network.now.change) (sym c.get-enter.ensures.connection)
-    (c.count-count.ensures.valid.connections c.args.ride.now.leg.enter.0 c.requires.ride.is_leg.enter).from_in)
+    subst (λ (places : ℕ). c.get-enter.result.from.0 < places) (sym c.args.timetable.now.fit.places)
+    (subst (λ (k : Connection). k.from.0 < length c.args.timetable.now.network.change) (sym c.get-enter.ensures.connection)
+    (c.args.timetable.now.valid.connections c.args.ride.now.leg.enter.0 c.requires.is_leg.enter).from_in)
 
 pub place_name-requires-2 : goal.place_name-requires-2
 place_name-requires-2 c =
-    subst (λ (places : ℕ). c.get-exit.result.to.0 < places) (sym c.requires.fit.places)
-    (subst (λ (k : Connection). k.to.0 < length c.args.network.now.change) (sym c.get-exit.ensures.connection)
-    (c.count-count.ensures.valid.connections c.args.ride.now.leg.exit.0 c.requires.ride.is_leg.exit).to_in)
+    subst (λ (places : ℕ). c.get-exit.result.to.0 < places) (sym c.args.timetable.now.fit.places)
+    (subst (λ (k : Connection). k.to.0 < length c.args.timetable.now.network.change) (sym c.get-exit.ensures.connection)
+    (c.args.timetable.now.valid.connections c.args.ride.now.leg.exit.0 c.requires.is_leg.exit).to_in)
 
 pub returns : goal.returns
 unfolding ride_text
 returns c =
-    let names = c.args.names.now in
+    let names = c.args.timetable.now.names in
     let enter = c.get-enter.ensures.connection in
     let exit = c.get-exit.ensures.connection in
     let run = c.as_bytes.ensures.value ∙ name_is names.runs c.get-enter.result.run.0 c.run_name.result.now c.run_name.ensures.name ∙ ap (λ (k : Connection). run_name names k.run.0) enter in

@@ -4,4 +4,4 @@ use Rattle.journey_report.proofs.texts.trace_text.Given as goal
 
 -- the text so far, and that of the rides that are left
 abbrev pub invariant-loop-ride : goal.invariant-loop-ride
-invariant-loop-ride l = l.text.items ++ rides_text l.network l.names (drop l.ride-index l.trace.rides) ≡ rides_text l.network l.names l.trace.rides
+invariant-loop-ride l = l.text.items ++ rides_text l.problem.timetable.network l.problem.timetable.names (drop l.ride-index l.trace.rides) ≡ rides_text l.problem.timetable.network l.problem.timetable.names l.trace.rides

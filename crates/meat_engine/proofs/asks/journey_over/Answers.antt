@@ -1,10 +1,12 @@
-use Rattle.std.proofs.Common.{Ok, Err, sym, subst}
+use Rattle.std.proofs.Common.{Option, Ok, Err, inl, refl, sym, subst}
+use Rattle.file_ports.specs.Ports.{FileMap}
 use Rattle.command_line.specs.Shown.{journey_shown, ask_shown}
 use Rattle.journey_model.specs.declared.faults.Fault.{Fault}
 use Rattle.journey_report.specs.declared.answer.Answer.{Answer}
 use Rattle.input_files.specs.Files.{path_of, HasCauses}
 use Rattle.file_ports.proofs.CauseLemmas.{causes-next}
-use Rattle.meat_engine.specs.Asks.{own_paths}
+use Rattle.journey_report.specs.Findings.{findings_of}
+use Rattle.meat_engine.specs.Asks.{own_paths, AnswersAsk, FailsAsk}
 use Rattle.meat_engine.proofs.Asking.{causes-paths, beside}
 use Rattle.meat_engine.proofs.asks.journey_over.Goals as goal
 
@@ -23,3 +25,21 @@ pub returns-in-Ok-ask_over-clause-causes : goal.returns-in-Ok-ask_over-clause-ca
 returns-in-Ok-ask_over-clause-causes g c =
     causes-next (λ input is. is) (c.in-Ok.ensures.causes (own_paths (ask_shown c.args.ask.now)))
     (causes-paths (Ok c.in-Ok-ask_over.answer) (beside (ask_shown c.args.ask.now) (journey_shown c.args.journey.now) _ _) c.in-Ok-ask_over.ensures.causes)
+
+pub returns-in-Err-ask_over-clause-fault : goal.returns-in-Err-ask_over-clause-fault
+returns-in-Err-ask_over-clause-fault g c =
+    let ask = ask_shown c.args.ask.now in
+    let same = (c.in-Ok.ensures.causes (own_paths ask)).same in
+    let P : Option FileMap → Type 0 = λ told. FailsAsk told c.args.limits.now c.args.journey.now.start.0 c.in-Ok.problem ask c.in-Err-ask_over.fault in
+    record {
+      tellable = c.in-Err-ask_over.ensures.tellable;
+      holds = λ other. inl (c.in-Ok.problem, c.in-Ok.ensures.sound, c.in-Ok.ensures.problem, (refl, subst P same (c.in-Err-ask_over.ensures.fault other)));
+    }
+
+pub returns-in-Ok-ask_over-clause-answer : goal.returns-in-Ok-ask_over-clause-answer
+returns-in-Ok-ask_over-clause-answer g c =
+    let ask = ask_shown c.args.ask.now in
+    let told = c.in-Ok-ask_over.answer in
+    let same = (c.in-Ok.ensures.causes (own_paths ask)).same in
+    let P : Option FileMap → Type 0 = λ files. AnswersAsk files c.args.limits.now c.args.journey.now.start.0 c.in-Ok.problem ask (findings_of told.report) told.text.items in
+    (c.in-Ok.problem, c.in-Ok.ensures.sound, c.in-Ok.ensures.problem, subst P same c.in-Ok-ask_over.ensures.answer)

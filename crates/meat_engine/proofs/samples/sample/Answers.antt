@@ -11,7 +11,7 @@ pub returns-in-Err-clause-fault : goal.returns-in-Err-clause-fault
 returns-in-Err-clause-fault c =
     let fault = c.in-Err.fault in
     let early = c.in-Err.ensures.early in
-    plain_refusal (FailsSample c.args.limits.now c.args.size) c.plain.result fault c.plain.ensures.fault c.plain.ensures.problem
+    plain_refusal (FailsSample c.args.limits.now c.args.size.value) c.plain.result fault c.plain.ensures.fault c.plain.ensures.problem
     (early_tellable None sample_journey.timetable fault early)
     (λ other. let over = c.in-Err.ensures.fault other in (c.in-Err.ensures.read, (over.0, over.1, inr (early, over.2))))
 

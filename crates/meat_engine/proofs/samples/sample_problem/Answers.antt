@@ -6,7 +6,7 @@ use Rattle.journey_model.specs.declared.faults.Fault.{Fault}
 use Rattle.journey_model.specs.declared.faults.Input.{Input}
 use Rattle.journey_model.specs.Faults.{unread_of}
 use Rattle.input_files.specs.Files.{HasCauses}
-use Rattle.journey_problem.specs.Problems.{IsProblem, IsProblemFault, IsValidProblem}
+use Rattle.journey_problem.specs.Problems.{HasTimetable, IsProblem, IsProblemFault}
 use Rattle.meat_engine.specs.Asks.{no_path}
 use Rattle.std.proofs.lemmas.Result.{IfOk-weaker, IfErr-weaker}
 use Rattle.meat_engine.proofs.Asking.{never_unread}
@@ -27,7 +27,7 @@ returns-in-Ok-clause-problem c =
     let limits = c.args.limits.now in
     let files = folder_of c.in-Ok.files in
     IfOk-weaker c.problem_of.result _ _ (λ p both. (files, c.in-Ok.ensures.files, (both.0, both.1)))
-    (both_ok c.problem_of.result _ _ (subst (λ (j : JourneyModel). IfOk c.problem_of.result (IsValidProblem j)) c.sample_journey.ensures c.problem_of.ensures.sound)
+    (both_ok c.problem_of.result _ _ (subst (λ (j : JourneyModel). IfOk c.problem_of.result (HasTimetable j.timetable j)) c.sample_journey.ensures c.problem_of.ensures.sound)
     (subst (λ (j : JourneyModel). IfOk c.problem_of.result (IsProblem limits files j)) c.sample_journey.ensures c.problem_of.ensures.problem))
 
 pub returns-in-Ok-clause-fault : goal.returns-in-Ok-clause-fault

@@ -5,18 +5,18 @@ use Rattle.plan_answers.proofs.punctual.punctual_over.Goals as goal
 
 pub unreachable-requires : goal.unreachable-requires
 unreachable-requires c =
-    let asked = c.in_ok-asked.asked in
-    none_is_safe c.args.problem.now.network asked.query asked.worst c.in_ok-asked.ensures.asked.least c.in_ok-asked.ensures.printable.deadline
-    (match_none c.in_ok-found.field-0 (IsNoneSafe c.args.problem.now.network asked.query) _ c.in_default.is c.in_ok-found.ensures)
+    let n = c.args.problem.now.timetable.network in
+    let asked = c.in_ok-query.ensures in
+    none_is_safe n c.in_ok-query.query c.in_ok-query.worst asked.asked.least asked.printable.deadline
+    (match_none c.in_ok-found.field-0 (IsNoneSafe n c.in_ok-query.query) _ c.in_default.is c.in_ok-found.ensures)
 
 pub returns-clause-answer : goal.returns-clause-answer
 returns-clause-answer c =
-    let asked = c.in_ok-asked.asked in
     let found = c.in-Some.found in
     let both = MatchOption-at_some _ _ _ c.in-Some.is c.in_ok-found.ensures in (
-      asked.query,
-      asked.worst,
-      c.in_ok-asked.ensures.asked,
+      c.in_ok-query.query,
+      c.in_ok-query.worst,
+      c.in_ok-query.ensures.asked,
       (
         found.graph,
         found.chance,
