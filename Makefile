@@ -1,5 +1,5 @@
-# Installs the planner with its scripts, its manual page and its completions: make install PREFIX=/usr/local
-# What is installed runs without this repository. `make test` is the gate.
+# Installs the planner with its scripts, manual page and completions: make install PREFIX=/usr/local
+# The installed program runs without this repository. `make test` runs the gate.
 PREFIX ?= /usr/local
 BINARIES = $(DESTDIR)$(PREFIX)/bin
 LIBRARY = $(DESTDIR)$(PREFIX)/lib/meat
@@ -10,12 +10,12 @@ COMPLETIONS = $(SHARE)/bash-completion/completions/meat $(SHARE)/zsh/site-functi
 
 .PHONY: all install uninstall test
 
-# The launcher proves and builds the program where it has to, and then refuses that there are no words.
+# The launcher proves and builds the program if necessary. Then the program refuses the empty command line, with status 2.
 all:
 	@./meat || [ $$? = 2 ]
 
 install:
-	@[ -x out/meat ] || { echo 'make all comes first: it proves and builds the program' >&2; exit 1; }
+	@[ -x out/meat ] || { echo 'run `make all` first: it proves and builds the program' >&2; exit 1; }
 	install -d $(BINARIES) $(LIBRARY) $(SHARE)/man/man1 $(dir $(COMPLETIONS))
 	install -m 755 out/meat $(BINARIES)/meat
 	install -m 755 $(addprefix scripts/,$(SCRIPTS)) $(LIBRARY)

@@ -1,7 +1,7 @@
 """When a plan arrives: the chance of each arrival, by the delays of a delay file.
 
 The rides of a plan are late independently, each by one of the delays of its group in the delay file. Chances are exact
-fractions. What is reckoned here shares no code with the program, so it is also a check of the bounds that the program prints.
+fractions. This module shares no code with the program, so it is also a check of the bounds that the program prints.
 """
 
 from __future__ import annotations
@@ -20,7 +20,7 @@ WHOLE = 10_000
 
 
 class Group(NamedTuple):
-    """What rows of a delay file are of: a class, and a route and an hour where they name one."""
+    """The group of a row of a delay file: a class, and a route and an hour if the row names them."""
     kind: str
     route: str
     hour: str
@@ -48,7 +48,7 @@ class Delays:
             raise Refused(f"{table.name}: class * is missing")
 
     def of(self, kind: str, route: str, due: Moment) -> Outcomes:
-        """The delays of a ride of a route type and a route that is due at a moment: those of the first group that is there."""
+        """The delays of a ride with a route type and a route, due at a moment: those of the first group that exists."""
         hour = str(due.hour)
         ranked = ([Group("*", route, hour), Group("*", route, "")] if route else []) + [
             Group(kind, "", hour), Group(kind, "", ""), Group("*", "", hour)]
@@ -81,18 +81,18 @@ class RideKinds:
         if self.is_feed:
             route = self.routes.get(trip_of_run(run))
             if route is None or route not in self.kinds:
-                raise Refused(f"the feed has no trip of run {run}: the plan is of another feed")
+                raise Refused(f"the feed has no trip of run {run}: the plan belongs to another feed")
             return self.kinds[route], route
         if (run, step) not in self.of_steps:
-            raise Refused(f"the cut file has no step {step} of run {run}: the plan is of another file")
+            raise Refused(f"the cut file has no step {step} of run {run}: the plan belongs to another file")
         return self.of_steps[run, step] or "*", ""
 
 
 def arrivals_of(plan: Plan, delays: Delays, kinds: RideKinds) -> dict[Moment, Fraction]:
-    """The chance of each arrival at the target, where each ride is late by one of its delays, independently of the others.
+    """The chance of each arrival at the target, if each ride is late by one of its delays, independently of the others.
 
-    A traveller who stands at a place at a moment takes the first row that is not too late. Departures come after the arrivals
-    that lead to them, so the places are gone through by their moments."""
+    A traveller who is at a place at a moment takes the first row that they are in time for. Departures come after the arrivals
+    that lead to them, so arrivals are processed by rising moment."""
     if plan.first is None:
         return {plan.start: Fraction(1)}
     chances: dict[tuple[Moment, str], Fraction] = defaultdict(Fraction)
@@ -114,7 +114,8 @@ def arrivals_of(plan: Plan, delays: Delays, kinds: RideKinds) -> dict[Moment, Fr
             if place == plan.target:
                 found[moment] += chance
             elif leg_there is None:
-                raise Refused(f"the plan has no row at {place} for {moment.isoformat()}: it is of another feed or other delays")
+                raise Refused(f"the plan has no row at {place} for {moment.isoformat()}: "
+                              "it belongs to another feed or delay file")
             else:
                 taken = [(leg_there, chance)]
     return dict(sorted(found.items()))
@@ -126,7 +127,7 @@ def mean_of(chances: dict[Moment, Fraction], start: Moment) -> Fraction:
 
 
 def moment_by(chances: dict[Moment, Fraction], share: Fraction) -> Moment:
-    """The first arrival by which one is there in this share of all cases."""
+    """The first arrival by which this share of all cases has arrived."""
     reached = Fraction(0)
     for moment, chance in chances.items():
         reached += chance

@@ -1,4 +1,4 @@
-"""The sentences of a card, for text and for a page alike."""
+"""The sentences of a card, the same for text and for a page."""
 
 from __future__ import annotations
 
@@ -11,12 +11,12 @@ from names import Names
 from plans import Departures, Leg, Moment, Plan, by_first_arrival, seconds_between
 
 Chances = dict[Moment, Fraction]
-# In how many of 100 cases a card says by when one is there.
+# The numbers of 100 cases for which a card says by when one arrives.
 SHARES = (50, 95, 100)
 
 
 class Clock:
-    """Moments as clock times, with the day where it is not that of the start."""
+    """Moments as clock times, with the day if it is not that of the start."""
 
     def __init__(self, start: Moment) -> None:
         self.day = start.date()
@@ -39,7 +39,7 @@ def span(seconds: int) -> str:
 
 
 def cases(chance: Fraction) -> str:
-    """A chance as cases of 100, never less than it is."""
+    """A chance as a number of cases of 100, rounded up."""
     if chance == 0:
         return "never"
     hundredths = -(-chance.numerator * 10_000 // chance.denominator)
@@ -52,7 +52,7 @@ def cases(chance: Fraction) -> str:
 
 @dataclass(frozen=True)
 class Name:
-    """A name from outside, which keeps its own direction of writing."""
+    """A name from a feed or a file, which keeps its own writing direction."""
     text: str
 
 
@@ -61,7 +61,7 @@ Words = list[Union[str, Name]]
 
 @dataclass
 class Step:
-    """What to take: until when one has to be there for it, empty at the start, and the ride in parts."""
+    """What to take: by when to be there for it (empty at the start), and the parts of the ride."""
     until: str
     ride: Words
     departure: str
@@ -75,7 +75,7 @@ class Step:
 
 @dataclass
 class Part:
-    """A place with what to do there."""
+    """A place, and what to do there."""
     heading: Words
     steps: list[Step]
 
@@ -86,7 +86,7 @@ def joined(words: Words) -> str:
 
 class Card:
     """A card: its title, the sentences at its head, its parts, and the sentences at its foot."""
-    # What the columns of a page are called.
+    # The headings of the columns of a page.
     columns = ("if you are there by", "take", "at", "to", "due")
 
     def title(self) -> Words:
@@ -107,7 +107,7 @@ class PlanCard(Card):
 
     def __init__(self, plan: Plan, names: Names, chances: Chances) -> None:
         self.plan, self.names, self.chances, self.clock = plan, names, chances, Clock(plan.start)
-        # Sentences that whoever makes the card adds to its head.
+        # More sentences for the head of the card, from its maker.
         self.more: list[str] = []
 
     def title(self) -> Words:
@@ -125,7 +125,7 @@ class PlanCard(Card):
         return lines + self.more
 
     def promised(self) -> str:
-        """By when one is there, in how many of 100 cases."""
+        """By when one arrives, in how many of 100 cases."""
         by_share: dict[Moment, int] = {}
         for share in SHARES:
             by_share[moment_by(self.chances, Fraction(share, 100))] = share
@@ -135,7 +135,7 @@ class PlanCard(Card):
         return f"There {', '.join(words)}{last}."
 
     def ride(self, leg: Leg, place: str) -> Words:
-        """What is ridden, with the walk before it and the platform from which it leaves."""
+        """The ride, with the walk before it and the platform from which it leaves."""
         words: Words = []
         if leg.entry != place:
             walk = span(seconds_between(leg.by, leg.departure))
@@ -181,7 +181,7 @@ class DepartureCard(Card):
         found, time = self.departures, self.clock.time
         lines = [f"{self.clock.date(found.first)}, from {time(found.first)} to {time(found.last)}.",
                  f"Each departure arrives by {time(found.deadline)} whatever the delays."]
-        return lines if found.rows else [*lines, "There is none."]
+        return lines if found.rows else [*lines, "There are no departures."]
 
     def parts(self) -> Iterator[Part]:
         target: Words = [Name(self.names.place(self.departures.target))]

@@ -20,16 +20,16 @@ def read_input() -> str:
     try:
         return sys.stdin.buffer.read().decode("utf-8-sig")
     except UnicodeDecodeError:
-        raise Refused("the text is no UTF-8") from None
+        raise Refused("the input is not UTF-8") from None
 
 
 def show(text: str) -> None:
-    """Writes a text to standard output, in UTF-8 whatever the locale is."""
+    """Writes a text to standard output, in UTF-8 whatever the locale."""
     sys.stdout.buffer.write(text.encode("utf-8", errors="surrogateescape"))
     sys.stdout.buffer.flush()
 
 
-def tell(name: str, text: str) -> None:
+def report(name: str, text: str) -> None:
     """Writes a line to standard error."""
     try:
         sys.stderr.buffer.write(f"{name}: {text}\n".encode("utf-8", errors="backslashreplace"))
@@ -39,19 +39,19 @@ def tell(name: str, text: str) -> None:
 
 
 def run(name: str, work: Callable[[], int]) -> None:
-    """Ends with the status of the work. What is refused, and a stream that fails, is one line on standard error, and status 1."""
+    """Ends with the status of the work. A refusal, or a stream that fails, is one line on standard error, and status 1."""
     try:
         status = work()
     except Refused as fault:
-        tell(name, str(fault))
+        report(name, str(fault))
         status = 1
     except KeyboardInterrupt:
         status = 130
     except OSError as fault:
         if fault.errno != errno.EPIPE:
-            tell(name, f"cannot write: {fault.strerror}" if fault.filename is None else f"{fault.filename}: {fault.strerror}")
+            report(name, f"cannot write: {fault.strerror}" if fault.filename is None else f"{fault.filename}: {fault.strerror}")
         status = 1
-    # What a stream still holds cannot be written either, and is not to be tried again.
+    # What is still buffered cannot be written either, and is not tried again.
     try:
         sys.stdout.flush()
     except OSError:
@@ -69,13 +69,13 @@ def whole_number(least: int, most: int) -> Callable[[str], int]:
 
 
 def program() -> str:
-    """The planner: what MEAT names, the launcher of the repository, or the one that is installed beside the scripts."""
+    """The path of the planner: what MEAT names, the launcher of the repository, or the one installed beside the scripts."""
     named = os.environ.get("MEAT")
     beside = [os.path.join(HERE, "..", "meat"), os.path.join(HERE, "..", "..", "bin", "meat")]
     found = [named] if named else [path for path in beside if os.path.isfile(path) and os.access(path, os.X_OK)]
     path = found[0] if found else shutil.which("meat")
     if path is None:
-        raise Refused("the planner `meat` is not found: name it in the environment as MEAT")
+        raise Refused("the planner `meat` was not found: name its path in the environment as MEAT")
     return os.path.abspath(path)
 
 
@@ -91,7 +91,7 @@ NO_STRATEGY = 1
 
 
 def ask(words: list[str]) -> Answer:
-    """Calls the program. The answer, or that there is no strategy; anything else that it refuses is refused with its line."""
+    """Calls the program: its answer, or that there is no strategy. Any other refusal is passed on with its line."""
     try:
         ran = subprocess.run([program(), *words], stdin=subprocess.DEVNULL, stdout=subprocess.PIPE, stderr=subprocess.PIPE)
     except OSError as fault:

@@ -19,7 +19,7 @@ def date_of(text: str) -> Date:
 
 
 class Services:
-    """On which days each service runs: those of its calendar and the ones that are added, less the ones that are removed."""
+    """The days on which each service runs: those of its calendar, and the added ones, without the removed ones."""
 
     def __init__(self, folder: str) -> None:
         self.periods: dict[str, tuple[list[bool], Date, Date]] = {}
@@ -47,7 +47,7 @@ class Services:
         return first <= date <= last and flags[date.weekday()]
 
     def days(self, service: str) -> Iterator[Date]:
-        """The days on which a service runs, in no order."""
+        """The days on which a service runs, in no particular order."""
         flags, first, last = self.periods.get(service, ([], Date.max, Date.min))
         date = first
         while date <= last:
@@ -60,12 +60,12 @@ class Services:
 
 
 def trips_by_service(folder: str) -> Counter[str]:
-    """How many trips each service has."""
+    """The number of trips of each service."""
     return Counter(service for _, (_, service) in table_of(folder, "trips.txt", ["trip_id", "service_id"]))
 
 
 def trips_by_day(services: Services, trips: Counter[str]) -> dict[Date, int]:
-    """How many trips run on each day on which one does, rising."""
+    """The number of trips on each day that has any, by rising day."""
     counts: Counter[Date] = Counter()
     for service, count in trips.items():
         for date in services.days(service):
@@ -74,7 +74,7 @@ def trips_by_day(services: Services, trips: Counter[str]) -> dict[Date, int]:
 
 
 def weeks_of(counts: dict[Date, int]) -> Iterator[tuple[Date, Date, list[int]]]:
-    """The first and the last day of equal weeks in a row, with the trips of each weekday. Days without trips have 0."""
+    """The first and the last day of each series of equal weeks, with the trips of each weekday. Days without trips have 0."""
     if not counts:
         return
     first, last = min(counts), max(counts)

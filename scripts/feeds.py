@@ -1,7 +1,7 @@
 """Reads the tables of an unpacked GTFS folder as the program does, for the scripts beside it.
 
-Tables are read a row at a time, and only what is asked for is kept. Spaces round a field and a byte-order mark are dropped,
-short rows have empty fields at their end, and the first of two columns of one name counts.
+Tables are read one row at a time, and only the columns that are asked for are kept. Spaces around a field and a byte-order
+mark are dropped, short rows have empty fields at their end, and of two columns with one name the first one counts.
 """
 
 from __future__ import annotations
@@ -15,10 +15,10 @@ from typing import Iterable, Iterator, Optional
 
 from plans import Refused
 
-# The types of locations in stops.txt.
+# The location types of stops.txt.
 STOP, STATION, ENTRANCE, NODE, BOARDING_AREA = "", "1", "2", "3", "4"
 LOCATIONS = {"0": STOP}
-# What the route types of the GTFS Schedule reference are called, and after them the extended types by hundreds.
+# The names of the route types of the GTFS Schedule reference, and then of the extended types, by hundreds.
 VEHICLES = {0: "tram", 1: "metro", 2: "train", 3: "bus", 4: "ferry", 5: "cable tram", 6: "cable car", 7: "funicular",
             11: "trolleybus", 12: "monorail", 405: "monorail"}
 EXTENDED = {1: "train", 2: "coach", 3: "train", 4: "metro", 5: "metro", 6: "metro", 7: "bus", 8: "trolleybus", 9: "tram",
@@ -41,11 +41,11 @@ class Table:
                 for name in self.required:
                     if name not in header:
                         raise Refused(f"{self.name} has no column {name}")
-                places = [header.index(name) if name in header else len(header) for name in (*self.required, *self.optional)]
-                most = max(places, default=0) + 1
+                indexes = [header.index(name) if name in header else len(header) for name in (*self.required, *self.optional)]
+                most = max(indexes, default=0) + 1
                 for number, row in enumerate(rows, start=2):
                     row = row[:len(header)] + [""] * (most - min(len(row), len(header)))
-                    yield number, [row[place].strip(" ") for place in places]
+                    yield number, [row[index].strip(" ") for index in indexes]
         except (OSError, csv.Error) as fault:
             raise Refused(f"cannot read {self.name}: {reason_of(fault)}") from None
 
@@ -58,21 +58,21 @@ def reason_of(fault: Exception) -> str:
 
 
 def table_of(folder: str, name: str, required: Iterable[str], optional: Iterable[str] = ()) -> Table:
-    """A table of a feed. A folder that is none is refused by what it is."""
+    """A table of a feed. A file instead of the folder is refused as such."""
     if os.path.isfile(folder):
-        raise Refused(f"{folder} is a file and no folder: unpack the feed, and give the folder that has stops.txt")
+        raise Refused(f"{folder} is a file, not a folder: unpack the feed and give the folder that contains stops.txt")
     return Table(os.path.join(folder, name), required, optional)
 
 
 def has_table(folder: str, name: str) -> bool:
-    """Whether a feed has an optional table with a record."""
+    """Whether a feed has this table, and it is not an empty file."""
     path = os.path.join(folder, name)
     return os.path.isfile(path) and os.path.getsize(path) > 0
 
 
 @dataclass(frozen=True)
 class Stop:
-    """A row of stops.txt. The place of a stop or platform is its parent station, where it has one."""
+    """A row of stops.txt. The place of a stop or platform is its parent station, if it has one."""
     number: str
     name: str
     kind: str
@@ -86,7 +86,7 @@ class Stop:
 
 
 def stops_of(folder: str) -> Iterator[Stop]:
-    """The stops of a feed, a row at a time."""
+    """The stops of a feed, one row at a time."""
     optional = ("stop_name", "location_type", "parent_station", "stop_code", "platform_code")
     for _, (number, name, kind, parent, code, platform) in table_of(folder, "stops.txt", ["stop_id"], optional):
         yield Stop(number, name, LOCATIONS.get(kind, kind), parent, code, platform)
@@ -94,7 +94,7 @@ def stops_of(folder: str) -> Iterator[Stop]:
 
 @dataclass(frozen=True)
 class Trip:
-    """A trip with the route that it is of."""
+    """A trip, with its route and its service."""
     number: str
     route: str
     service: str
@@ -116,24 +116,24 @@ class Route:
 
 
 def trip_of_run(run: str) -> str:
-    """The id of the trip of a run of a feed, whose name is its service date, how it starts, a colon and the trip."""
+    """The trip id in the name of a run: what follows the colon, after the service date and, in repeats, the start."""
     return run.partition(":")[2]
 
 
 def trips_of(folder: str, wanted: Optional[set[str]] = None) -> dict[str, Trip]:
-    """The trips of these ids, or all."""
+    """The trips with these ids, or all trips."""
     table = table_of(folder, "trips.txt", ["trip_id", "route_id", "service_id"], ["trip_headsign", "trip_short_name"])
     return {row[0]: Trip(*row) for _, row in table if wanted is None or row[0] in wanted}
 
 
 def routes_of(folder: str, wanted: Optional[set[str]] = None) -> dict[str, Route]:
-    """The routes of these ids, or all."""
+    """The routes with these ids, or all routes."""
     table = table_of(folder, "routes.txt", ["route_id", "route_type"], ["route_short_name", "route_long_name"])
     return {row[0]: Route(*row) for _, row in table if wanted is None or row[0] in wanted}
 
 
 def kept_stops(folder: str, wanted: set[str]) -> dict[str, list[str]]:
-    """Of each of these trips the stops of its kept rows, by rising sequence: a row is kept that has a stop and a time."""
+    """The stops of the kept rows of each of these trips, by rising sequence. A row with a stop and a time is kept."""
     rows: dict[str, list[tuple[int, str]]] = defaultdict(list)
     columns = ["trip_id", "stop_id", "stop_sequence", "arrival_time", "departure_time"]
     for _, (trip, stop, sequence, arrival, departure) in table_of(folder, "stop_times.txt", columns):

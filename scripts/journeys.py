@@ -16,7 +16,7 @@ FIRST = Moment(1970, 1, 8)
 
 
 class Journey:
-    """A source, a target and a start over a feed, with the hours of departures that count."""
+    """A source, a target and a start over a feed, with the number of hours of departures to consider."""
 
     def __init__(self, feed: str, delays: str, source: str, target: str, start: Moment, horizon: int = 24) -> None:
         self.feed, self.delays, self.source, self.target = feed, delays, source, target
@@ -27,19 +27,19 @@ class Journey:
                 "--at", moment_text(self.start), "--horizon", str(self.horizon)]
 
     def safe(self) -> Optional[Safe]:
-        """The least worst arrival, where some strategy always arrives."""
+        """The least worst arrival, if some strategy always arrives."""
         answer = ask(self.words("safe"))
         found = read(answer.text) if answer.status == 0 else None
         return found if isinstance(found, Safe) else None
 
     def plan(self, alpha: int) -> Optional[str]:
-        """The text of a plan, where there is one."""
+        """The text of a plan, if there is one."""
         answer = ask([*self.words("plan"), "--alpha", str(alpha)])
         return answer.text if answer.status == 0 else None
 
     def latest(self, deadline: Moment) -> Optional[Moment]:
         """The latest moment from the start on at which one can leave and be there by a deadline, whatever the delays. The
-        departures up to the deadline count."""
+        departures up to the deadline are considered."""
         hours = max(1, min(HOURS, hours_to(self.start, deadline)))
         words = self.words("latest")
         words[words.index("--horizon") + 1] = str(hours)
@@ -54,13 +54,13 @@ def hours_to(first: Moment, last: Moment) -> int:
 
 
 def alpha_within(safe: Safe, by: Moment) -> int:
-    """The greatest percentage whose deadline is not after a moment that is not before the least worst arrival."""
+    """The greatest percentage whose deadline is not after a moment, which is not before the least worst arrival."""
     least, most = seconds_between(safe.start, safe.worst), seconds_between(safe.start, by)
     if most < least:
-        raise Refused("no deadline is so soon")
+        raise Refused("the deadline is before the least worst arrival")
     if least == 0:
         return MOST_ALPHA
-    # The deadline is the start and so many percent of the least time, rounded down to a second.
+    # The deadline is the start plus this percentage of the least time, rounded down to a second.
     return max(LEAST_ALPHA, min(MOST_ALPHA, ((most + 1) * 100 - 1) // least))
 
 

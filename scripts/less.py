@@ -16,7 +16,7 @@ TABLES = {"stops.txt": "", "routes.txt": "", "trips.txt": "trip_id", "stop_times
 
 
 def without_trip(path: str, trip: str, folder: str) -> str:
-    """Writes a feed without a trip, or a cut file without a run, below a folder, and gives its path."""
+    """Writes a feed without a trip, or a cut file without a run, below a folder, and returns its path."""
     if os.path.isfile(path):
         made = os.path.join(folder, "cut.csv")
         if not without_rows(path, made, "run", trip):
@@ -36,7 +36,7 @@ def without_trip(path: str, trip: str, folder: str) -> str:
 
 
 def without_rows(path: str, made: str, column: str, value: str) -> int:
-    """Copies a table without the rows that have this value in a column, and gives how many these are."""
+    """Copies a table without the rows that have this value in a column, and returns the number of these rows."""
     csv.field_size_limit(sys.maxsize)
     left_out = 0
     try:

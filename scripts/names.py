@@ -1,4 +1,4 @@
-"""What places and runs are called, from the tables of a feed where there is one."""
+"""The names of places and runs, from the tables of a feed if there is one."""
 
 from __future__ import annotations
 
@@ -9,7 +9,7 @@ from plans import Departures, Leg, Plan
 
 
 class Names:
-    """What the places and runs of a text are called. Only the rows of a feed that the text names are kept."""
+    """The names of the places and runs of a printed text. Only the rows of the feed that the text mentions are kept."""
 
     def __init__(self, folder: Optional[str], places: set[str], runs: set[str]) -> None:
         self.stops: dict[str, Stop] = {}
@@ -39,19 +39,19 @@ class Names:
         return Names(folder, {departures.source, departures.target}, {row.run for row in departures.rows})
 
     def place(self, place: str) -> str:
-        """A place by its name."""
+        """The name of a place."""
         stop = self.stops.get(place)
         return plain(stop.name) if stop and stop.name else plain(place)
 
     def other_place(self, place: str, beside: str) -> str:
-        """A place by its name; by its code or id too, where the place beside it has the same name."""
+        """The name of a place; with its code or id, if the place before it has the same name."""
         name = self.place(place)
         if name != self.place(beside) or place not in self.stops:
             return name
         return f"{name} ({plain(self.stops[place].code or place)})"
 
     def run(self, run: str) -> str:
-        """A run as a traveller knows it: its vehicle and line, with the trip's number and headsign."""
+        """A run as a traveller knows it: its vehicle and line, with the number and the headsign of the trip."""
         trip = self.trips.get(trip_of_run(run))
         if trip is None:
             return plain(run)
@@ -64,7 +64,7 @@ class Names:
         return f"{vehicle} {plain(line)}{number}{towards}"
 
     def platform(self, run: str, row: int) -> str:
-        """The platform at which a run stops at a kept row of its trip, empty where none is told."""
+        """The platform at which a run stops in a kept row of its trip, empty if the feed gives none."""
         stops = self.ridden.get(trip_of_run(run), [])
         stop = self.stops.get(stops[row]) if row < len(stops) else None
         return plain(stop.platform) if stop else ""
@@ -81,5 +81,5 @@ def plain(text: str) -> str:
     return " ".join("".join(letter if letter.isprintable() or letter in FORMATS else " " for letter in text).split())
 
 
-# Characters that are not printed and belong to names all the same: joiners of scripts and emoji.
+# Characters that are not printed, but belong to names: the joiners in some scripts and in emoji.
 FORMATS = "\u200c\u200d"

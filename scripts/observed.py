@@ -1,4 +1,4 @@
-"""Observed arrivals, read from a table: how late each was, and of which route type, route and hour."""
+"""Observed arrivals, read from a table: how late each was, with its route type, route and hour."""
 
 from __future__ import annotations
 
@@ -17,7 +17,7 @@ from plans import Refused
 MOST_DELAY = 86_400
 MOST_ROUTE_TYPE = 65_534
 DAY = 86_400
-# The columns of a delay file that name a group beside its class.
+# The columns of a delay file that, with its class, name a group.
 GROUP_COLUMNS = ("route_id", "hour")
 NUMBER = re.compile(r"-?\d{1,9}(\.\d{1,9})?", re.ASCII)
 TIME = re.compile(r"(\d{1,3}):(\d\d)(?::(\d\d)(?:\.\d+)?)?", re.ASCII)
@@ -27,7 +27,7 @@ DOTTED = re.compile(r"(\d{1,2})\.(\d{1,2})\.(\d{4}) (\d\d):(\d\d)(?::(\d\d)(?:\.
 
 @dataclass(frozen=True)
 class Observation:
-    """The route type, the route and the hour of an arrival, empty where they are not known, and the seconds that it was late."""
+    """The route type, the route and the hour of an arrival, empty if not known, and how many seconds late it was."""
     kind: str
     route: str
     hour: str
@@ -36,7 +36,7 @@ class Observation:
 
 @dataclass(frozen=True)
 class Columns:
-    """Where a table says how late an arrival was, and the feed that knows the routes of its trips."""
+    """The columns that say how late an arrival was, and the feed that has the routes of its trips."""
     late: str
     due: Optional[str]
     actual: Optional[str]
@@ -49,7 +49,7 @@ class Columns:
 
 @dataclass(frozen=True)
 class Clock:
-    """A time: its seconds, counted from a day that is known or not, and whether they are a plain number."""
+    """A time: its seconds, whether the day from which they count is known, and whether they are a plain number."""
     seconds: int
     has_day: bool
     is_number: bool = False
@@ -63,7 +63,7 @@ class Bad(Exception):
 
 
 def clock_of(text: str) -> Clock:
-    """The time of a text: a number of seconds, a time of the day, or a moment with or without a zone."""
+    """The time that a text gives: a number of seconds, a time of the day, or a moment with or without a zone."""
     if NUMBER.fullmatch(text):
         return Clock(whole_of(text), has_day=False, is_number=True)
     time = TIME.fullmatch(text)
@@ -77,7 +77,7 @@ def clock_of(text: str) -> Clock:
             return Clock(seconds_of(dotted[3], dotted[2], dotted[1], dotted[4], dotted[5], dotted[6]), has_day=True)
     except ValueError:
         pass
-    raise Bad(f"{text!r} is no time")
+    raise Bad(f"{text!r} is not a time")
 
 
 def seconds_of(*parts: Optional[str]) -> int:
@@ -93,7 +93,7 @@ def whole_of(text: str) -> int:
 
 
 def zone_of(text: str) -> int:
-    """The seconds by which the zone of a moment is ahead, 0 where it tells none."""
+    """The seconds by which the zone of a moment is ahead, 0 if it has no zone."""
     found = MOMENT.fullmatch(text)
     zone = found[7] if found else None
     if zone is None or zone == "Z":
@@ -103,10 +103,10 @@ def zone_of(text: str) -> int:
 
 
 def between(due: str, actual: str) -> tuple[int, str]:
-    """The seconds from a due time to an actual one, and the hour of the due one. Times of the day are the nearest ones."""
+    """The seconds from a due time to an actual one, and the hour of the due one. Of times of the day, the nearest are meant."""
     first, last = clock_of(due), clock_of(actual)
     if first.has_day != last.has_day or first.is_number != last.is_number:
-        raise Bad(f"{due!r} and {actual!r} are not of one form")
+        raise Bad(f"{due!r} and {actual!r} do not have the same form")
     late = last.seconds - first.seconds
     if first.has_day:
         late -= zone_of(actual) - zone_of(due)
@@ -116,7 +116,7 @@ def between(due: str, actual: str) -> tuple[int, str]:
 
 
 class Observations:
-    """The observations of a table, with what was bad in it."""
+    """The observations of a table, and the bad ones in it."""
 
     def __init__(self, columns: Columns, delimiter: str, skips_bad: bool) -> None:
         self.columns_read, self.delimiter, self.skips_bad = columns, delimiter, skips_bad
@@ -128,7 +128,7 @@ class Observations:
         self.routes: dict[str, tuple[str, str]] = {}
 
     def read(self, text: str) -> None:
-        """Takes the observations of a text."""
+        """Reads the observations of a text."""
         csv.field_size_limit(sys.maxsize)
         try:
             rows = (row for row in csv.reader(io.StringIO(text, newline=""), delimiter=self.delimiter, strict=True) if row)
@@ -141,10 +141,10 @@ class Observations:
                 fields = [field.strip(" ") for field in row] + [""] * (len(header) - len(row))
                 self.take(number, dict(zip(reversed(header), reversed(fields[:len(header)]))))
         except csv.Error as fault:
-            raise Refused(f"the text is no table: {fault}") from None
+            raise Refused(f"the input is not a table: {fault}") from None
 
     def prepare(self, header: list[str]) -> None:
-        """What is known of the groups: the columns that the delay file has, and the routes of the feed's trips."""
+        """Finds the columns of the delay file that name groups, and the routes of the feed's trips."""
         columns = self.columns_read
         if columns.feed is not None:
             kinds = {route.number: route.kind for route in routes_of(columns.feed).values()}
@@ -170,7 +170,7 @@ class Observations:
         else:
             text, hour = row[columns.late], ""
             if not NUMBER.fullmatch(text):
-                raise Bad(f"{text!r} is no number of seconds")
+                raise Bad(f"{text!r} is not a number of seconds")
             late = whole_of(text)
         if late > MOST_DELAY:
             raise Bad(f"{late} seconds are more than a day")
@@ -186,7 +186,7 @@ class Observations:
         return Observation(kind, route, hour, max(late, 0))
 
     def leave_out(self, share: float) -> list[int]:
-        """Leaves out the latest of 100, and gives their delays, rising."""
+        """Leaves out the latest ones, so many in 100, and returns their delays, rising."""
         count = int(len(self.found) * Fraction(str(share)) / 100)
         if not count:
             return []
@@ -198,28 +198,28 @@ class Observations:
         return left_out
 
     def summary(self, groups: int) -> str:
-        """What there was, in one line."""
+        """A summary in one line."""
         words = [f"{len(self.found) + self.left_out + self.bad} observations"]
         if self.early:
-            words.append(f"{self.early} early, up to {-self.earliest} seconds, which count as on time")
+            words.append(f"{self.early} early by up to {-self.earliest} seconds, counted as on time")
         if self.bad:
-            words.append(f"{self.bad} bad and passed over, the first at {self.first_bad}")
+            words.append(f"{self.bad} bad and skipped, the first at {self.first_bad}")
         if self.unknown:
-            words.append(f"{self.unknown} of trips that the feed does not have")
+            words.append(f"{self.unknown} of trips that are not in the feed")
         if self.left_out:
             words.append(f"{self.left_out} left out")
         words.append(f"{groups} group{'s' if groups != 1 else ''}")
         words.append(f"greatest delay {max(observation.late for observation in self.found)} seconds")
         if len({observation.late for observation in self.found}) == 1:
-            words.append("all alike: plans will rely on it")
+            words.append("all equally late: plans will rely on this one delay")
         return "; ".join(words)
 
 
 def number_of(text: str, most: int, name: str, fold: Optional[int]) -> str:
-    """A whole number of a field, as it is written without leading zeros, folded where it counts on; empty where the field is."""
+    """A whole number of a field, without leading zeros, and modulo `fold` if that is given; empty if the field is."""
     if not text:
         return ""
     whole = text[:-2] if text.endswith(".0") else text
     if not re.fullmatch(r"\d{1,5}", whole, re.ASCII) or int(whole) > most:
-        raise Bad(f"{text!r} is no {name}")
+        raise Bad(f"{text!r} is not a valid {name}")
     return str(int(whole) % fold if fold else int(whole))

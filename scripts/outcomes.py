@@ -1,4 +1,4 @@
-"""The outcomes of a group of observed delays: at most so many values, never less than what was observed, with their weights."""
+"""The outcomes of a group of observed delays: a limited number of values, never less than the observed ones, with weights."""
 
 from __future__ import annotations
 
@@ -9,14 +9,14 @@ WHOLE = 10_000
 
 
 def outcomes_of(delays: list[int], most: int, multiple: int) -> list[tuple[int, int]]:
-    """The delays that stand for these, rising, each with its weight of 10,000."""
+    """The delays that represent these, at most `most` of them, rising, each with its weight of 10,000."""
     values = values_of(delays, most, multiple)
     return list(zip((value for value, _ in values), weights_of([count for _, count in values])))
 
 
 def values_of(delays: list[int], most: int, multiple: int) -> list[tuple[int, int]]:
-    """At most so many values, each with how many delays it stands for: the delays themselves where they are few, else rounded up
-    to a multiple, but not above the greatest, and merged."""
+    """At most `most` values, each with the number of delays that it represents: the delays themselves if they are few;
+    otherwise they are rounded up to a multiple, but not above the greatest, and merged."""
     exact = sorted(Counter(delays).items())
     if len(exact) <= most:
         return exact
@@ -28,7 +28,7 @@ def values_of(delays: list[int], most: int, multiple: int) -> list[tuple[int, in
 
 
 def merged(values: list[tuple[int, int]], most: int) -> list[tuple[int, int]]:
-    """Merges a value into the next greater one, where that adds the fewest seconds in all, until so many are left."""
+    """Merges values into the next greater ones, first where that adds the fewest seconds in all, until `most` remain."""
     delays, counts = [delay for delay, _ in values], [count for _, count in values]
     later = [at + 1 for at in range(len(values))]
     sooner = [at - 1 for at in range(len(values))]
@@ -56,7 +56,7 @@ def merged(values: list[tuple[int, int]], most: int) -> list[tuple[int, int]]:
 
 
 def weights_of(counts: list[int]) -> list[int]:
-    """Shares of 10,000 that add up, by the largest remainders; each is at least 1, which the largest shares pay for."""
+    """Shares that add up to 10,000, by the largest remainders. Each is at least 1, at the cost of the largest shares."""
     total = sum(counts)
     shares = [max(1, count * WHOLE // total) for count in counts]
     spare = WHOLE - sum(shares)

@@ -29,7 +29,7 @@ footer { margin-top: 1.5rem; font-size: .95rem; }
 
 
 def marked(words: Words) -> str:
-    """Words with their names set apart, so that a name written from right to left does not turn what stands beside it."""
+    """Words with their names isolated, so that a name written from right to left does not reorder the text beside it."""
     return "".join(f"<bdi>{html.escape(word.text)}</bdi>" if isinstance(word, Name) else html.escape(word) for word in words)
 
 

@@ -1,4 +1,4 @@
-"""The stops of a feed by what a person calls them."""
+"""Finds the stops of a feed by the names that a person uses."""
 
 from __future__ import annotations
 
@@ -13,13 +13,13 @@ MOST_SHOWN = 10
 
 
 def folded(text: str) -> str:
-    """A text without case and accents, and with single spaces."""
+    """A text without case and accents, with single spaces."""
     letters = unicodedata.normalize("NFKD", text.casefold())
     return " ".join("".join(letter for letter in letters if not unicodedata.combining(letter)).split())
 
 
 def stops_by_name(folder: str, word: str) -> list[Stop]:
-    """The stops with a word in their name or id, whatever its case and accents; first those that begin with it."""
+    """The stops with a word in their name or id, ignoring case and accents; those that begin with it come first."""
     wanted = folded(word)
     found = [stop for stop in stops_of(folder) if wanted in folded(stop.name) or wanted in folded(stop.number)]
     return sorted(found, key=lambda stop: (not folded(stop.name).startswith(wanted), stop.name, stop.number))
@@ -28,7 +28,7 @@ def stops_by_name(folder: str, word: str) -> list[Stop]:
 def shown(stop: Stop) -> str:
     kind = KINDS.get(stop.kind, "platform" if stop.parent else "stop")
     code = f" {stop.platform}" if stop.platform else ""
-    return f"{stop.number} ({kind}{code} of {stop.name or 'no name'})"
+    return f"{stop.number} ({kind}{code}, {stop.name or 'no name'})"
 
 
 def one_place(stops: Iterable[Stop]) -> set[str]:
@@ -36,9 +36,9 @@ def one_place(stops: Iterable[Stop]) -> set[str]:
 
 
 def stop_of(folder: str, word: str, option: str) -> Stop:
-    """The stop that a person means: by its id, else by its whole name, else by a part of its name, where that is one place.
+    """The stop that a person means: by its id, else by its whole name, else by a part of its name, if that is one place.
 
-    Entrances and the like are only meant by their ids."""
+    Entrances and the like are found only by their ids."""
     stops = list(stops_of(folder))
     for stop in stops:
         if stop.number == word:
@@ -53,5 +53,6 @@ def stop_of(folder: str, word: str, option: str) -> Stop:
         if found:
             heads = sorted({stop.place: stop for stop in reversed(found)}.values(), key=lambda stop: stop.name)
             more = f" and {len(heads) - MOST_SHOWN} more" if len(heads) > MOST_SHOWN else ""
-            raise Refused(f"{option}: {word} may be {', '.join(shown(stop) for stop in heads[:MOST_SHOWN])}{more}; give the id")
+            choices = ", ".join(shown(stop) for stop in heads[:MOST_SHOWN])
+            raise Refused(f"{option}: {word} may mean {choices}{more}; give the id")
     raise Refused(f"{option}: there is no stop {word}; `look FEED WORD` finds stops by a part of their name")

@@ -2,9 +2,9 @@
 
     from plans import read, read_plan
 
-`read` takes the text of `plan`, `punctual`, `departures`, `latest`, `safe` or `replay`, and `read_plan` that of `plan` or
-`punctual` alone. The rows are those of docs/FORMATS.md. Moments have no zone. A text that is none of these is refused with
-`Refused`, which says the line and the reason.
+`read` takes what `plan`, `punctual`, `departures`, `latest`, `safe` or `replay` prints, and `read_plan` only what `plan` or
+`punctual` prints. docs/FORMATS.md has the rows. Moments have no zone. Any other text raises `Refused`, with the line and the
+reason.
 """
 
 from __future__ import annotations
@@ -33,7 +33,7 @@ COMMANDS = {"graph": "plan", "punctual": "punctual", "departures": "departures",
 
 
 class Refused(Exception):
-    """Why something cannot be done, in words for whoever asked."""
+    """Why something cannot be done, in words for the user."""
 
 
 @dataclass(frozen=True)
@@ -43,14 +43,14 @@ class Bounds:
     upper: int
 
     def middle(self) -> Moment:
-        """The middle of both, to the second."""
+        """The middle of the two, to the second."""
         return EPOCH + datetime.timedelta(seconds=(self.lower + self.upper + NANOSECONDS) // (2 * NANOSECONDS))
 
 
 @dataclass(frozen=True)
 class Leg:
-    """A ride: until when it can be taken, its run, where and when it is boarded, and where it is left. Steps are positions of
-    connections in the run, the first and the last that are ridden."""
+    """A ride: the latest arrival from which it can be taken, its run, where and when it is boarded, and where it is left. The
+    steps are those of the first and the last connection of the run that are ridden."""
     by: Moment
     run: str
     entry_step: int
@@ -63,7 +63,7 @@ class Leg:
 
 @dataclass
 class Place:
-    """A place with the seconds of a change, and what to take from there, by rising `by`."""
+    """A place with its change seconds, and what to take from there, by rising `by`."""
     name: str
     change: int
     legs: list[Leg] = field(default_factory=list)
@@ -79,7 +79,7 @@ class Promise:
 
 @dataclass
 class Plan:
-    """A decision graph with its question. There is no first leg where source and target are one place."""
+    """A decision graph with its question. There is no first leg if source and target are one place."""
     source: str
     target: str
     start: Moment
@@ -94,13 +94,13 @@ class Plan:
         return ([self.first] if self.first else []) + [leg for place in self.places for leg in place.legs]
 
     def leg_after(self, place: str, arrival: Moment) -> Optional[Leg]:
-        """What to take after an arrival at a place: the first row that is not too late."""
+        """What to take after an arrival at a place: the first row that the arrival is in time for."""
         return next((leg for other in self.places if other.name == place for leg in other.legs if leg.by >= arrival), None)
 
 
 @dataclass(frozen=True)
 class Departure:
-    """The best departure for whoever sets out by its moment, with bounds on the expected arrival."""
+    """The best departure for a traveller who sets out by its moment, with bounds on the expected arrival."""
     moment: Moment
     run: str
     step: int
@@ -109,7 +109,7 @@ class Departure:
 
 @dataclass
 class Departures:
-    """What the departures from a source promise, each by one deadline."""
+    """What the departures from a source promise, all for one deadline."""
     source: str
     target: str
     first: Moment
@@ -177,14 +177,14 @@ def seconds_between(first: Moment, last: Moment) -> int:
 
 
 def moment_of(text: str) -> Moment:
-    """The moment of a text; ValueError where it is none."""
+    """The moment that a text gives; ValueError if it gives none."""
     if not MOMENT.fullmatch(text):
         raise ValueError(text)
     return datetime.datetime.fromisoformat(text)
 
 
 class Rows:
-    """The rows of a text one after the other, each with its line. Blank lines are no rows and have no number."""
+    """The rows of a text one after the other, each with its line. Blank lines are not rows and have no number."""
 
     def __init__(self, text: str) -> None:
         csv.field_size_limit(sys.maxsize)
@@ -192,7 +192,7 @@ class Rows:
             lines = csv.reader(io.StringIO(text[1:] if text.startswith("\ufeff") else text, newline=""), strict=True)
             self.rows = [row for row in lines if row]
         except csv.Error as fault:
-            raise Refused(f"the text is no table: {fault}") from None
+            raise Refused(f"the text is not a table: {fault}") from None
         self.line = 0
 
     def refuse(self, why: str) -> NoReturn:
@@ -202,10 +202,10 @@ class Rows:
         """The next row, which is of this kind."""
         self.line += 1
         if self.line > len(self.rows):
-            self.refuse(f"the text ends where a row {kind} is expected")
+            self.refuse(f"the text ends where a `{kind}` row is expected")
         row = self.rows[self.line - 1]
         if row[0] != kind:
-            self.refuse(f"this is no row {kind}")
+            self.refuse(f"this is not a `{kind}` row")
         return row
 
     def kind(self) -> str:
@@ -214,11 +214,11 @@ class Rows:
 
     def fields(self, row: list[str], count: int) -> list[str]:
         if len(row) != count:
-            self.refuse(f"there are {len(row)} fields, and not {count}")
+            self.refuse(f"there are {len(row)} fields, not {count}")
         return row
 
     def end(self) -> None:
-        """There are no more rows."""
+        """Refuses any more rows."""
         if self.line < len(self.rows):
             self.line += 1
             self.refuse("there are more rows than expected")
@@ -232,13 +232,13 @@ class Rows:
         try:
             return moment_of(text)
         except ValueError:
-            self.refuse(f"{text!r} is no moment")
+            self.refuse(f"{text!r} is not a moment")
 
     def bound(self, text: str) -> int:
         """A bound in nanoseconds."""
         found = BOUND.fullmatch(text)
         if not found:
-            self.refuse(f"{text!r} is no bound")
+            self.refuse(f"{text!r} is not a bound")
         return nanoseconds_of(self.moment(found[1])) + int(found[2])
 
     def bounds(self, lower: str, upper: str) -> Bounds:
@@ -249,12 +249,12 @@ class Rows:
 
     def number(self, text: str) -> int:
         if not NUMBER.fullmatch(text):
-            self.refuse(f"{text!r} is no number")
+            self.refuse(f"{text!r} is not a number")
         return int(text)
 
     def chance(self, text: str) -> Fraction:
         if not CHANCE.fullmatch(text):
-            self.refuse(f"{text!r} is no chance")
+            self.refuse(f"{text!r} is not a chance")
         return Fraction(text)
 
 
@@ -271,7 +271,7 @@ def place_of(rows: Rows, width: int) -> Place:
     row = rows.fields(rows.next("place"), width)
     place, count = Place(rows.name(row[1]), rows.number(row[2])), rows.number(row[3])
     if not count or any(row[4:]):
-        rows.refuse("this is no place")
+        rows.refuse("this is not a valid `place` row")
     for _ in range(count):
         leg = leg_of(rows, rows.next("leg"), width, place.name)
         if place.legs and leg.by <= place.legs[-1].by:
@@ -283,7 +283,7 @@ def place_of(rows: Rows, width: int) -> Place:
 def promise_of(rows: Rows) -> Promise:
     row = rows.fields(rows.next("punctual"), 5)
     if row[1] != "1":
-        rows.refuse("this is no version of a promise")
+        rows.refuse("this is an unknown version of a promise")
     promise = Promise(rows.moment(row[2]), rows.chance(row[3]), rows.chance(row[4]))
     if promise.lower > promise.upper:
         rows.refuse("the lower chance is above the upper one")
@@ -295,7 +295,7 @@ def plan_of(rows: Rows) -> Plan:
     promise = promise_of(rows) if rows.kind() == "punctual" else None
     row = rows.next("graph")
     if len(row) < 2 or row[1] not in ("1", "2"):
-        rows.refuse("this is no version of a plan")
+        rows.refuse("this is an unknown version of a plan")
     width = 8 if row[1] == "1" else 9
     rows.fields(row, width)
     plan = Plan(rows.name(row[2]), rows.name(row[3]), rows.moment(row[4]), rows.moment(row[5]), rows.bounds(row[6], row[7]),
@@ -310,17 +310,17 @@ def plan_of(rows: Rows) -> Plan:
 
 
 def check_whole(rows: Rows, plan: Plan) -> None:
-    """Each place to which a ride leads has its rows, or is the target."""
+    """Refuses a plan in which a ride leads to a place without rows that is not the target."""
     known = {place.name for place in plan.places} | {plan.target}
     for leg in plan.legs():
         if leg.exit not in known:
-            rows.refuse(f"the text ends, and has no row for {leg.exit}")
+            rows.refuse(f"the text ends without a row for {leg.exit}")
 
 
 def departures_of(rows: Rows) -> Departures:
     row = rows.fields(rows.next("departures"), 8)
     if row[1] != "1":
-        rows.refuse("this is no version of departures")
+        rows.refuse("this is an unknown version of departures")
     found = Departures(rows.name(row[2]), rows.name(row[3]), rows.moment(row[4]), rows.moment(row[5]), rows.moment(row[6]), [])
     for _ in range(rows.number(row[7])):
         row = rows.fields(rows.next("row"), 6)
@@ -361,26 +361,26 @@ READERS: dict[str, Callable[[Rows], Printed]] = {
 
 
 def read(text: str) -> Printed:
-    """What is printed in a text, by the kind of its first row."""
+    """Reads a text by the kind of its first row."""
     rows = Rows(text)
     kind = rows.kind()
     if not kind:
         raise Refused("there is no text")
     if kind not in READERS:
-        told = f"this is the text of `{COMMANDS[kind]}`" if kind in COMMANDS else "this is no row that the program prints first"
-        raise Refused(f"line 1: {told}; the text of `plan`, `punctual`, `departures`, `latest`, `safe` or `replay` is expected")
+        found = f"this is the output of `{COMMANDS[kind]}`" if kind in COMMANDS else "the program prints no such first row"
+        raise Refused(f"line 1: {found}; expected that of `plan`, `punctual`, `departures`, `latest`, `safe` or `replay`")
     return READERS[kind](rows)
 
 
 def read_plan(text: str) -> Plan:
-    """The plan in a text of `plan` or `punctual`."""
+    """Reads the plan in the output of `plan` or `punctual`."""
     rows = Rows(text)
     kind = rows.kind()
     if not kind:
         raise Refused("there is no text")
     if kind not in ("graph", "punctual"):
-        told = f"this is the text of `{COMMANDS[kind]}`" if kind in COMMANDS else "this is no row graph"
-        raise Refused(f"line 1: {told}; the text of `plan` or `punctual` is expected")
+        found = f"this is the output of `{COMMANDS[kind]}`" if kind in COMMANDS else "this is not a `graph` row"
+        raise Refused(f"line 1: {found}; expected that of `plan` or `punctual`")
     return plan_of(rows)
 
 

@@ -1,4 +1,4 @@
-"""What a feed says that the planner does not take into account, counted."""
+"""Counts what a feed says that the planner does not take into account."""
 
 from __future__ import annotations
 
@@ -15,12 +15,12 @@ TABLES = ("stops.txt", "routes.txt", "trips.txt", "stop_times.txt", "frequencies
           "transfers.txt")
 TRANSFERS = {"": "recommended transfers (type 0)", "0": "recommended transfers (type 0)",
              "1": "timed transfers, where the departing trip waits (type 1)",
-             "3": "transfers that are not possible (type 3): a plan may change there all the same",
+             "3": "transfers that are not possible (type 3): a plan may still change there",
              "4": "in-seat transfers between trips (type 4)", "5": "in-seat transfers that are not allowed (type 5)"}
 
 
 def unheard(folder: str) -> list[tuple[str, int]]:
-    """What is not heard, each with how often it occurs."""
+    """What is not taken into account, and how often it occurs."""
     counts: Counter[str] = Counter()
     for part in (of_stops, of_trips, of_stop_times, of_frequencies, of_transfers, of_quotes):
         counts.update(part(folder))
@@ -38,7 +38,7 @@ def of_stops(folder: str) -> Counter[str]:
 def of_trips(folder: str) -> Counter[str]:
     services, counts = Services(folder), Counter[str]()
     for _, (service,) in table_of(folder, "trips.txt", ["service_id"]):
-        counts["trips of services that no calendar names: they never run"] += service not in services
+        counts["trips whose service is in no calendar: they never run"] += service not in services
     return counts
 
 
@@ -46,9 +46,9 @@ def of_stop_times(folder: str) -> Counter[str]:
     counts: Counter[str] = Counter()
     columns, optional = ["stop_id", "arrival_time", "departure_time"], ["pickup_type", "drop_off_type"]
     for _, (stop, arrival, departure, pickup, drop) in table_of(folder, "stop_times.txt", columns, optional):
-        counts["stop times without a stop (on demand): left out"] += not stop
-        counts["stop times without a time: nobody boards or leaves there"] += bool(stop) and not arrival and not departure
-        counts["stop times where one phones ahead or asks the driver (types 2 and 3): taken as any other"] += (
+        counts["stop times without a stop (on demand): ignored"] += not stop
+        counts["stop times without a time: no boarding or alighting there"] += bool(stop) and not arrival and not departure
+        counts["stop times for which one phones ahead or asks the driver (types 2 and 3): treated as any other"] += (
             pickup in ("2", "3") or drop in ("2", "3"))
     return counts
 
@@ -57,7 +57,7 @@ def of_frequencies(folder: str) -> Counter[str]:
     counts: Counter[str] = Counter()
     if has_table(folder, "frequencies.txt"):
         for _, (_, exact) in table_of(folder, "frequencies.txt", ["trip_id"], ["exact_times"]):
-            counts["headways without exact times: taken as a timetable"] += exact != "1"
+            counts["headways without exact times: treated as a timetable"] += exact != "1"
     return counts
 
 
@@ -71,16 +71,16 @@ def of_transfers(folder: str) -> Counter[str]:
         if kind != "2":
             counts[TRANSFERS.get(kind, "transfers of unknown types")] += 1
         elif any(of):
-            counts["least change times of routes or trips (type 2): the place's own is taken, 2 minutes where it has none"] += 1
+            counts["minimum transfer times of routes or trips (type 2): the place's own is used, 2 minutes if it has none"] += 1
         elif not seconds:
-            counts["least change times without a time (type 2)"] += 1
+            counts["minimum transfer times without a value (type 2): ignored"] += 1
         elif {first, last} - boarded and first != last:
-            counts["transfers to or from stations, entrances and the like: taken for their places"] += 1
+            counts["transfers to or from stations, entrances and the like: they count for the places of these"] += 1
     return counts
 
 
 def of_quotes(folder: str) -> Counter[str]:
-    """Tables with a quote that is never closed: all rows after it are one field of one row."""
+    """Tables with a quote that is never closed: everything after it is one field of one row."""
     counts: Counter[str] = Counter()
     csv.field_size_limit(sys.maxsize)
     for name in TABLES:
@@ -92,7 +92,7 @@ def of_quotes(folder: str) -> Counter[str]:
                     pass
         except csv.Error as fault:
             if "unexpected end" in str(fault):
-                counts[f"quote in {name} that is never closed: the rows after it are lost"] += 1
+                counts[f"quote that is never closed, in {name}: the rows after it are lost"] += 1
             else:
                 counts[f"quoted field in {name} with text after its closing quote"] += 1
         except OSError as fault:

@@ -1,4 +1,4 @@
-"""Why no strategy is safe: the causes that are known, each tried with the feed and with the program itself."""
+"""Why no strategy is safe: the usual causes, tried one by one with the feed and with the program itself."""
 
 from __future__ import annotations
 
@@ -19,12 +19,12 @@ NEVER_LATE = "class,delay,weight\n*,0,10000\n"
 
 
 def why_not(journey: Journey, source: Stop, target: Stop) -> str:
-    """The first cause that is found."""
+    """The first cause that applies."""
     causes: list[Callable[[], Optional[str]]] = [
         lambda: not_boarded(source, "from"), lambda: not_boarded(target, "to"), lambda: no_service(journey),
         lambda: nothing_stops(journey, source, target), lambda: walk_first(journey, source), lambda: walk_last(journey, target),
         lambda: longer(journey), lambda: on_time(journey)]
-    found = next((told for told in (cause() for cause in causes) if told is not None), None)
+    found = next((text for text in (cause() for cause in causes) if text is not None), None)
     ends = f"from {source.name or source.number} to {target.name or target.number}"
     return f"no safe strategy: {found or f'there is no way {ends} within {HOURS} hours'}"
 
@@ -33,25 +33,25 @@ def not_boarded(stop: Stop, word: str) -> Optional[str]:
     """Nothing stops at an entrance, a node or a boarding area."""
     if stop.kind not in NOT_BOARDED:
         return None
-    beside = f"; ask {word} {stop.parent}" if stop.parent else ""
-    return f"{stop.number} is {NOT_BOARDED[stop.kind]}{beside}"
+    instead = f"; ask for a plan {word} {stop.parent}" if stop.parent else ""
+    return f"{stop.number} is {NOT_BOARDED[stop.kind]}, where nothing stops{instead}"
 
 
 def no_service(journey: Journey) -> Optional[str]:
-    """No service runs on the days of the window."""
+    """No trip runs on the days of the window."""
     counts = trips_by_day(Services(journey.feed), trips_by_service(journey.feed))
     if not counts:
         return "no trip of the feed runs on any day"
     first = journey.start.date()
     last = (journey.start + datetime.timedelta(hours=journey.horizon)).date()
-    # Trips of the day before may still be on the way.
+    # Trips of the day before may still be running.
     if any(first - datetime.timedelta(days=1) <= day <= last for day in counts):
         return None
     return f"no trip runs on {first}; the feed has trips from {min(counts)} to {max(counts)}"
 
 
 def nothing_stops(journey: Journey, source: Stop, target: Stop) -> Optional[str]:
-    """No row of the stop times with a time is at the place."""
+    """No stop time with a time is at the place of the source or of the target."""
     places = {stop.number: stop.place for stop in stops_of(journey.feed)}
     columns = ["stop_id", "arrival_time", "departure_time"]
     served = {places.get(stop, "") for _, (stop, arrival, departure) in table_of(journey.feed, "stop_times.txt", columns)
@@ -63,7 +63,7 @@ def nothing_stops(journey: Journey, source: Stop, target: Stop) -> Optional[str]
 
 
 def links(feed: str) -> list[tuple[str, str, str]]:
-    """The walks of transfers.txt: from a place to another one, with the seconds."""
+    """The walks of transfers.txt: from one place to another, with their seconds."""
     if not has_table(feed, "transfers.txt"):
         return []
     places = {stop.number: stop.place for stop in stops_of(feed)}
@@ -83,27 +83,29 @@ def with_ends(journey: Journey, source: str, target: str) -> Journey:
 
 
 def walk_last(journey: Journey, target: Stop) -> Optional[str]:
-    """A plan leads to a place from which one would walk to the target."""
+    """A plan leads to a place from which one could walk to the target."""
     for first, last, seconds in links(journey.feed):
         if last == target.place and with_ends(journey, journey.source, first).safe() is not None:
-            return f"the last way would be a walk of {seconds} seconds from {first}, and a plan ends with a ride; ask to {first}"
+            return (f"the journey would end with a walk of {seconds} seconds from {first}, but a plan ends with a ride; "
+                    f"ask for a plan to {first}")
     return None
 
 
 def walk_first(journey: Journey, source: Stop) -> Optional[str]:
-    """A plan leads from a place to which one would walk from the source."""
+    """A plan leads from a place to which one could walk from the source."""
     for first, last, seconds in links(journey.feed):
         if first == source.place and with_ends(journey, last, journey.target).safe() is not None:
-            return f"the first way would be a walk of {seconds} seconds to {last}, and a plan begins with a ride; ask from {last}"
+            return (f"the journey would begin with a walk of {seconds} seconds to {last}, but a plan begins with a ride; "
+                    f"ask for a plan from {last}")
     return None
 
 
 def longer(journey: Journey) -> Optional[str]:
-    """More hours of departures would do."""
+    """More hours of departures would be enough."""
     other = copy.copy(journey)
     other.horizon = HOURS
     if journey.horizon < HOURS and other.safe() is not None:
-        return f"the departures of {journey.horizon} hours do not do, those of {HOURS} do; ask with --horizon {HOURS}"
+        return f"the departures of {journey.horizon} hours are not enough, those of {HOURS} are; ask with --horizon {HOURS}"
     return None
 
 
@@ -118,4 +120,4 @@ def on_time(journey: Journey) -> Optional[str]:
     if text is None:
         return None
     arrival = Clock(journey.start).time(read_plan(text).expected.middle())
-    return f"with some delays one would be stranded; if nothing were late, one would be there at {arrival}"
+    return f"some delays would leave you stranded; if nothing were late, you would be there at {arrival}"

@@ -1,4 +1,4 @@
-"""What the tests of the scripts share: calls of scripts, small feeds and made questions."""
+"""What the tests of the scripts share: calls of scripts, small feeds and made timetables."""
 
 from __future__ import annotations
 
@@ -30,8 +30,8 @@ CALENDAR = ("service_id,monday,tuesday,wednesday,thursday,friday,saturday,sunday
 class Ran:
     """How a call ended, and what it printed."""
 
-    def __init__(self, status: int, printed: bytes, told: bytes) -> None:
-        self.status, self.printed, self.told = status, printed.decode("utf-8"), told.decode("utf-8", errors="replace")
+    def __init__(self, status: int, printed: bytes, errors: bytes) -> None:
+        self.status, self.printed, self.errors = status, printed.decode("utf-8"), errors.decode("utf-8", errors="replace")
 
 
 def call(script: str, text: Union[str, bytes], *words: str) -> Ran:
@@ -54,7 +54,7 @@ def content(path: str) -> str:
 
 
 class Case(unittest.TestCase):
-    """A test with a folder of its own, and what scripts are to print."""
+    """A test with a folder of its own, and assertions on what scripts print."""
 
     def setUp(self) -> None:
         room = tempfile.TemporaryDirectory()
@@ -62,7 +62,7 @@ class Case(unittest.TestCase):
         self.room = room.name
 
     def write(self, name: str, text: Union[str, bytes]) -> str:
-        """Writes a file below the folder, and gives its path."""
+        """Writes a file below the folder, and returns its path."""
         path = os.path.join(self.room, name)
         os.makedirs(os.path.dirname(path), exist_ok=True)
         with open(path, "wb") as file:
@@ -70,20 +70,20 @@ class Case(unittest.TestCase):
         return path
 
     def feed(self, name: str, **tables: Union[str, bytes]) -> str:
-        """Writes a feed with these tables, named without `.txt`, and gives its folder."""
+        """Writes a feed with these tables, named without `.txt`, and returns its folder."""
         self.write(f"{name}/calendar.txt", CALENDAR)
         for table, text in tables.items():
             self.write(f"{name}/{table}.txt", text)
         return os.path.join(self.room, name)
 
     def prints(self, ran: Ran, text: str) -> None:
-        self.assertEqual((ran.status, ran.printed), (0, text), ran.told)
+        self.assertEqual((ran.status, ran.printed), (0, text), ran.errors)
 
     def is_refused(self, ran: Ran, why: str) -> None:
         """One line on standard error, nothing on standard output, status 1."""
-        self.assertEqual((ran.status, ran.printed), (1, ""), ran.told)
-        self.assertIn(why, ran.told)
-        self.assertEqual(ran.told.count("\n"), 1, ran.told)
+        self.assertEqual((ran.status, ran.printed), (1, ""), ran.errors)
+        self.assertIn(why, ran.errors)
+        self.assertEqual(ran.errors.count("\n"), 1, ran.errors)
 
 
 def clock(second: int) -> str:
@@ -91,7 +91,7 @@ def clock(second: int) -> str:
 
 
 def made_cut(made: random.Random) -> str:
-    """A cut file of a few places with many runs of up to four connections, of three classes."""
+    """A cut file of a few places and many runs, each of up to three connections, of three classes."""
     places = [f"P{number}" for number in range(made.randrange(3, 7))]
     rows = ["run,step,from,to,dep,arr,class,change"]
     for run in range(made.randrange(20, 60)):
@@ -106,7 +106,7 @@ def made_cut(made: random.Random) -> str:
 
 
 def made_delays(made: random.Random, routes: list[str]) -> str:
-    """A delay file with the class *, two route types, and groups by route and hour where there are routes."""
+    """A delay file with the class *, two route types, and groups by hour and, if there are routes, by route."""
     groups = [("*", "", "")] + [(kind, "", "") for kind in ("1", "3") if made.random() < 0.7]
     groups += [(kind, "", str(made.randrange(8, 14))) for kind in ("*", "3") if made.random() < 0.5]
     groups += [("*", route, made.choice(["", "9", "10"])) for route in routes if made.random() < 0.5]

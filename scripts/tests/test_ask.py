@@ -1,4 +1,4 @@
-"""Tests of ask: stops by name, plans within a deadline of one's own, and why there is none."""
+"""Tests of ask: stops by name, plans for a deadline of one's own, and why there is no plan."""
 
 from __future__ import annotations
 
@@ -20,28 +20,28 @@ class Stops(Case):
     def test_by_name_or_id(self) -> None:
         for source in ("MIL", "mill", "Mil"):
             ran = self.ask(source, "AIRPORT")
-            self.assertEqual(ran.status, 0, ran.told)
+            self.assertEqual(ran.status, 0, ran.errors)
             self.assertIn("There by 08:50 in 50 of 100 cases, by 09:06 in 95 and by 09:21 in all.\n", ran.printed)
         self.assertTrue(self.ask("MIL", "old town").printed.startswith("Mill to Old Town, Square\n"))
         self.assertIn("<main>", self.ask("MIL", "AIR", "--html").printed)
 
     def test_what_is_unknown_or_many(self) -> None:
         self.is_refused(self.ask("nowhere", "AIR"), "FROM: there is no stop nowhere")
-        self.is_refused(self.ask("MIL", "a"), "TO: a may be AIR (stop of Airport), HLF (stop of Halfway), S,1 (station of Old Town, Square); give the id")
+        self.is_refused(self.ask("MIL", "a"), "TO: a may mean AIR (stop, Airport), HLF (stop, Halfway), S,1 (station, Old Town, Square); give the id")
 
     def test_moments(self) -> None:
         for when in ("2024-06-03 8:00", "2024-06-03T08:00:00"):
             self.assertEqual(call("ask", "", FEED, DELAYS, "MIL", "AIR", when).status, 0)
         for when in ("2024-06-03T08:61", "2024-13-03T08:00", "now", "2024-06-03"):
             self.is_refused(call("ask", "", FEED, DELAYS, "MIL", "AIR", when), "WHEN: ")
-        # A time is of today, for which the feed has no trips.
+        # A time alone means today, for which the feed has no trips.
         self.is_refused(call("ask", "", FEED, DELAYS, "MIL", "AIR", "08:00"), "the feed has trips from 2024-01-01 to 2024-12-31")
 
 
 class By(Case):
     def test_a_plan_within_it(self) -> None:
         ran = call("ask", "", FEED, DELAYS, "MIL", "AIR", "2024-06-03T07:00", "--by", "09:30")
-        self.assertEqual(ran.status, 0, ran.told)
+        self.assertEqual(ran.status, 0, ran.errors)
         self.assertIn("To be there by 09:30 whatever the delays, leave by 08:00.\n", ran.printed)
 
     def test_too_soon(self) -> None:
@@ -83,12 +83,12 @@ class By(Case):
 
 
 class Why(Case):
-    """Each cause that is known is told."""
+    """Each cause is reported."""
 
     def why(self, feed: str, source: str, target: str, *more: str, when: str = "2024-06-03T08:00", delays: str = DELAYS) -> str:
         ran = call("ask", "", feed, delays, source, target, when, *more)
         self.is_refused(ran, "no safe strategy: ")
-        return ran.told
+        return ran.errors
 
     def test_days(self) -> None:
         self.assertIn("no trip runs on 2024-06-09", self.why(FEED, "MIL", "AIR", "--horizon", "12", when="2024-06-09T08:00"))
@@ -98,21 +98,21 @@ class Why(Case):
         stops = "stop_id,stop_name,location_type,parent_station\nA,A,,\nE,Entrance,2,S\nS,Station,1,\nB,B,,S\nX,Alone,,\n"
         feed = self.feed("feed", stops=stops, routes="route_id,route_type\nR,3\n", trips="route_id,service_id,trip_id\nR,WK,t\n",
                          stop_times="trip_id,stop_sequence,stop_id,arrival_time,departure_time\nt,1,A,8:10:00,8:10:00\nt,2,B,8:20:00,8:20:00\n")
-        self.assertIn("E is an entrance; ask to S", self.why(feed, "A", "E"))
+        self.assertIn("E is an entrance, where nothing stops; ask for a plan to S", self.why(feed, "A", "E"))
         self.assertIn("no trip stops at Alone", self.why(feed, "A", "X"))
         self.assertIn("there is no way from Station to A within 72 hours", self.why(feed, "S", "A"))
 
     def test_walks(self) -> None:
         there = f"{WALK}/there"
-        self.assertIn("the last way would be a walk of 300 seconds from X1", self.why(there, "A", "X2", delays=f"{WALK}/delays.csv"))
-        self.assertIn("the first way would be a walk of 300 seconds to X2", self.why(there, "X1", "T", delays=f"{WALK}/delays.csv",
+        self.assertIn("end with a walk of 300 seconds from X1", self.why(there, "A", "X2", delays=f"{WALK}/delays.csv"))
+        self.assertIn("begin with a walk of 300 seconds to X2", self.why(there, "X1", "T", delays=f"{WALK}/delays.csv",
                                                                                       when="2024-06-03T08:00"))
 
     def test_a_longer_window_and_delays(self) -> None:
         self.assertIn("ask with --horizon 72", self.why(FEED, "MIL", "AIR", "--horizon", "1", when="2024-06-03T06:30"))
         strict = self.write("strict.csv", "class,delay,weight\n*,0,5000\n*,86400,5000\n")
-        told = self.why(FEED, "MIL", "AIR", delays=strict, when="2024-12-31T08:00")
-        self.assertIn("if nothing were late, one would be there at 08:50", told)
+        line = self.why(FEED, "MIL", "AIR", delays=strict, when="2024-12-31T08:00")
+        self.assertIn("if nothing were late, you would be there at 08:50", line)
 
     def test_other_refusals(self) -> None:
         self.is_refused(call("ask", "", FEED, f"{self.room}/none", "MIL", "AIR", "2024-06-03T08:00"), "delay file is missing")

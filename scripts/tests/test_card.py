@@ -153,12 +153,12 @@ class Pages(Case):
 class Refusals(Case):
     def test_texts(self) -> None:
         texts: list[tuple[Union[str, bytes], str]] = [
-            ("safe,A,T\n", "line 1: "), ("expanded,1\n", "`expand`"), (b"graph\xff", "no UTF-8"), (PLAN[:200], "line 2: "),
-            ("safe,A,T,2024-06-03T08:00:00,2024-06-03T09:21:00,2024-06-03T10:42:00\n", "a card of the text of `plan`")]
+            ("safe,A,T\n", "line 1: "), ("expanded,1\n", "`expand`"), (b"graph\xff", "not UTF-8"), (PLAN[:200], "line 2: "),
+            ("safe,A,T,2024-06-03T08:00:00,2024-06-03T09:21:00,2024-06-03T10:42:00\n", "only of what `plan`, `punctual` or `departures` prints")]
         for text, why in texts:
             self.is_refused(call("card", text), why)
-        # Where there is no plan the planner has said why.
-        self.assertEqual((call("card", "").status, call("card", "").told), (1, ""))
+        # If there is no plan, the planner has already said why.
+        self.assertEqual((call("card", "").status, call("card", "").errors), (1, ""))
 
     def test_files(self) -> None:
         self.is_refused(call("card", PLAN, "--feed", self.room), "cannot read stops.txt: No such file")
@@ -166,7 +166,7 @@ class Refusals(Case):
         self.is_refused(call("card", PLAN, "--delays", f"{OLD_TOWN}/delays.csv"), "--feed or --cut")
         self.is_refused(call("card", PLAN, "--feed", self.feed("none", stops="id\n")), "stops.txt has no column stop_id")
         other = f"{CONNECTIONS}/change.csv"
-        self.is_refused(call("card", PLAN, "--cut", other, "--delays", f"{CONNECTIONS}/delays.csv"), "the plan is of another file")
+        self.is_refused(call("card", PLAN, "--cut", other, "--delays", f"{CONNECTIONS}/delays.csv"), "the plan belongs to another file")
 
 
 class Printed(Case):

@@ -8,7 +8,7 @@ import unittest
 
 from support import CONNECTIONS, OLD_TOWN, Case, Ran, call
 
-# A direct ride that is never late, r4, and a way by B that is sooner on average.
+# A direct ride that is never late, r4, and a journey over B that is earlier on average.
 WITH = """run,step,from,to,dep,arr,class
 r1,1,A,B,2024-06-03T08:00:00,2024-06-03T08:05:00,
 r2,1,B,T,2024-06-03T08:09:00,2024-06-03T08:15:00,1

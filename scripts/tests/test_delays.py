@@ -17,7 +17,7 @@ README_OBSERVED = "late\n" + "0\n" * 80 + "300\n" * 15 + "900\n" * 5
 
 
 def averaged(delays: list[int], most: int, multiple: int) -> list[tuple[int, int]]:
-    """Observations in rising order in equal parts, each with the mean of its values rounded up: a way that loses the latest."""
+    """Observations in rising order in equal parts, each with the mean of its values rounded up, which loses the latest."""
     delays, counts = sorted(delays), Counter[int]()
     bounds = [len(delays) * part // most for part in range(most + 1)]
     for low, high in zip(bounds, bounds[1:]):
@@ -29,10 +29,10 @@ def averaged(delays: list[int], most: int, multiple: int) -> list[tuple[int, int
 
 
 def distance(delays: list[int], outcomes: list[tuple[int, int]]) -> float:
-    """The mean difference in seconds between what was observed and what stands for it, both in rising order."""
-    told = [delay for delay, weight in outcomes for _ in range(weight)]
+    """The mean difference in seconds between the observed delays and those that represent them, both in rising order."""
+    represented = [delay for delay, weight in outcomes for _ in range(weight)]
     rising = sorted(delays)
-    return sum(abs(told[at] - rising[at * len(rising) // 10_000]) for at in range(10_000)) / 10_000
+    return sum(abs(represented[at] - rising[at * len(rising) // 10_000]) for at in range(10_000)) / 10_000
 
 
 def month() -> list[int]:
@@ -62,10 +62,10 @@ class Kept(Case):
         for _ in range(200):
             delays = [made.randrange(0, 2000) for _ in range(made.randrange(1, 300))]
             outcomes = outcomes_of(delays, made.randrange(1, 20), made.choice([1, 30, 60]))
-            told = [delay for delay, weight in outcomes for _ in range(weight)]
+            represented = [delay for delay, weight in outcomes for _ in range(weight)]
             rising = sorted(delays)
             # A share of a ten-thousandth may be rounded, one step in each value.
-            off = sum(told[at] < rising[at * len(rising) // 10_000] for at in range(10_000))
+            off = sum(represented[at] < rising[at * len(rising) // 10_000] for at in range(10_000))
             self.assertLessEqual(off, len(outcomes) * 2)
             self.assertEqual(outcomes[-1][0], rising[-1])
 
@@ -85,14 +85,14 @@ class Kept(Case):
     def test_the_example(self) -> None:
         ran = call("delays", content(f"{OLD_TOWN}/observed.csv"), "--values", "6", "--round", "60")
         self.assertIn("*,996,", ran.printed)
-        self.assertIn("240 observations; 103 early, up to 60 seconds, which count as on time; 3 groups; greatest delay 996 seconds\n", ran.told)
+        self.assertIn("240 observations; 103 early by up to 60 seconds, counted as on time; 3 groups; greatest delay 996 seconds\n", ran.errors)
 
     def test_the_latest_left_out(self) -> None:
         ran = call("delays", README_OBSERVED, "--worst", "5")
         self.assertEqual(ran.printed, "class,delay,weight\n*,0,8421\n*,300,1579\n")
-        self.assertIn("100 observations; 5 left out; 1 group; greatest delay 300 seconds\n", ran.told)
-        self.assertIn("left out the latest 5: 900 to 900 seconds late", ran.told)
-        self.assertIn("all alike", call("delays", "late\n30\n").told)
+        self.assertIn("100 observations; 5 left out; 1 group; greatest delay 300 seconds\n", ran.errors)
+        self.assertIn("left out the latest 5: 900 to 900 seconds late", ran.errors)
+        self.assertIn("all equally late", call("delays", "late\n30\n").errors)
 
 
 class Groups(Case):
@@ -109,7 +109,7 @@ class Groups(Case):
         text = "trip_id,late\nb200,30\nb201,60\nt100,0\nx,0\n"
         ran = call("delays", text, "--feed", f"{OLD_TOWN}/feed", "--least", "2")
         self.assertIn("3,30,5000,\n3,60,5000,\n*,30,5000,B7\n*,60,5000,B7\n", ran.printed)
-        self.assertIn("1 of trips that the feed does not have", ran.told)
+        self.assertIn("1 of trips that are not in the feed", ran.errors)
 
 
 class Columns(Case):
@@ -124,28 +124,28 @@ class Columns(Case):
                                         ("2024-06-03T08:00:00Z", "2024-06-03T10:02:00+02:00", 120, 8),
                                         ("03.06.2024 08:00", "03.06.2024 08:00:41", 41, 8), ("00:01", "23:59", 0, 0)):
             ran = call("delays", f"due,actual\n{due},{actual}\n", "--due", "due", "--actual", "actual", "--least", "1")
-            told = f"*,{late},10000,{hour}\n" if hour is not None else f"*,{late},10000,\n"
-            self.assertIn(told, ran.printed, ran.told)
+            row = f"*,{late},10000,{hour}\n" if hour is not None else f"*,{late},10000,\n"
+            self.assertIn(row, ran.printed, ran.errors)
 
     def test_bad_ones(self) -> None:
-        for text, why in (("late\n5\nx\n", "line 3: 'x' is no number of seconds"), ("late\n5\n86401\n", "line 3: 86401 seconds are more"),
-                          ("late\n5\n\"\"\n", "line 3: '' is no number"), ("late,route_type\n5,-1\n", "line 2: '-1' is no route_type"),
-                          ("late,route_type\n5,3\n5,65535\n", "line 3: '65535'"), ("late,hour\n5,x\n", "line 2: 'x' is no hour"),
+        for text, why in (("late\n5\nx\n", "line 3: 'x' is not a number of seconds"), ("late\n5\n86401\n", "line 3: 86401 seconds are more"),
+                          ("late\n5\n\"\"\n", "line 3: '' is not a number"), ("late,route_type\n5,-1\n", "line 2: '-1' is not a valid route_type"),
+                          ("late,route_type\n5,3\n5,65535\n", "line 3: '65535'"), ("late,hour\n5,x\n", "line 2: 'x' is not a valid hour"),
                           ("late\n٣\n", "line 2: ")):
             self.is_refused(call("delays", text), why)
         ran = call("delays", "late\n5\nx\n99999\n\"\"\n", "--skip-bad")
         self.assertEqual(ran.printed, "class,delay,weight\n*,5,10000\n")
-        self.assertIn("4 observations; 3 bad and passed over, the first at line 3: 'x' is no number of seconds", ran.told)
+        self.assertIn("4 observations; 3 bad and skipped, the first at line 3: 'x' is not a number of seconds", ran.errors)
 
     def test_refusals(self) -> None:
         texts: list[tuple[Union[str, bytes], str]] = [
-            ("", "no column late"), ("a;late\n", "the columns are a;late"), ("late\n", "no observation"),
-            ('late\n"5\n', "no table"), (b"late\n\xff\n", "no UTF-8")]
+            ("", "no column late"), ("a;late\n", "the columns are a;late"), ("late\n", "no observations"),
+            ('late\n"5\n', "not a table"), (b"late\n\xff\n", "not UTF-8")]
         for text, why in texts:
             self.is_refused(call("delays", text), why)
-        self.is_refused(call("delays", "late\nx\n", "--skip-bad"), "no observation")
-        self.is_refused(call("delays", "due,actual\n08:61,08:00\n", "--due", "due", "--actual", "actual"), "'08:61' is no time")
-        self.is_refused(call("delays", "due,actual\n08:00,60\n", "--due", "due", "--actual", "actual"), "not of one form")
+        self.is_refused(call("delays", "late\nx\n", "--skip-bad"), "no observations")
+        self.is_refused(call("delays", "due,actual\n08:61,08:00\n", "--due", "due", "--actual", "actual"), "'08:61' is not a time")
+        self.is_refused(call("delays", "due,actual\n08:00,60\n", "--due", "due", "--actual", "actual"), "do not have the same form")
         self.is_refused(call("delays", "late\n5\n", "--feed", self.room), "no column trip_id")
         self.assertEqual(call("delays", "late\n5\n", "--due", "late").status, 2)
 
@@ -164,11 +164,11 @@ class Read(Case):
             words = ["--values", str(made.choice([1, 2, 16, 64])), "--least", str(made.choice([1, 20, 50])),
                      "--round", str(made.choice([1, 30, 60]))]
             ran = call("delays", "\n".join(rows) + "\n", *words)
-            self.assertEqual(ran.status, 0, ran.told)
+            self.assertEqual(ran.status, 0, ran.errors)
             self.is_delay_file(ran.printed)
             read = meat("safe", "--feed", f"{OLD_TOWN}/feed", "--delays", self.write("delays.csv", ran.printed), "--from", "MIL",
                         "--to", "AIR", "--at", "2024-06-03T08:00:00")
-            self.assertIn(read.status, (0, 1), read.told)
+            self.assertIn(read.status, (0, 1), read.errors)
 
     def is_delay_file(self, text: str) -> None:
         header, *rows = csv.reader(io.StringIO(text))

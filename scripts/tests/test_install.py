@@ -1,4 +1,4 @@
-"""Tests of the installation: what is put where, that it runs from there, and the manual page and completions."""
+"""Tests of the installation: what goes where, that it runs from there, and the manual page and completions."""
 
 from __future__ import annotations
 
@@ -23,7 +23,7 @@ class Install(Case):
         for name in ("scripts", "docs"):
             os.symlink(os.path.join(TOP, name), os.path.join(self.top, name))
         shutil.copyfile(os.path.join(TOP, "Makefile"), os.path.join(self.top, "Makefile"))
-        # A program in place of the real one, which it calls.
+        # A program that stands in for the real one, and calls it.
         self.program = self.write("top/out/meat", f'#!/bin/sh\nexec {MEAT} "$@"\n')
         os.chmod(self.program, 0o755)
 
@@ -49,7 +49,7 @@ class Install(Case):
         os.remove(self.program)
         ran = self.make("install", f"PREFIX={self.room}/prefix")
         self.assertNotEqual(ran.returncode, 0)
-        self.assertIn(b"make all comes first", ran.stderr)
+        self.assertIn(b"run `make all` first", ran.stderr)
 
     def test_scripts_are_all_installed(self) -> None:
         commands = {name for name in os.listdir(SCRIPTS) if os.access(os.path.join(SCRIPTS, name), os.X_OK) and "." not in name
@@ -74,7 +74,7 @@ class Manual(Case):
             self.assertIn(f".TP\n.B {status}\n", page)
 
     def test_refusals(self) -> None:
-        self.is_refused(call("manual", "", "man", self.write("other.md", "## The words\n")), "no part Statuses")
+        self.is_refused(call("manual", "", "man", self.write("other.md", "## The words\n")), "no section Statuses")
         self.is_refused(call("manual", "", "man", f"{self.room}/none"), "No such file")
 
 

@@ -25,27 +25,27 @@ class Look(Case):
   2024-01-01 to 2024-12-29: Mon 3, Tue 3, Wed 3, Thu 3, Fri 3, Sat 0, Sun 0
   2024-12-30 to 2024-12-31: Mon 3, Tue 3
 What the planner does not take into account:
-  1 stop times without a time: nobody boards or leaves there
+  1 stop times without a time: no boarding or alighting there
 """)
         self.assertIn("2007-06-04 to 2007-06-10: Mon 0, Tue 7", call("look", "", f"{EXAMPLES}/demo_transit/feed").printed)
         none = self.feed("none", trips="trip_id,route_id,service_id\n", stops="stop_id\n",
                          stop_times="stop_id,arrival_time,departure_time\n")
         self.assertIn("No trip runs on any day.\n", call("look", "", none).printed)
 
-    def test_what_is_not_heard(self) -> None:
-        told = call("look", "", self.made()).printed
-        for line in ("1 entrances, nodes and boarding areas", "1 trips of services that no calendar names", "1 stop times without a stop",
-                     "1 stop times without a time", "1 stop times where one phones ahead", "1 headways without exact times",
-                     "1 transfers that are not possible (type 3)", "1 least change times of routes or trips",
-                     "1 least change times without a time", "1 transfers to or from stations"):
-            self.assertIn(f"  {line}", told)
-        self.assertNotIn("quote", told)
+    def test_what_is_not_taken_into_account(self) -> None:
+        printed = call("look", "", self.made()).printed
+        for line in ("1 entrances, nodes and boarding areas", "1 trips whose service is in no calendar", "1 stop times without a stop",
+                     "1 stop times without a time", "1 stop times for which one phones ahead", "1 headways without exact times",
+                     "1 transfers that are not possible (type 3)", "1 minimum transfer times of routes or trips",
+                     "1 minimum transfer times without a value", "1 transfers to or from stations"):
+            self.assertIn(f"  {line}", printed)
+        self.assertNotIn("quote", printed)
 
     def test_an_open_quote(self) -> None:
-        self.assertIn("1 quote in stop_times.txt that is never closed", call("look", "", self.made(stop_times=TIMES + '"u,2,A')).printed)
+        self.assertIn("1 quote that is never closed, in stop_times.txt", call("look", "", self.made(stop_times=TIMES + '"u,2,A')).printed)
 
     def test_stops(self) -> None:
-        self.prints(call("look", "", self.made(), "ZURICH"), """Stops with ZURICH, as id, name, what it is, and the place that the planner takes it for:
+        self.prints(call("look", "", self.made(), "ZURICH"), """Stops with ZURICH in their name or id (id, name, kind, place):
   H, Zürich Hauptbahnhof, station, H
   H2, Zürich Hauptbahnhof, platform 2, H
 """)

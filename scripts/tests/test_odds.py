@@ -19,8 +19,8 @@ QUESTIONS = 200
 
 
 def is_within(text: str, delays: str, feed: Optional[str], cut: Optional[str]) -> bool:
-    """Whether the exact mean of a plan lies within its bounds, its latest arrival is by the deadline, and, where a chance is
-    printed, the chance of a later arrival than the promise within the bounds of that."""
+    """Whether the exact mean of a plan is within its bounds, its latest arrival is by the deadline and, if a chance is printed,
+    the chance of arriving after the promise is within its bounds."""
     plan = read_plan(text)
     chances = arrivals_of(plan, Delays(delays), RideKinds(plan, feed, cut))
     mean = nanoseconds_of(plan.start) + mean_of(chances, plan.start) * NANOSECONDS
@@ -64,7 +64,7 @@ latest,2024-06-03T09:21:00
 
 
 class Bounds(Case):
-    """The printed bounds enclose the mean that is reckoned here, by other means than the program's."""
+    """The printed bounds enclose the mean that is computed here, independently of the program."""
 
     def test_the_examples(self) -> None:
         found = 0
@@ -74,16 +74,16 @@ class Bounds(Case):
             for name in files:
                 line = content(os.path.join(folder, name)).split("\n", 1)[0]
                 words = line.removeprefix("$ ./meat ").replace("'", "").split() if line.startswith("$ ./meat plan ") else []
-                told = dict(zip(words[1::2], words[2::2]))
+                options = dict(zip(words[1::2], words[2::2]))
                 printed = meat(*words) if words else None
                 if printed and printed.status == 0:
-                    feed, cut = told.get("--feed"), told.get("--cut")
-                    self.assertTrue(is_within(printed.printed, told["--delays"], feed, cut), line)
+                    feed, cut = options.get("--feed"), options.get("--cut")
+                    self.assertTrue(is_within(printed.printed, options["--delays"], feed, cut), line)
                     found += 1
         self.assertGreaterEqual(found, 8)
 
     def answer(self, number: int) -> int:
-        """Asks a made question, and gives how many plans it had."""
+        """Asks a made question, and returns how many plans it had."""
         made, cut, feed = random.Random(number), None, None
         if number % 2:
             cut = self.write(f"{number}/cut.csv", made_cut(made))
@@ -98,12 +98,12 @@ class Bounds(Case):
         words += ["--delays", delays, "--from", source, "--to", target, "--at", START]
         plan = meat("plan", *words, "--alpha", str(made.choice([100, 150, 200, 400])))
         if plan.status != 0:
-            self.assertEqual(plan.status, 1, plan.told)
+            self.assertEqual(plan.status, 1, plan.errors)
             return 0
         self.assertTrue(is_within(plan.printed, delays, feed, cut), f"plan of {number}")
         by = str(read_plan(plan.printed).expected.middle()).replace(" ", "T")
         promise = meat("punctual", *words, "--by", by)
-        self.assertEqual(promise.status, 0, promise.told)
+        self.assertEqual(promise.status, 0, promise.errors)
         self.assertTrue(is_within(promise.printed, delays, feed, cut), f"punctual of {number}")
         return 2
 

@@ -1,4 +1,4 @@
-"""Tests of plans.py: what is read of each printed text, and what is refused."""
+"""Tests of plans.py: what is read from each printed text, and what is refused."""
 
 from __future__ import annotations
 
@@ -20,7 +20,7 @@ arrived,T,2024-06-03T09:21:00
 
 
 def spoilt(text: str) -> list[str]:
-    """A text with one field of each row changed, and with each row left out at the end."""
+    """A text cut off after each row but the last, and with one field of each row changed."""
     rows = text.splitlines(keepends=True)
     fronts = ["".join(rows[:count]) for count in range(1, len(rows))]
     return fronts + ["".join([*rows[:at], row.replace("-", "?", 1), *rows[at + 1:]]) for at, row in enumerate(rows) if "-" in row]
@@ -66,7 +66,7 @@ class Plans(Case):
 
     def test_what_is_no_plan(self) -> None:
         for text, why in ((DEPARTURES, "`departures`"), (TRIP, "`replay`"), ("expanded,1\n", "`expand`"), ("bounds,1\n", "`certify`"),
-                          ("safe,A\n", "`safe`"), ("other\n", "no row graph"), ("", "no text")):
+                          ("safe,A\n", "`safe`"), ("other\n", "not a `graph` row"), ("", "no text")):
             with self.assertRaises(Refused) as refused:
                 read_plan(text)
             self.assertIn(why, str(refused.exception))
