@@ -1,11 +1,11 @@
-/* Makes calls of the C library fail, as the environment asks; to be preloaded.
+/* Makes calls of the C library fail, as the environment says. To be preloaded.
 
-   FAIL_OPEN, FAIL_READ, FAIL_WRITE, FAIL_ALLOC: the call of this kind with this number, counted from 1, fails.
-   FAIL_FROM: set, each later call of the kind fails too.
-   FAIL_ERRNO: the error of a failing open, read or write; EIO where it is not set.
-   FAIL_STREAM: the only descriptor whose writes are counted; 1 where it is not set.
-   ONE_BYTE: set, each read and each write moves one byte at most.
-   CALLS: a file that gets the numbers of calls of each kind at the end. */
+   FAIL_OPEN, FAIL_READ, FAIL_WRITE, FAIL_ALLOC: the number, counted from 1, of the call of this kind that fails.
+   FAIL_FROM: if set, each later call of the kind fails too.
+   FAIL_ERRNO: the error of a failing open, read or write; EIO by default.
+   FAIL_STREAM: the only descriptor whose writes are counted; 1 by default.
+   ONE_BYTE: if set, each read and each write moves at most one byte.
+   CALLS: a file to which the numbers of calls of each kind are written at the end. */
 #define _GNU_SOURCE
 #include <dlfcn.h>
 #include <errno.h>
