@@ -6,20 +6,24 @@ names here are made against the hash of the kit's maps with the seed that it has
 the first 24 bring the state to where the next eight bytes count for nothing. The ordinary names are as long and differ
 from them in one byte of the first 24, by which the rest counts again.
 
-For stops, trips, services, routes, and for the places and runs of a cut file, the program runs over so many ordinary
+For stops, trips, services, routes, and for the places and runs of a cut file, the program runs over ordinary
 names, and over as many with one hash. A line of the table gives the seconds of the processor for both, and how many
 times as long the second took. With `--before PROGRAM` a second program is measured in the same run, over few names, since
 its time may grow by their square.
 """
 
+from __future__ import annotations
+
 import argparse
 import os
 import sys
 import tempfile
+from typing import Callable, Optional, Sequence
 
 sys.dont_write_bytecode = True
 
-from measure import BUILT, Table, fastest, measure, write_apart  # noqa: E402
+from inputs import write  # noqa: E402
+from processes import Run, add_program, in_turn, need_program, print_head, print_row, ratio, write_apart  # noqa: E402
 
 SEED = 0x243F6A8885A308D3
 MULTIPLIER = 0x9E3779B97F4A7C15
@@ -31,13 +35,13 @@ CALENDAR = "service_id,monday,tuesday,wednesday,thursday,friday,saturday,sunday,
 EACH_DAY = ",1,1,1,1,1,1,1,20240101,20241231\n"
 
 
-def folded(first, second):
+def folded(first: int, second: int) -> int:
     """The two halves of the product, joined by exclusive or."""
     product = first * second
     return (product & MASK) ^ (product >> 64)
 
 
-def front():
+def front() -> bytes:
     """The first 24 bytes of the names: a text, and then the state that the hash has after it."""
     number = 0
     while True:
@@ -56,28 +60,23 @@ def front():
 class Names:
     """Names with one hash, or ordinary ones."""
 
-    def __init__(self, alike):
+    def __init__(self, alike: bool) -> None:
         begin = front()
         self.front = (begin if alike else b"jd" + begin[2:]).decode()
 
-    def name(self, number):
+    def name(self, number: int) -> str:
         return "%s%08x0123456789abcdef" % (self.front, number)
 
 
-def write(folder, name, lines):
-    with open(os.path.join(folder, name), "w", encoding="utf-8", newline="\n") as file:
-        file.writelines(lines)
-
-
-def write_feed(folder, count, names, kind):
-    """A feed with one trip from A to T at ten past eight, and so many names of a kind beside it."""
+def write_feed(folder: str, count: int, names: Names, kind: str) -> None:
+    """A feed with one trip from A to T at ten past eight, and this number of names of a kind beside it."""
     name = names.name
     numbers = range(count)
     stops = [name(k) + "\n" for k in numbers] if kind == "stops" else []
     routes = [name(k) + ",3\n" for k in numbers] if kind == "routes" else []
     services = [name(k) + EACH_DAY for k in numbers] if kind == "services" else []
-    trips = []
-    times = []
+    trips: list[str] = []
+    times: list[str] = []
     if kind == "trips":
         trips = ["R,D,%s\n" % name(k) for k in numbers]
         times = ["%s,08:10:00,08:10:00,A,1\n%s,08:40:00,08:40:00,T,2\n" % (name(k), name(k)) for k in numbers]
@@ -98,8 +97,8 @@ def write_feed(folder, count, names, kind):
     write(folder, "delays.csv", [DELAYS])
 
 
-def write_cut(folder, count, names, kind):
-    """A cut file with one ride from A to T, and so many names of places or of runs beside it."""
+def write_cut(folder: str, count: int, names: Names, kind: str) -> None:
+    """A cut file with one ride from A to T, and this number of names of places or of runs beside it."""
     name = names.name
     times = "2024-06-03T08:10:00,2024-06-03T08:40:00"
     if kind == "places":
@@ -110,7 +109,7 @@ def write_cut(folder, count, names, kind):
     write(folder, "delays.csv", [DELAYS])
 
 
-KINDS = {
+KINDS: dict[str, tuple[Callable[[str, int, Names, str], None], int]] = {
     "stops": (write_feed, 2**20 - 2),
     "routes": (write_feed, 2**16 - 1),
     "trips": (write_feed, 2**20 - 1),
@@ -120,43 +119,40 @@ KINDS = {
 }
 
 
-def words(folder, kind):
+def words(folder: str, kind: str) -> list[str]:
     source = ["--cut", os.path.join(folder, "cut.csv")] if KINDS[kind][0] is write_cut else ["--feed", folder]
     return ["safe", *source, "--delays", os.path.join(folder, "delays.csv"), "--from", "A", "--to", "T", "--at", START]
 
 
-def runs_of(programs, kind, count, alike, options):
-    """The fastest run of each program over so many names of a kind."""
+def runs_of(programs: Sequence[str], kind: str, count: int, alike: bool, options: argparse.Namespace) -> list[Optional[Run]]:
+    """The fastest run of each program over this number of names of a kind."""
     with tempfile.TemporaryDirectory() as folder:
-        write_apart(lambda folder, count: KINDS[kind][0](folder, count, Names(alike), kind), folder, count)
-        turns = [[measure([program, *words(folder, kind)], options.limit) for program in programs]
-                 for _ in range(options.times)]
-        return [fastest([turn[k] for turn in turns]) for k in range(len(programs))]
+        write_apart(lambda: KINDS[kind][0](folder, count, Names(alike), kind))
+        return in_turn([[program, *words(folder, kind)] for program in programs], options.times, options.limit)
 
 
-def shown(run):
+def shown(run: Optional[Run]) -> str:
     return "over the limit of time" if run is None else "%.3f" % run.seconds()
 
 
-def line(who, kind, count, ordinary, alike):
+def line(who: str, kind: str, count: int, ordinary: Optional[Run], alike: Optional[Run]) -> None:
     """A line for a program: both times, and how many times as long the second is."""
-    times = "-" if ordinary is None or alike is None else "%.2f" % (alike.seconds() / ordinary.seconds())
+    times = ratio(alike.seconds(), ordinary.seconds()) if alike and ordinary else "-"
     status = "-" if alike is None else str(alike.status)
-    Table.row([who, kind, "{:,}".format(count), shown(ordinary), shown(alike), times, status])
+    print_row([who, kind, "{:,}".format(count), shown(ordinary), shown(alike), times, status])
 
 
-def main():
+def main() -> None:
     parser = argparse.ArgumentParser(description="Measures the program over names that share one hash.")
-    built = next((program for program in BUILT if os.access(program, os.X_OK)), BUILT[0])
-    parser.add_argument("--program", default=built, help="the program")
+    add_program(parser)
     parser.add_argument("--before", help="a second program, to compare with over few names")
     parser.add_argument("--few", type=int, default=20_000, help="how many names the second program is given")
     parser.add_argument("--part", type=int, default=1, help="a part of the names: 16 is a sixteenth")
     parser.add_argument("--times", type=int, default=3, help="runs of each, of which the fastest counts")
     parser.add_argument("--limit", type=float, default=600, help="seconds that a run may take")
     options = parser.parse_args()
-    Table.row(["program", "names", "how many", "ordinary s", "one hash s", "times", "status"])
-    Table.row(["---", "---"] + ["--:"] * 5)
+    need_program(options.program)
+    print_head(["program", "names", "how many", "ordinary s", "one hash s", "times", "status"], texts=["names"])
     for kind, (_, most) in KINDS.items():
         count = most // options.part
         ordinary, = runs_of([options.program], kind, count, False, options)
@@ -165,10 +161,9 @@ def main():
         if options.before:
             programs = [options.program, options.before]
             few = min(options.few, most)
-            ordinary = runs_of(programs, kind, few, False, options)
-            alike = runs_of(programs, kind, few, True, options)
-            for k, who in enumerate(("now", "before")):
-                line(who, kind, few, ordinary[k], alike[k])
+            both = zip(("now", "before"), runs_of(programs, kind, few, False, options), runs_of(programs, kind, few, True, options))
+            for who, one, other in both:
+                line(who, kind, few, one, other)
 
 
 if __name__ == "__main__":

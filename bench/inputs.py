@@ -2,7 +2,10 @@
 measures the same bytes.
 
 A feed of n lines is that of `sample --size n`, whose rule is in docs/FORMATS.md: n lines between ten hubs, each of
-96 runs a day with 21 stop times. Beside its stops stands one that no trip serves, `X`, from which no strategy is safe.
+96 runs a day with 21 stop times. It also has a stop `X`, which no trip serves and from which no strategy is safe.
+
+A short feed is the same feed with shorter names, so that 2^25 stop times fit in a file of 2^30 bytes: the names of its trips,
+and of the stops of its lines, are numbers in base 36.
 
 The same feed with links has a `transfers.txt`: from each stop of a line, links lead to the stops at the same position
 of the next four lines, and from each hub to the next four hubs, in a ring; they take 120, 180, 240 and 300 seconds.
@@ -19,8 +22,11 @@ x = 1, of which a number below m is the upper 32 bits of x, mod m:
 So run 0 goes from S0 to S10 without a change, and a safe strategy exists at each size.
 """
 
+from __future__ import annotations
+
 import datetime
 import os
+from typing import Callable, Iterable, Iterator
 
 RUNS = 96
 HOPS = 20
@@ -30,64 +36,101 @@ LINK_SECONDS = (120, 180, 240, 300)
 CALENDAR = ("service_id,monday,tuesday,wednesday,thursday,friday,saturday,sunday,start_date,end_date\n"
             "D,1,1,1,1,1,1,1,20240101,20241231\n")
 UNSERVED = "X"
+DIGITS = "0123456789abcdefghijklmnopqrstuvwxyz"
 
 CUT_START = datetime.datetime(2024, 6, 3, 8, 0, 0)
 CUT_HOPS = 10
 CUT_DELAYS = "class,delay,weight\n*,0,8000\n*,300,1500\n*,900,500\n"
 
 
-def stop_times_of(lines):
-    """How many stop times a feed of so many lines has."""
+def stop_times_of(lines: int) -> int:
+    """How many stop times a feed with these lines has."""
     return lines * RUNS * (HOPS + 1)
 
 
-def stop_at(number, place):
-    """The stop at a place of a line."""
-    if place == 0:
-        return "H%d" % (number % 10)
-    if place == HOPS:
-        return "H%d" % ((number + 1 + number // 10 % 3) % 10)
-    return "L%d_%d" % (number, place)
+def connections_of(lines: int, hours: int) -> int:
+    """How many connections a feed with these lines has in a window of these hours."""
+    return lines * RUNS * HOPS * hours // 24
 
 
-def clock(seconds):
+def base_36(number: int) -> str:
+    """The digits of a number in base 36."""
+    text = DIGITS[number % 36]
+    while number >= 36:
+        number //= 36
+        text = DIGITS[number % 36] + text
+    return text
+
+
+class Names:
+    """The names of the trips of a feed, and of its stops."""
+
+    def trip(self, number: int, run: int) -> str:
+        """The trip of a run of a line."""
+        return "T%d_%d" % (number, run)
+
+    def inner(self, number: int, place: int) -> str:
+        """The stop at a place of a line, if it is no hub."""
+        return "L%d_%d" % (number, place)
+
+    def stop(self, number: int, place: int) -> str:
+        """The stop at a place of a line."""
+        if place == 0:
+            return "H%d" % (number % 10)
+        if place == HOPS:
+            return "H%d" % ((number + 1 + number // 10 % 3) % 10)
+        return self.inner(number, place)
+
+
+class ShortNames(Names):
+    """The names of a short feed."""
+
+    def trip(self, number: int, run: int) -> str:
+        return base_36(number * RUNS + run)
+
+    def inner(self, number: int, place: int) -> str:
+        return base_36(number * HOPS + place)
+
+
+def clock(seconds: int) -> str:
     """A time of the service day."""
     return "%02d:%02d:%02d" % (seconds // 3600, seconds // 60 % 60, seconds % 60)
 
 
-def write(folder, name, pieces):
+def write(folder: str, name: str, pieces: Iterable[str]) -> None:
     """Writes a file of these pieces of text."""
     with open(os.path.join(folder, name), "w", encoding="utf-8", newline="\n") as file:
         file.writelines(pieces)
 
 
-def stop_times(lines):
+def stop_times(lines: int, names: Names) -> Iterator[str]:
     """Each run of each line at its 21 stops."""
     yield "trip_id,arrival_time,departure_time,stop_id,stop_sequence\n"
     for number in range(lines):
         hop = 60 + 5 * (number % 7)
+        stops = [names.stop(number, place) for place in range(HOPS + 1)]
         for run in range(RUNS):
             begin = 900 * run + 35 * number % 900
-            for place in range(HOPS + 1):
+            trip = names.trip(number, run)
+            for place, stop in enumerate(stops):
                 time = clock(begin + place * hop)
-                yield "T%d_%d,%s,%s,%s,%d\n" % (number, run, time, time, stop_at(number, place), place + 1)
+                yield "%s,%s,%s,%s,%d\n" % (trip, time, time, stop, place + 1)
 
 
-def write_feed(folder, lines):
-    """Writes the tables of a feed of so many lines, and its delay file beside them."""
-    stops = ["H%d\n" % hub for hub in range(10)] + [UNSERVED + "\n"]
-    stops += ["L%d_%d\n" % (number, place) for number in range(lines) for place in range(1, HOPS)]
-    write(folder, "stops.txt", ["stop_id\n"] + stops)
+def write_feed(folder: str, lines: int, names: Names = Names()) -> None:
+    """Writes the tables of a feed with this number of lines, and a delay file beside them."""
+    write(folder, "stops.txt", ["stop_id\n"] + ["H%d\n" % hub for hub in range(10)] + [UNSERVED + "\n"]
+          + [names.inner(number, place) + "\n" for number in range(lines) for place in range(1, HOPS)])
     write(folder, "routes.txt",
           ["route_id,route_type\n"] + ["R%d,%d\n" % (number, number % 4) for number in range(lines)])
     write(folder, "trips.txt", ["route_id,service_id,trip_id\n"]
-          + ["R%d,D,T%d_%d\n" % (number, number, run) for number in range(lines) for run in range(RUNS)])
-    write(folder, "stop_times.txt", stop_times(lines))
+          + ["R%d,D,%s\n" % (number, names.trip(number, run)) for number in range(lines) for run in range(RUNS)])
+    write(folder, "stop_times.txt", stop_times(lines, names))
     write(folder, "calendar.txt", [CALENDAR])
     write(folder, "delays.csv", [FEED_DELAYS])
 
 
-def links(lines):
+def links(lines: int) -> Iterator[str]:
     """Four links from each stop that a trip serves."""
     yield "from_stop_id,to_stop_id,transfer_type,min_transfer_time\n"
     for hub in range(10):
@@ -99,16 +142,16 @@ def links(lines):
                 yield "L%d_%d,L%d_%d,2,%d\n" % (number, place, (number + step) % lines, place, seconds)
 
 
-def write_links(folder, lines):
-    """Writes the links of a feed of so many lines, five at least."""
+def write_links(folder: str, lines: int) -> None:
+    """Writes the links of a feed with this number of lines, at least five."""
     write(folder, "transfers.txt", links(lines))
 
 
-def numbers():
+def numbers() -> Callable[[int], int]:
     """The pseudo-random sequence, as a function that gives the next number below m."""
     state = 1
 
-    def below(m):
+    def below(m: int) -> int:
         nonlocal state
         state = (6364136223846793005 * state + 1442695040888963407) % 2**64
         return (state >> 32) % m
@@ -116,11 +159,11 @@ def numbers():
     return below
 
 
-def moments():
-    """The text of a moment so many seconds after the start."""
-    days = {}
+def moments() -> Callable[[int], str]:
+    """Gives the text of a moment by its seconds after the start."""
+    days: dict[int, str] = {}
 
-    def text(seconds):
+    def text(seconds: int) -> str:
         day, rest = divmod(CUT_START.hour * 3600 + seconds, 86400)
         if day not in days:
             days[day] = (CUT_START.date() + datetime.timedelta(days=day)).isoformat()
@@ -129,8 +172,8 @@ def moments():
     return text
 
 
-def cut_rows(rows):
-    """The lines of a cut file of so many rows."""
+def cut_rows(rows: int) -> Iterator[str]:
+    """The lines of a cut file with this number of rows."""
     below = numbers()
     text = moments()
     places = max(200, rows // 50)
@@ -149,7 +192,7 @@ def cut_rows(rows):
         run += 1
 
 
-def write_cut(folder, rows):
-    """Writes a cut file of so many rows, and its delay file beside it."""
+def write_cut(folder: str, rows: int) -> None:
+    """Writes a cut file with this number of rows, and a delay file beside it."""
     write(folder, "cut.csv", cut_rows(rows))
     write(folder, "delays.csv", [CUT_DELAYS])

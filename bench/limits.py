@@ -9,17 +9,24 @@ The inputs are made in a folder for the time of a line, and take up to 2 GiB of 
 many fields have nothing but commas after what is needed.
 """
 
+from __future__ import annotations
+
 import argparse
 import os
 import resource
 import subprocess
 import sys
 import tempfile
+from functools import partial
+from typing import Callable, Iterable, Iterator
 
 sys.dont_write_bytecode = True
 
-from measure import BUILT, Table  # noqa: E402
+from processes import add_program, need_program, print_head, print_row, write_apart  # noqa: E402
 
+# The pieces of a file, made anew, and what writes the files of a line into a folder.
+Pieces = Callable[[], Iterable[bytes]]
+Made = Callable[[str], None]
 MEMORY = 8 << 30
 PIECE = 1 << 20
 DELAYS = b"class,delay,weight\n*,0,10000\n"
@@ -31,42 +38,42 @@ EACH_DAY = b",1,1,1,1,1,1,1,20240101,20241231\n"
 SOON = "2024-06-03T08:00:00"
 
 
-def write(folder, name, pieces):
+def write(folder: str, name: str, pieces: Iterable[bytes]) -> None:
     with open(os.path.join(folder, name), "wb") as file:
         for piece in pieces:
             file.write(piece)
 
 
-def repeated(byte, count):
-    """So many of one byte, in pieces."""
+def repeated(byte: bytes, count: int) -> Iterator[bytes]:
+    """One byte, repeated, in pieces."""
     for begin in range(0, count, PIECE):
         yield byte * min(PIECE, count - begin)
 
 
-def numbered(form, count, begin=0):
-    """So many lines with their numbers, in pieces."""
+def numbered(form: bytes, count: int, begin: int = 0) -> Iterator[bytes]:
+    """Lines with their numbers, in pieces."""
     for first in range(begin, begin + count, 65536):
         yield b"".join(form % k for k in range(first, min(first + 65536, begin + count)))
 
 
-def filled(text, byte, size):
+def filled(text: bytes, byte: bytes, size: int) -> Iterator[bytes]:
     """A text, and then one byte up to this size."""
     yield text
     yield from repeated(byte, size - len(text))
 
 
-def cut(pieces):
+def cut(pieces: Pieces) -> Made:
     """A cut file of these pieces."""
-    def made(folder):
+    def made(folder: str) -> None:
         write(folder, "cut.csv", pieces())
         write(folder, "delays.csv", [DELAYS])
     return made
 
 
-def feed(**tables):
+def feed(**tables: Pieces) -> Made:
     """A feed with one trip from A to T, of which some tables have more rows."""
-    def made(folder):
-        more = {name: (lambda: ()) for name in ("stops", "routes", "trips", "stop_times", "calendar")}
+    def made(folder: str) -> None:
+        more: dict[str, Pieces] = {name: (lambda: ()) for name in ("stops", "routes", "trips", "stop_times", "calendar")}
         more.update(tables)
         write(folder, "stops.txt", [b"stop_id\nA\nT\n", *more["stops"]()])
         write(folder, "routes.txt", [b"route_id,route_type\nR,3\n", *more["routes"]()])
@@ -84,30 +91,30 @@ def feed(**tables):
     return made
 
 
-def clock(second):
+def clock(second: int) -> bytes:
     return b"%02d:%02d:%02d" % (second // 3600, second // 60 % 60, second % 60)
 
 
-def single_runs(count):
-    """So many rows of frequencies.txt, each with one run of the one trip, at another second of the day."""
+def single_runs(count: int) -> Iterator[bytes]:
+    """Rows of frequencies.txt, each with one run of the one trip, at another second of the day."""
     for first in range(0, count, 65536):
         yield b"".join(b"t,%s,%s,60\n" % (clock(k), clock(k + 1)) for k in range(first, min(first + 65536, count)))
 
 
-def dates(count):
-    """So many rows of calendar_dates.txt, each of another service on each of sixteen days."""
+def dates(count: int) -> Iterator[bytes]:
+    """Rows of calendar_dates.txt, each of another service on each of sixteen days."""
     for first in range(0, count, 65536):
         yield b"".join(b"S%d,202406%02d,1\n" % (k // 16, k % 16 + 1) for k in range(first, min(first + 65536, count)))
 
 
-def unserved_times(count):
-    """So many stop times of further trips with no times, sixteen a trip."""
+def unserved_times(count: int) -> Iterator[bytes]:
+    """Stop times of further trips with no times, sixteen a trip."""
     for first in range(0, count, 65536):
         yield b"".join(b"x%d,,,A,%d\n" % (k // 16, k % 16) for k in range(first, min(first + 65536, count)))
 
 
-def timed_rides(trips, visits):
-    """Trips of so many visits each, that leave A and come to T in turn, each from another second of the day on."""
+def timed_rides(trips: int, visits: int) -> Iterator[bytes]:
+    """Trips of this number of visits each, that leave A and come to T in turn, each from another second of the day on."""
     for first in range(0, trips, 4096):
         lines = []
         for k in range(first, min(first + 4096, trips)):
@@ -118,16 +125,16 @@ def timed_rides(trips, visits):
         yield b"".join(lines)
 
 
-def further_trips(count):
+def further_trips(count: int) -> Pieces:
     return lambda: numbered(b"R,D,x%d\n", count)
 
 
-def window(count):
-    """A feed whose day has so many connections, beside that of its one trip: trips of 17 visits, and a last one."""
+def window(count: int) -> Made:
+    """A feed whose day has this number of connections, that of its one trip included: trips of 17 visits, and a last one."""
     full, rest = divmod(count - 1, 16)
     trips = full + (1 if rest else 0)
 
-    def times():
+    def times() -> Iterator[bytes]:
         yield from timed_rides(full, 17)
         if rest:
             yield b"".join(b"x%d,09:%02d:00,09:%02d:00,%s,%d\n" % (full, v, v, b"AT"[v % 2:v % 2 + 1], v) for v in range(rest + 1))
@@ -135,13 +142,13 @@ def window(count):
     return feed(trips=further_trips(trips), stop_times=times)
 
 
-def services_in_turn(count):
-    """So many trips, of which each fourth rides each day, and the others never."""
+def services_in_turn(count: int) -> Iterator[bytes]:
+    """Trips, of which each fourth rides each day, and the others never."""
     for first in range(0, count, 65536):
         yield b"".join(b"R,%s,x%d\n" % (b"N" if k % 4 else b"D", k) for k in range(first, min(first + 65536, count)))
 
 
-def all_tables():
+def all_tables() -> Made:
     """A feed of which each table is near its limit of rows. Each fourth trip rides in the window."""
     trips = 2**22 - 1
     return feed(stops=lambda: numbered(b"s%d\n", 2**20 - 2), routes=lambda: numbered(b"r%d,3\n", 2**16 - 1),
@@ -151,7 +158,7 @@ def all_tables():
 
 
 # What is run, its files, and the status that is wanted.
-LINES = [
+LINES: list[tuple[str, Made, int]] = [
     ("cut file of 2^30 bytes, blank lines at its end", cut(lambda: filled(HEADER + b"\n" + RIDE, b"\n", 2**30)), 0),
     ("and one byte more", cut(lambda: filled(HEADER + b"\n" + RIDE, b"\n", 2**30 + 1)), 6),
     ("cut file of 2^23 rows", cut(lambda: [HEADER + b"\n" + RIDE + b"\n",
@@ -182,17 +189,17 @@ LINES = [
 ]
 
 
-def limited():
+def limited() -> None:
     resource.setrlimit(resource.RLIMIT_AS, (MEMORY, MEMORY))
 
 
-def words(folder):
+def words(folder: str) -> list[str]:
     path = os.path.join(folder, "cut.csv")
     source = ["--cut", path] if os.path.exists(path) else ["--feed", folder, "--horizon", "24"]
     return ["safe", *source, "--delays", os.path.join(folder, "delays.csv"), "--from", "A", "--to", "T", "--at", SOON]
 
 
-def run(program, folder):
+def run(program: str, folder: str) -> tuple[int, str, float, float]:
     """The status, the line, the seconds and the peak memory in MiB of a run."""
     with tempfile.TemporaryFile() as errors:
         process = subprocess.Popen([program, *words(folder)], stdin=subprocess.DEVNULL, stdout=subprocess.DEVNULL,
@@ -204,38 +211,22 @@ def run(program, folder):
     return process.returncode, line, usage.ru_utime + usage.ru_stime, usage.ru_maxrss / 1024
 
 
-def made_apart(made, folder):
-    """Makes the files in a process of their own, so that this one stays small."""
-    pid = os.fork()
-    if pid == 0:
-        try:
-            made(folder)
-            os._exit(0)
-        finally:
-            os._exit(1)
-    if os.waitpid(pid, 0)[1] != 0:
-        sys.exit("The inputs cannot be written.")
-
-
-def main():
+def main() -> None:
     parser = argparse.ArgumentParser(description="Runs the program at its limits.")
-    built = next((program for program in BUILT if os.access(program, os.X_OK)), BUILT[0])
-    parser.add_argument("--program", default=built, help="the program")
+    add_program(parser)
     parser.add_argument("--only", default="", help="only lines with this text")
     options = parser.parse_args()
-    if not os.access(options.program, os.X_OK):
-        sys.exit("The program is not built: %s is not there. `./meat` with no words builds it." % options.program)
-    Table.row(["what", "largest file, MiB", "status", "line", "seconds", "peak MiB", "bytes of memory a byte"])
-    Table.row(["---", "--:", "--:", "---", "--:", "--:", "--:"])
+    need_program(options.program)
+    print_head(["what", "largest file, MiB", "status", "line", "seconds", "peak MiB", "bytes of memory a byte"], texts=["line"])
     wrong = 0
     for what, made, wanted in LINES:
         if options.only not in what:
             continue
         with tempfile.TemporaryDirectory() as folder:
-            made_apart(made, folder)
+            write_apart(partial(made, folder))
             largest = max(os.path.getsize(os.path.join(folder, name)) for name in os.listdir(folder)) / 2**20
             status, line, seconds, peak = run(options.program, folder)
-        Table.row([what, "%.1f" % largest, str(status), line or "-", "%.1f" % seconds, "%.0f" % peak, "%.1f" % (peak / largest)])
+        print_row([what, "%.1f" % largest, str(status), line or "-", "%.1f" % seconds, "%.0f" % peak, "%.1f" % (peak / largest)])
         if status != wanted:
             wrong += 1
             print("The status is not %d." % wanted, file=sys.stderr)
