@@ -186,7 +186,7 @@ class Observations:
         return Observation(kind, route, hour, max(late, 0))
 
     def leave_out(self, share: float) -> list[int]:
-        """Leaves out the latest ones, so many in 100, and returns their delays, rising."""
+        """Leaves out the latest ones, a share in percent, and returns their delays, rising."""
         count = int(len(self.found) * Fraction(str(share)) / 100)
         if not count:
             return []
