@@ -2,7 +2,7 @@
 """Runs the built program at its limits, and one past each of them.
 
 A line of the table gives what was run, the size of its largest file, the status, the line on standard error, the seconds
-of the processor and the peak memory. Each run may have 8 GiB of address space, and no run may end by want of memory: the
+of the processor and the peak memory. Each run may have 8 GiB of address space, and no run may run out of memory: the
 script fails where one does, or where a status is another than the table's own.
 
 The inputs are made in a folder for the time of a line, and take up to 2 GiB of disk. A header of many columns and a row of
