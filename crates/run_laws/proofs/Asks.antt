@@ -82,7 +82,7 @@ one_written old text other (Some new) None same first second = absurd second
 one_written old text other (Some new) (Some now) same first second = ap (λ (xs : List ℕ). Some xs) (first ∙ ap (λ (xs : List ℕ). old ++ xs) same ∙ sym second)
 
 -- the answer of a run that ends well
-answer_of : (files : FileMap) (limits : Limits) (words : List (List ℕ)) (report : Report) (old : List ℕ) (new : Option (List ℕ)) → EndsWell files limits words report old new
+pub answer_of : (files : FileMap) (limits : Limits) (words : List (List ℕ)) (report : Report) (old : List ℕ) (new : Option (List ℕ)) → EndsWell files limits words report old new
     → HasAnswer (Some files) limits words report (Appends (Some old) new)
 answer_of files limits words report old new ends =
     let by : Option FileMap → Option (List ℕ) → Option (List ℕ) → Option Fault → Type 0 = λ contents had has fault.

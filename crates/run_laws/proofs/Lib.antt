@@ -21,3 +21,4 @@ pub mod Ends
 pub mod Printed
 pub mod Certified
 pub mod Departing
+pub mod Agreeing

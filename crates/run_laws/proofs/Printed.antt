@@ -41,7 +41,7 @@ module _ (limits : Limits) (files : FileMap) (start : ℕ) (p : Problem) (path :
   read_file = graph_in limits p start None (file_at files path)
 
   -- the text of a head and a graph is read as these
-  read_again : (q : Query) (bounds : Interval) (graph : PlanGraph) (text : List ℕ) → q.source.0 ≡ p.source.0 → q.target.0 ≡ p.target.0 → q.start.0 ≡ start
+  pub read_again : (q : Query) (bounds : Interval) (graph : PlanGraph) (text : List ℕ) → q.source.0 ≡ p.source.0 → q.target.0 ≡ p.target.0 → q.start.0 ≡ start
       → IsReadAs p.timetable.network p.timetable.names (head_of q bounds) graph text → file_at files path ≡ Some text → length text ≤ limits.bytes → read_file ≡ Ok (head_of q bounds, graph)
   read_again q bounds graph text source target begin reads there small =
       let few : nat_lt limits.bytes (length text) ≡ false = grind (arith, nat_tests) in

@@ -12,10 +12,10 @@ abbrev query_of : (source target start deadline : ℕ) → Query
 query_of source target start deadline = record { source = record { 0 = source }; target = record { 0 = target }; start = record { 0 = start }; deadline = record { 0 = deadline } }
 
 module _ (p : Problem) (start alpha : ℕ) where
-  abbrev IsWorstOf : Moment → Type 0
+  abbrev pub IsWorstOf : Moment → Type 0
   IsWorstOf w = IsLeastWorst p.timetable.network p.source.0 p.target.0 start (Some w)
 
-  worst_is : (q : Query) (w : Moment) → IsQueryOf p start alpha q w → IsWorstOf w
+  pub worst_is : (q : Query) (w : Moment) → IsQueryOf p start alpha q w → IsWorstOf w
   worst_is q w is =
       let least = is.least in
       let from : IsLeastWorst p.timetable.network p.source.0 q.target.0 q.start.0 (Some w) = subst (λ (place : ℕ). IsLeastWorst p.timetable.network place q.target.0 q.start.0 (Some w)) is.source least in

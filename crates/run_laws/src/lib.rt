@@ -4,7 +4,10 @@
 mod answers;
 mod commands;
 mod graphs;
+mod pairs;
 mod runs;
+#[cfg(test)]
+mod tests;
 
 pub use answers::{
     a_query_has_a_safe_strategy, one_expanded_answer, one_plan_answer, one_punctual_answer,
@@ -20,4 +23,5 @@ pub use graphs::{
     one_expanded_plan, one_plan, one_scan_order, one_strategy_of_both, one_tidy_graph,
     one_whole_graph,
 };
+pub use pairs::{Host, run_both};
 pub use runs::{words_have_one_end, words_have_one_run};

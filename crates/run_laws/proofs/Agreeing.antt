@@ -1,0 +1,410 @@
+-- Two runs agree.
+use Rattle.std.proofs.Common.{◌≡◌, ◌≢◌, ℕ, ◌≤◌, List, length, Option, None, Some, Result, Ok, Err, false, arith, nat_lt, ◌↔◌, inl, inr, refl, sym, subst, ap, ◌∙◌}
+use Rattle.std.proofs.lemmas.List.{append_cancel_left}
+use Rattle.std.specs.Io.KnownBytes.{Appends}
+use Rattle.file_ports.specs.Ports.{FileMap, file_at}
+use Rattle.csv_rows.specs.declared.limits.Limits.{Limits}
+use Rattle.plan_model.specs.declared.model.Moment.{Moment}
+use Rattle.plan_model.specs.declared.model.Query.{Query}
+use Rattle.plan_model.specs.Strategy.{IsLeastWorst}
+use Rattle.plan_graph.specs.declared.PlanGraph.{PlanGraph}
+use Rattle.command_line.specs.Jobs.{JobModel, JourneyModel, AskModel, Ask, Safe, Expand, Plan, Replay, Certify, CheckProof, CheckGraph, Punctual, Departures, Latest, job_of}
+use Rattle.journey_model.specs.declared.faults.Fault.{Fault}
+use Rattle.journey_model.specs.declared.faults.Fault.TheVariants as fault
+use Rattle.journey_model.specs.declared.faults.Input.TheVariants as input
+use Rattle.journey_model.specs.declared.problem.Problem.{Problem}
+use Rattle.journey_model.specs.Faults.{status_of}
+use Rattle.journey_problem.specs.OneProblem.{HasOneProblem}
+use Rattle.journey_problem.specs.Problems.{IsProblem}
+use Rattle.journey_report.specs.Findings.{Findings, findings_of}
+use Rattle.graph_text.specs.declared.Head.{Head}
+use Rattle.graph_text.specs.declared.reader.TextFault.{TextFault}
+use Rattle.graph_text.specs.declared.reader.TextFault.TheVariants as reader
+use Rattle.graph_text.specs.FirstFaults.{IsFirstFaultOf}
+use Rattle.graph_text.specs.Reading.{graph_of}
+use Rattle.plan_model.specs.NameLists.{NameLists}
+use Rattle.plan_model.specs.NetworkModel.{NetworkModel}
+use Rattle.plan_model.specs.Network.{IsValid}
+use Rattle.std.proofs.lemmas.Bool.Decides.{nat_tests}
+use Rattle.input_files.specs.Files.{bytes_of}
+use Rattle.plan_model.specs.Results.{and_then}
+use Rattle.file_answers.specs.GraphFiles.{graph_in, graph_as, FailsScore}
+use Rattle.graph_answers.specs.Trips.{trip_by}
+use Rattle.plan_answers.specs.Answers.{TellsPlanned, head_of}
+use Rattle.plan_answers.specs.Certified.{TellsCertificate}
+use Rattle.departure_answers.specs.Departures.{query_until}
+use Rattle.meat_engine.specs.Asks.{AnswersAsk, EndsAsk, FailsJourney}
+use Rattle.meat_engine.specs.Ends.{EndsByGraphFile, EndsByWalk}
+use Rattle.meat_engine.specs.Received.{AnswersJob, Outcome}
+use Rattle.meat_engine.specs.RunPromises.{TellsLine}
+use Rattle.meat_engine.proofs.Undisturbed.{fails as job_fails}
+use Rattle.journey_model.specs.Sites.{NamedParts}
+use Rattle.run_laws.specs.OneRun.{EndsWell, IsCalmRun}
+use Rattle.run_laws.specs.Pairs.{RunModel, IsRunWithin, IsUntroubled, AskBoth, IsKept, OrStatus9, EndAlike, PlanIsAccepted, PlanIsReplayed, CertificateIsAccepted, LeaveAlike, LeaveByWorst, CertificateIsWithin, ShareStrategy, PromiseIsSure, WorstIsKept, LaterIsNoWorse, LatestIsOfLastRow, FaultIsFirst, Agree}
+use Rattle.decision_graph.proofs.Deadlines.{worst_kept, no_worse}
+use Rattle.departure_table.proofs.Latest.{of_last_row}
+use Rattle.late_chance.proofs.Rounded.{no_chance}
+use Rattle.run_laws.proofs.Asks.{answer_of}
+use Rattle.run_laws.proofs.Certified.{printed_certificate, value_within}
+use Rattle.run_laws.proofs.Departing.{alike, by_worst}
+use Rattle.run_laws.proofs.Ends.{one_end}
+use Rattle.run_laws.proofs.OneFile.{one_ok, never_both}
+use Rattle.run_laws.proofs.Plans.{one_strategy}
+use Rattle.run_laws.proofs.Printed.{read_again, printed_plan, keeps_upper, never_stuck, always_arrives}
+use Rattle.run_laws.proofs.Queries.{in_one_query, worst_is}
+
+-- what was written after the same bytes was one text
+one_text : (old text other : List ℕ) (new : Option (List ℕ)) → Appends (Some old) new text → Appends (Some old) new other → text ≡ other
+one_text old text other None first second = absurd first
+one_text old text other (Some new) first second = append_cancel_left old text other (sym first ∙ second)
+
+-- a run that ends with 0 has no fault
+no_fault_of : (fault : Option Fault) → status_of fault ≡ 0 → fault ≡ None
+no_fault_of None is = refl
+no_fault_of (Some fault.NoSafe) is = absurd (cc)
+no_fault_of (Some (fault.Words f)) is = absurd (cc)
+no_fault_of (Some (fault.Feed f)) is = absurd (cc)
+no_fault_of (Some (fault.Cut f)) is = absurd (cc)
+no_fault_of (Some (fault.Missing (input.Feed table))) is = absurd (cc)
+no_fault_of (Some (fault.Missing input.Cut)) is = absurd (cc)
+no_fault_of (Some (fault.Missing input.Delays)) is = absurd (cc)
+no_fault_of (Some (fault.Missing input.Graph)) is = absurd (cc)
+no_fault_of (Some (fault.Missing input.Proof)) is = absurd (cc)
+no_fault_of (Some (fault.Delays f)) is = absurd (cc)
+no_fault_of (Some (fault.UnknownStop which)) is = absurd (cc)
+no_fault_of (Some (fault.Limit kind n)) is = absurd (cc)
+no_fault_of (Some (fault.Read i)) is = absurd (cc)
+no_fault_of (Some fault.Write) is = absurd (cc)
+no_fault_of (Some fault.NoMemory) is = absurd (cc)
+no_fault_of (Some (fault.GraphFile f)) is = absurd (cc)
+no_fault_of (Some (fault.Replay f)) is = absurd (cc)
+no_fault_of (Some (fault.ProofFails c)) is = absurd (cc)
+no_fault_of (Some (fault.ProofFile f)) is = absurd (cc)
+no_fault_of (Some (fault.Unsafe p m)) is = absurd (cc)
+
+same_job : (words : List (List ℕ)) (j : JourneyModel) (a : AskModel) (wanted : JobModel) → job_of words ≡ Ok wanted → job_of words ≡ Ok (Ask j a) → wanted ≡ Ask j a
+same_job words j a wanted is also = cc
+
+one_some : {A : Type 0} (a b : A) (x : Option A) → x ≡ Some a → x ≡ Some b → a ≡ b
+one_some a b x is also = cc
+
+-- where the file has this graph, a replay by it ends as its walk does
+walk_ends : (limits : Limits) (files : FileMap) (start : ℕ) (path late : List ℕ) (p : Problem) (status : ℕ) (head : Head) (graph : PlanGraph)
+    → graph_in limits p start None (file_at files path) ≡ Ok (head, graph) → EndsByGraphFile limits files start path late p status → EndsByWalk (trip_by p head graph late) status
+walk_ends limits files start path late p status head graph reads (inl (h, g, at, ends)) =
+    let same : (h, g) ≡ (head, graph) = one_ok (graph_in limits p start None (file_at files path)) (h, g) (head, graph) at reads in
+    subst (λ (w : Head × PlanGraph). EndsByWalk (trip_by p w.0 w.1 late) status) same ends
+walk_ends limits files start path late p status head graph reads (inr (fault, at, told)) =
+    absurd (never_both (graph_in limits p start None (file_at files path)) (head, graph) fault reads at)
+
+-- the fault that is read of a text is its first
+abbrev FaultsAreTold : Type 0
+FaultsAreTold =
+    (n : NetworkModel) (names : NameLists) (source target start : ℕ) (text : List ℕ) (f : TextFault) → IsValid n
+    → graph_of text n names source target start ≡ Err f ↔ IsFirstFaultOf n names source target start text f
+
+as_text : (read : Result (Head × PlanGraph) TextFault) (f : TextFault) → graph_as read ≡ Err (fault.GraphFile f) → read ≡ Err f
+as_text (Ok found) f is = absurd (cc)
+as_text (Err (reader.Row line)) f is = cc
+as_text (Err (reader.UnknownName line)) f is = cc
+as_text (Err (reader.NotRising line)) f is = cc
+as_text (Err (reader.NoLeg line)) f is = cc
+as_text (Err (reader.OtherQuery line)) f is = cc
+as_text (Err reader.NoMemory) f is = absurd (cc)
+
+module _ (limits : Limits) (files : FileMap) (old said : List ℕ) (r : RunModel) (run : IsRunWithin limits r) (calm : IsUntroubled files old said r) where
+  -- the run of which nothing failed, by its states
+  calm_run : r.report.fault ≢ Some fault.NoMemory → IsCalmRun files limits r.words r.report old said r.after.out.written r.after.err.written
+  calm_run memory = record {
+    before = r.before.files;
+    after = r.after.files;
+    out = r.before.out;
+    out_after = r.after.out;
+    err = r.before.err;
+    err_after = r.after.err;
+    run = run;
+    tells = calm.tells;
+    had = calm.had;
+    has = refl;
+    had_said = calm.had_said;
+    has_said = refl;
+    files_calm = calm.files_calm;
+    out_calm = calm.out_calm;
+    err_calm = calm.err_calm;
+    memory = memory;
+  }
+
+  module _ (j : JourneyModel) (a : AskModel) (asks : job_of r.words ≡ Ok (Ask j a)) where
+    -- what it answered, where it has no fault
+    pub record Answered : Type 0 where
+      text : List ℕ
+      written : Appends (Some old) r.after.out.written text
+      p : Problem
+      is_problem : IsProblem limits files j p
+      answers : AnswersAsk (Some files) limits j.start p a (findings_of r.report) text
+
+    answered : r.report.fault ≡ None → Answered
+    answered none =
+        let ends : EndsWell files limits r.words r.report old r.after.out.written = record {
+          before = r.before.files;
+          after = r.after.files;
+          out = r.before.out;
+          out_after = r.after.out;
+          err = r.before.err;
+          err_after = r.after.err;
+          run = run;
+          tells = calm.tells;
+          had = calm.had;
+          has = refl;
+          no_fault = none;
+        } in
+        let (text, (wanted, is, answers), written) = answer_of files limits r.words r.report old r.after.out.written ends in
+        let (p, has, there, told) = subst (λ (w : JobModel). AnswersJob (Some files) limits w (findings_of r.report) text) (same_job r.words j a wanted is asks) answers in
+        record { text = text; written = written; p = p; is_problem = there; answers = told }
+
+    -- its status, where its files have a problem
+    ends_so : (p : Problem) → IsProblem limits files j p → OrStatus9 r (EndsAsk limits files j.start p a r.report.status.0)
+    ends_so p is = (run.complete calm.files_calm calm.out_calm).problem files j a p calm.tells asks is
+
+  no_fault : r.report.status.0 ≡ 0 → r.report.fault ≡ None
+  no_fault zero = no_fault_of r.report.fault (sym run.status ∙ zero)
+
+or_nine : {P Q : Type 0} (s : RunModel) → (P → Q) → OrStatus9 s P → OrStatus9 s Q
+or_nine s f (inl holds) = inl (f holds)
+or_nine s f (inr nine) = inr nine
+
+module _ (limits : Limits) (r s : RunModel) (first : IsRunWithin limits r) (second : IsRunWithin limits s) (one_problem : HasOneProblem) where
+  ends_alike : EndAlike r s
+  ends_alike files old said calm also words memory other =
+      let run = calm_run limits files old said r first calm memory in
+      let again = calm_run limits files old said s second also other in
+      let same = subst (λ (w : List (List ℕ)). IsCalmRun files limits w s.report old said s.after.out.written s.after.err.written) (sym words) again in
+      one_end one_problem files limits r.words r.report s.report old said r.after.out.written s.after.out.written r.after.err.written s.after.err.written run same
+
+  module _ (files : FileMap) (j : JourneyModel) (a b : AskModel) (both : AskBoth files j a b r s) where
+    abbrev First : Type 0
+    First = Answered limits files both.old both.said r first both.first j a both.asks
+
+    of_first : r.report.fault ≡ None → First
+    of_first = answered limits files both.old both.said r first both.first j a both.asks
+
+    abbrev Second : Type 0
+    Second = Answered limits files both.other both.called s second both.second j b both.also
+
+    of_second : s.report.fault ≡ None → Second
+    of_second = answered limits files both.other both.called s second both.second j b both.also
+
+    -- the answers of one run, over the problem of the other
+    second_over : (p : Problem) → IsProblem limits files j p → (w : Second) → AnswersAsk (Some files) limits j.start p b (findings_of s.report) w.text
+    second_over p is w = subst (λ (q : Problem). AnswersAsk (Some files) limits j.start q b (findings_of s.report) w.text) (one_problem limits files j w.p p w.is_problem is) w.answers
+
+    first_over : (p : Problem) → IsProblem limits files j p → (w : First) → AnswersAsk (Some files) limits j.start p a (findings_of r.report) w.text
+    first_over p is w = subst (λ (q : Problem). AnswersAsk (Some files) limits j.start q a (findings_of r.report) w.text) (one_problem limits files j w.p p w.is_problem is) w.answers
+
+    second_ends : (p : Problem) → IsProblem limits files j p → OrStatus9 s (EndsAsk limits files j.start p b s.report.status.0)
+    second_ends = ends_so limits files both.other both.called s second both.second j b both.also
+
+    first_ends : (p : Problem) → IsProblem limits files j p → OrStatus9 r (EndsAsk limits files j.start p a r.report.status.0)
+    first_ends = ends_so limits files both.old both.said r first both.first j a both.asks
+
+    second_none : s.report.status.0 ≡ 0 → s.report.fault ≡ None
+    second_none = no_fault limits files both.other both.called s second both.second
+
+    -- the text that the first wrote is that which is kept
+    kept_text : (path : List ℕ) (kept : IsKept limits files path r) (w : First) → kept.text ≡ w.text
+    kept_text path kept w =
+        let appends : Appends (Some both.old) r.after.out.written kept.text = subst (λ (o : Option (List ℕ)). Appends o r.after.out.written kept.text) both.first.had kept.written in
+        one_text both.old kept.text w.text r.after.out.written appends w.written
+
+    there : (path : List ℕ) (kept : IsKept limits files path r) (w : First) → file_at files path ≡ Some w.text
+    there path kept w = kept.there ∙ ap (λ (t : List ℕ). Some t) (kept_text path kept w)
+
+    small : (path : List ℕ) (kept : IsKept limits files path r) (w : First) → length w.text ≤ limits.bytes
+    small path kept w = subst (λ (t : List ℕ). length t ≤ limits.bytes) (kept_text path kept w) kept.small
+
+  accepted : PlanIsAccepted limits r s
+  accepted files j alpha path both kept =
+      let w = of_first files j (Plan alpha) (CheckGraph path) both kept.no_fault in
+      let in_file = there files j (Plan alpha) (CheckGraph path) both path kept w in
+      let fits = small files j (Plan alpha) (CheckGraph path) both path kept w in
+      or_nine s (λ ends.
+      let zero = printed_plan limits files j.start alpha w.p (findings_of r.report) w.text path s.report.status.0 w.answers in_file fits ends in
+      let v = of_second files j (Plan alpha) (CheckGraph path) both (second_none files j (Plan alpha) (CheckGraph path) both zero) in
+      let checks = second_over files j (Plan alpha) (CheckGraph path) both w.p w.is_problem v in
+      (zero, keeps_upper limits files j.start alpha w.p (findings_of r.report) (findings_of s.report) w.text path v.text w.answers in_file fits checks))
+      (second_ends files j (Plan alpha) (CheckGraph path) both w.p w.is_problem)
+
+  replayed : PlanIsReplayed limits r s
+  replayed files j alpha path late both kept =
+      let w = of_first files j (Plan alpha) (Replay path late) both kept.no_fault in
+      let in_file = there files j (Plan alpha) (Replay path late) both path kept w in
+      let fits = small files j (Plan alpha) (Replay path late) both path kept w in
+      let (q, worst, asked, (graph, bounds, is, planned, told, reads)) = w.answers in
+      let again = read_again limits files j.start w.p path q bounds graph w.text asked.source asked.target asked.start_is reads in_file fits in
+      record {
+        problem = w.p;
+        is_problem = w.is_problem;
+        head = head_of q bounds;
+        graph = graph;
+        reads = again;
+        ends = or_nine s (walk_ends limits files j.start path late w.p s.report.status.0 (head_of q bounds) graph again) (second_ends files j (Plan alpha) (Replay path late) both w.p w.is_problem);
+        safe = never_stuck limits files j.start alpha w.p (findings_of r.report) w.text path late w.answers in_file fits (head_of q bounds) graph again;
+        arrives = λ lates. always_arrives limits files j.start alpha w.p (findings_of r.report) w.text path lates w.answers in_file fits;
+      }
+
+  certified : CertificateIsAccepted limits r s
+  certified files j alpha path both kept =
+      let w = of_first files j (Certify alpha) (CheckProof path) both kept.no_fault in
+      let in_file = there files j (Certify alpha) (CheckProof path) both path kept w in
+      let fits = small files j (Certify alpha) (CheckProof path) both path kept w in
+      or_nine s (printed_certificate limits files j.start alpha w.p (findings_of r.report) w.text path s.report.status.0 w.answers in_file fits)
+      (second_ends files j (Certify alpha) (CheckProof path) both w.p w.is_problem)
+
+  leave : LeaveAlike limits r s
+  leave files j until last p both is =
+      or_nine r (λ latest. or_nine s (alike p (query_until p j.start until) r.report.status.0 s.report.status.0 latest)
+      (second_ends files j (Latest until) (Departures until last) both p is))
+      (first_ends files j (Latest until) (Departures until last) both p is)
+
+  left_by_worst : LeaveByWorst r s
+  left_by_worst files j alpha until worst both none is =
+      let w = of_first files j (Safe alpha) (Latest until) both none in
+      let (q, v, asked, (found, text)) = w.answers in
+      let same = one_some v worst r.report.worst (ap (λ (f : Findings). f.worst) found) is in
+      let least = subst (λ (m : Moment). IsLeastWorst w.p.timetable.network w.p.source.0 w.p.target.0 j.start (Some m)) same (worst_is w.p j.start alpha q v asked) in
+      or_nine s (by_worst w.p j.start until worst s.report.status.0 least) (second_ends files j (Safe alpha) (Latest until) both w.p w.is_problem)
+
+  within : CertificateIsWithin limits r s
+  within files j alpha p query bounds proof v both well is query_is bounds_is proof_is least =
+      let plans = first_over files j (Plan alpha) (Certify alpha) both p is (of_first files j (Plan alpha) (Certify alpha) both well.first) in
+      let other = of_second files j (Plan alpha) (Certify alpha) both well.second in
+      let (q, worst, asked, (graph, span, found, planned, told, reads)) = plans in
+      let (t, w, also, certificate) = second_over files j (Plan alpha) (Certify alpha) both p is other in
+      let one = in_one_query p j.start alpha (TellsCertificate p (findings_of s.report) other.text) q t worst w asked also certificate in
+      let same_query = one_some q query r.report.query (ap (λ (f : Findings). f.query) found) query_is in
+      let same_bounds = one_some span bounds r.report.bounds (ap (λ (f : Findings). f.bounds) found) bounds_is in
+      let same_proof = one_some one.proof proof s.report.proof (ap (λ (f : Findings). f.proof) one.found_is) proof_is in
+      value_within p.timetable.network query graph bounds proof.values v (rw (sym same_query, sym same_bounds) planned) (rw (sym same_query, sym same_proof) one.best) least
+
+  strategy : ShareStrategy limits r s
+  strategy files j alpha p query rides places bounds others both well is query_is rides_is places_is bounds_is others_is =
+      let other = of_second files j (Expand alpha) (Plan alpha) both well.second in
+      let (q, worst, asked, (graph, span, found, expanded, text)) = first_over files j (Expand alpha) (Plan alpha) both p is (of_first files j (Expand alpha) (Plan alpha) both well.first) in
+      let (t, w, also, plans) = second_over files j (Expand alpha) (Plan alpha) both p is other in
+      let (table, spans, found_too, planned, printed, reads) = in_one_query p j.start alpha (TellsPlanned p (findings_of s.report) other.text) q t worst w asked also plans in
+      let first_query : r.report.query ≡ Some q = ap (λ (f : Findings). f.query) found in
+      let first_rides : r.report.expanded ≡ Some graph = ap (λ (f : Findings). f.expanded) found in
+      let first_bounds : r.report.bounds ≡ Some span = ap (λ (f : Findings). f.bounds) found in
+      let second_places : s.report.graph ≡ Some table = ap (λ (f : Findings). f.graph) found_too in
+      let second_bounds : s.report.bounds ≡ Some spans = ap (λ (f : Findings). f.bounds) found_too in
+      let same_query = one_some q query r.report.query first_query query_is in
+      let same_rides = one_some graph rides r.report.expanded first_rides rides_is in
+      let same_places = one_some table places s.report.graph second_places places_is in
+      let same_bounds = one_some span bounds r.report.bounds first_bounds bounds_is in
+      let same_others = one_some spans others s.report.bounds second_bounds others_is in
+      one_strategy p.timetable.network query rides places bounds others (rw (sym same_query, sym same_rides, sym same_bounds) expanded) (rw (sym same_query, sym same_places, sym same_others) planned)
+
+  promise_is_sure : PromiseIsSure r
+  promise_is_sure files old said j alpha promise query chance one query_is chance_is by =
+      let w = answered limits files old said r first one.untroubled j (Punctual alpha promise) one.asks one.no_fault in
+      let (q, v, asked, (graph, least, bounds, found, punctual, seen, scored, printed)) = w.answers in
+      let own_query : r.report.query ≡ Some q = ap (λ (f : Findings). f.query) found in
+      let own_chance : r.report.chance ≡ Some least = ap (λ (f : Findings). f.chance) found in
+      let same_query = one_some q query r.report.query own_query query_is in
+      let same_chance = one_some least chance r.report.chance own_chance chance_is in
+      no_chance w.p.timetable.network query promise graph chance (rw (sym same_query, sym same_chance) punctual) by
+
+  worst_is_kept : WorstIsKept limits r
+  worst_is_kept files old said j alpha p query graph one is query_is graph_is arrives =
+      let w = answered limits files old said r first one.untroubled j (Plan alpha) one.asks one.no_fault in
+      let (q, v, asked, (table, bounds, found, planned, printed, reads)) =
+      subst (λ (x : Problem). AnswersAsk (Some files) limits j.start x (Plan alpha) (findings_of r.report) w.text) (one_problem limits files j w.p p w.is_problem is) w.answers in
+      let own_query : r.report.query ≡ Some q = ap (λ (f : Findings). f.query) found in
+      let own_graph : r.report.graph ≡ Some table = ap (λ (f : Findings). f.graph) found in
+      let own_worst : r.report.worst ≡ Some v = ap (λ (f : Findings). f.worst) found in
+      let same_query = one_some q query r.report.query own_query query_is in
+      let same_graph = one_some table graph r.report.graph own_graph graph_is in
+      let same_worst = one_some v query.deadline r.report.worst own_worst arrives in
+      let least = subst (λ (m : Moment). IsLeastWorst p.timetable.network q.source.0 q.target.0 q.start.0 (Some m)) same_worst asked.least in
+      let own_least = subst (λ (z : Query). IsLeastWorst p.timetable.network z.source.0 z.target.0 z.start.0 (Some query.deadline)) same_query least in
+      worst_kept p.timetable.network query graph bounds (rw (sym same_query, sym same_graph) planned) own_least
+
+  later_is_no_worse : LaterIsNoWorse r s
+  later_is_no_worse files j alpha beta query other bounds later both well query_is other_is bounds_is later_is by =
+      let w = of_first files j (Plan alpha) (Plan beta) both well.first in
+      let x = second_over files j (Plan alpha) (Plan beta) both w.p w.is_problem (of_second files j (Plan alpha) (Plan beta) both well.second) in
+      let (q, v, asked, (graph, span, found, planned, printed, reads)) = w.answers in
+      let (t, u, also, (table, spans, found_too, planned_too, printed_too, reads_too)) = x in
+      let own_query : r.report.query ≡ Some q = ap (λ (f : Findings). f.query) found in
+      let own_bounds : r.report.bounds ≡ Some span = ap (λ (f : Findings). f.bounds) found in
+      let own_other : s.report.query ≡ Some t = ap (λ (f : Findings). f.query) found_too in
+      let own_later : s.report.bounds ≡ Some spans = ap (λ (f : Findings). f.bounds) found_too in
+      let same_query = one_some q query r.report.query own_query query_is in
+      let same_other = one_some t other s.report.query own_other other_is in
+      let same_bounds = one_some span bounds r.report.bounds own_bounds bounds_is in
+      let same_later = one_some spans later s.report.bounds own_later later_is in
+      let same : (field : Query → ℕ) → field t ≡ field q → field other ≡ field query = λ field is. ap field (sym same_other) ∙ is ∙ ap field same_query in
+      no_worse w.p.timetable.network query other graph table bounds later (rw (sym same_query, sym same_bounds) planned) (rw (sym same_other, sym same_later) planned_too)
+      (same (λ z. z.source.0) (also.source ∙ sym asked.source)) (same (λ z. z.target.0) (also.target ∙ sym asked.target)) (same (λ z. z.start.0) (also.start_is ∙ sym asked.start_is)) by
+
+  latest_is_of_last_row : LatestIsOfLastRow r s
+  latest_is_of_last_row files j until last query latest rows both well query_is differ before latest_is rows_is =
+      let w = of_first files j (Latest until) (Departures until last) both well.first in
+      let x = second_over files j (Latest until) (Departures until last) both w.p w.is_problem (of_second files j (Latest until) (Departures until last) both well.second) in
+      let (moment, found, greatest, printed) = w.answers in
+      let (table, found_too, are, safe, printed_too) = x in
+      let q = query_until w.p j.start until in
+      let own_query : r.report.query ≡ Some (query_until w.p j.start until) = ap (λ (f : Findings). f.query) found in
+      let own_latest : r.report.latest ≡ Some moment = ap (λ (f : Findings). f.latest) found in
+      let own_rows : s.report.departures ≡ Some table = ap (λ (f : Findings). f.departures) found_too in
+      let same_query = one_some (query_until w.p j.start until) query r.report.query own_query query_is in
+      let same_latest = one_some moment latest r.report.latest own_latest latest_is in
+      let same_rows = one_some table rows s.report.departures own_rows rows_is in
+      let apart = λ (e : w.p.source.0 ≡ w.p.target.0). differ (ap (λ (z : Query). z.source.0) (sym same_query) ∙ e ∙ ap (λ (z : Query). z.target.0) same_query) in
+      of_last_row w.p.timetable.network w.p.source.0 (query_until w.p j.start until) j.start last rows latest (rw (sym same_rows) (are.table apart)) (rw (sym same_latest) greatest) before
+
+  -- the fault of the graph file, by what its text is read as
+  module _ (told : FaultsAreTold) (files : FileMap) (j : JourneyModel) (path text : List ℕ) (p : Problem) (f : TextFault) where
+    abbrev IsFirst : Type 0
+    IsFirst = IsFirstFaultOf p.timetable.network p.timetable.names p.source.0 p.target.0 j.start text f
+
+    of_text : file_at files path ≡ Some text → length text ≤ limits.bytes → graph_in limits p j.start None (file_at files path) ≡ Err (fault.GraphFile f) → IsFirst
+    of_text there small fails =
+        let few : nat_lt limits.bytes (length text) ≡ false = grind (arith, nat_tests) in
+        let bytes : bytes_of limits.bytes input.Graph None (file_at files path) ≡ Ok text = rw (there, few) refl in
+        let is = subst (λ (b : Result (List ℕ) Fault). and_then b (λ read. graph_as (graph_of read p.timetable.network p.timetable.names p.source.0 p.target.0 j.start)) ≡ Err (fault.GraphFile f)) bytes fails in
+        (told p.timetable.network p.timetable.names p.source.0 p.target.0 j.start text f p.timetable.valid).0 (as_text _ f is)
+
+    of_score : FailsScore (Some files) limits j.start path p (fault.GraphFile f) → file_at files path ≡ Some text → length text ≤ limits.bytes → IsFirst
+    of_score (inl fails) there small = of_text there small fails.1
+    of_score (inr (head, graph, is, (place, moment, wrong, unsafe))) there small = absurd (cc)
+
+    of_journey : (known : Option NamedParts) → IsProblem limits files j p → FailsJourney (Some files) limits j (CheckGraph path) known (fault.GraphFile f)
+        → file_at files path ≡ Some text → length text ≤ limits.bytes → IsFirst
+    of_journey known is (inl (q, has, also, (named, fails))) there small =
+        of_score (subst (λ (x : Problem). FailsScore (Some files) limits j.start path x (fault.GraphFile f)) (one_problem limits files j q p also is) fails) there small
+    of_journey known is (inr early) there small = absurd (early.0.stage)
+
+  first_fault : FaultsAreTold → FaultIsFirst limits r
+  first_fault told files old said j path text p f calm asks is there small fails =
+      let by : Option FileMap → Option Fault → Type 0 = λ contents e. Outcome contents limits r.words r.report r.before.out.written r.after.out.written (TellsLine r.before.err r.after.err) e in
+      let outcome = subst (by (Some files)) fails (subst (λ (c : Option FileMap). by c r.report.fault) calm.tells first.outcome) in
+      let (known, why) = job_fails (Some files) limits r.words r.report r.before.out.written r.after.out.written (TellsLine r.before.err r.after.err) (fault.GraphFile f) outcome (λ e. cc) (λ e. cc) (Ask j (CheckGraph path)) asks in
+      of_journey told files j path text p f known is why there small
+
+  pub agree : FaultsAreTold → Agree limits r s
+  agree told = record {
+    alike = ends_alike;
+    accepted = accepted;
+    replayed = replayed;
+    certified = certified;
+    leave = leave;
+    by_worst = left_by_worst;
+    within = within;
+    strategy = strategy;
+    promise = promise_is_sure;
+    worst = worst_is_kept;
+    later = later_is_no_worse;
+    last_row = latest_is_of_last_row;
+    first_fault = first_fault told;
+  }
