@@ -183,16 +183,16 @@ module _ (limits : Limits) (r s : RunModel) (first : IsRunWithin limits r) (seco
 
   module _ (files : FileMap) (j : JourneyModel) (a b : AskModel) (both : AskBoth files j a b r s) where
     abbrev First : Type 0
-    First = Answered limits files both.old both.said r first both.first j a both.asks
+    First = Answered limits files both.old both.said r first both.first j a both.first_asks
 
     of_first : r.report.fault ≡ None → First
-    of_first = answered limits files both.old both.said r first both.first j a both.asks
+    of_first = answered limits files both.old both.said r first both.first j a both.first_asks
 
     abbrev Second : Type 0
-    Second = Answered limits files both.other both.called s second both.second j b both.also
+    Second = Answered limits files both.other_old both.other_said s second both.second j b both.second_asks
 
     of_second : s.report.fault ≡ None → Second
-    of_second = answered limits files both.other both.called s second both.second j b both.also
+    of_second = answered limits files both.other_old both.other_said s second both.second j b both.second_asks
 
     -- the answers of one run, over the problem of the other
     second_over : (p : Problem) → IsProblem limits files j p → (w : Second) → AnswersAsk (Some files) limits j.start p b (findings_of s.report) w.text
@@ -202,13 +202,13 @@ module _ (limits : Limits) (r s : RunModel) (first : IsRunWithin limits r) (seco
     first_over p is w = subst (λ (q : Problem). AnswersAsk (Some files) limits j.start q a (findings_of r.report) w.text) (one_problem limits files j w.p p w.is_problem is) w.answers
 
     second_ends : (p : Problem) → IsProblem limits files j p → OrStatus9 s (EndsAsk limits files j.start p b s.report.status.0)
-    second_ends = ends_so limits files both.other both.called s second both.second j b both.also
+    second_ends = ends_so limits files both.other_old both.other_said s second both.second j b both.second_asks
 
     first_ends : (p : Problem) → IsProblem limits files j p → OrStatus9 r (EndsAsk limits files j.start p a r.report.status.0)
-    first_ends = ends_so limits files both.old both.said r first both.first j a both.asks
+    first_ends = ends_so limits files both.old both.said r first both.first j a both.first_asks
 
     second_none : s.report.status.0 ≡ 0 → s.report.fault ≡ None
-    second_none = no_fault limits files both.other both.called s second both.second
+    second_none = no_fault limits files both.other_old both.other_said s second both.second
 
     -- the text that the first wrote is that which is kept
     kept_text : (path : List ℕ) (kept : IsKept limits files path r) (w : First) → kept.text ≡ w.text

@@ -68,22 +68,22 @@ pub record IsUntroubled (files : FileMap) (old said : List ℕ) (r : RunModel) :
   pub out_calm : ¬ Rose r.before.out.faults r.after.out.faults
   pub err_calm : ¬ Rose r.before.err.faults r.after.err.faults
 
--- such a run asks this about a journey, and ended without a fault
+-- an untroubled run that asks this about a journey, and ended without a fault
 pub record AskOne (files : FileMap) (old said : List ℕ) (j : JourneyModel) (a : AskModel) (r : RunModel) : Type 0 where
   pub untroubled : IsUntroubled files old said r
   pub asks : job_of r.words ≡ Ok (Ask j a)
   pub no_fault : r.report.fault ≡ None
 
--- both runs are so, over files that hold the same bytes, and ask this and that about one journey
+-- two untroubled runs, over files that hold the same bytes, of which the first asks one thing about a journey and the second another
 pub record AskBoth (files : FileMap) (j : JourneyModel) (a b : AskModel) (r s : RunModel) : Type 0 where
   pub old : List ℕ
   pub said : List ℕ
-  pub other : List ℕ
-  pub called : List ℕ
+  pub other_old : List ℕ
+  pub other_said : List ℕ
   pub first : IsUntroubled files old said r
-  pub second : IsUntroubled files other called s
-  pub asks : job_of r.words ≡ Ok (Ask j a)
-  pub also : job_of s.words ≡ Ok (Ask j b)
+  pub second : IsUntroubled files other_old other_said s
+  pub first_asks : job_of r.words ≡ Ok (Ask j a)
+  pub second_asks : job_of s.words ≡ Ok (Ask j b)
 
 -- the run ended without a fault and wrote a text, which the file of this path holds
 pub record IsKept (limits : Limits) (files : FileMap) (path : List ℕ) (r : RunModel) : Type 0 where
@@ -93,7 +93,7 @@ pub record IsKept (limits : Limits) (files : FileMap) (path : List ℕ) (r : Run
   pub there : file_at files path ≡ Some text
   pub small : length text ≤ limits.bytes
 
--- or there was no memory
+-- this holds, or the run ended with 9, since there was no memory
 abbrev pub OrStatus9 : RunModel → Type 0 → Type 0
 OrStatus9 s P = P ⊎ (s.report.status.0 ≡ 9)
 
@@ -110,8 +110,9 @@ PlanIsAccepted limits r s =
     (files : FileMap) (j : JourneyModel) (alpha : ℕ) (path : List ℕ) → AskBoth files j (Plan alpha) (CheckGraph path) r s → IsKept limits files path r
     → OrStatus9 s ((s.report.status.0 ≡ 0) × KeepsUpperBound (findings_of r.report) (findings_of s.report))
 
--- a replay of the graph of a file, over the problem of the journey: it ends as its walk does, which is never stuck and arrives by
--- the deadline; and whatever delays come there are some by which a replay ends with 0
+-- a replay of the graph of a file, over the problem of the journey: the run ends as the walk by the graph does, and the walk is never
+-- stuck and arrives by the deadline; and however late each connection is by its class, a replay with the delays that the traveller meets
+-- ends with 0
 pub record IsReplayed (limits : Limits) (files : FileMap) (j : JourneyModel) (path late : List ℕ) (s : RunModel) : Type 0 where
   pub problem : Problem
   pub is_problem : IsProblem limits files j problem
@@ -122,7 +123,7 @@ pub record IsReplayed (limits : Limits) (files : FileMap) (j : JourneyModel) (pa
   pub safe : IsSafeAnswer head.query.deadline.0 (trip_by problem head graph late)
   pub arrives : (lates : ℕ → ℕ) → ArePossible problem.timetable.network lates → ArrivesByFile limits files j.start path problem lates
 
--- `replay` of the graph that `plan` printed is so
+-- `replay` of the graph that `plan` printed is such a replay
 abbrev pub PlanIsReplayed : Limits → RunModel → RunModel → Type 0
 PlanIsReplayed limits r s =
     (files : FileMap) (j : JourneyModel) (alpha : ℕ) (path late : List ℕ) → AskBoth files j (Plan alpha) (Replay path late) r s → IsKept limits files path r
@@ -190,7 +191,7 @@ LaterIsNoWorse r s =
     → AskBoth files j (Plan alpha) (Plan beta) r s → EndWell r s → r.report.query ≡ Some query → s.report.query ≡ Some other
     → r.report.bounds ≡ Some bounds → s.report.bounds ≡ Some later → query.deadline.0 ≤ other.deadline.0 → later.lo ≤ bounds.hi
 
--- no row of `departures` is by a later moment than the one that `latest` finds, and where they go on so far one is by that moment
+-- no row of `departures` is later than the moment that `latest` finds, and where the rows reach that moment, one of them is at it
 abbrev pub LatestIsOfLastRow : RunModel → RunModel → Type 0
 LatestIsOfLastRow r s =
     (files : FileMap) (j : JourneyModel) (until last : ℕ) (query : Query) (latest : Moment) (rows : List DepartureRow)
