@@ -1,0 +1,106 @@
+//! A graph file or a proof file that is edited at each of its fields in turn is refused at its line.
+use std::alloc::Global;
+use std::process::Abort;
+use std::test::Fail;
+use test_runs::{CHANGE, CHANGE_PLAN, Output, output_of};
+
+const REPLAY: &str =
+    "replay --cut c --delays d --from A --to T --at 2024-06-03T08:00:00 --graph f --late 300,900";
+
+const CHECK: &str = "check --cut c --delays d --from A --to T --at 2024-06-03T08:00:00 --proof f";
+
+const PROOF: &str =
+    "bounds,1,A,T,2024-06-03T08:00:00,2024-06-03T10:42:00,3\nvalue,r1,1,2024-06-03T08:54:42.000000000\nvalue,r2,1,2024-06-03T08:51:30.000000000\nvalue,r3,1,2024-06-03T09:07:30.000000000\n";
+
+/// A text with `?` in place of a field of a line, both counted from 0.
+fn edited(alloc: Global, whole: &str, at: usize, place: usize) -> Result<String, Fail> {
+    let mut text = String::new(alloc);
+    for (number, line) in whole.trim_end().split('\n').enumerate() {
+        for (position, field) in line.split(',').enumerate() {
+            let is_edited = number == at && position == place;
+            text.push_str(if position > 0 { "," } else { "" })?;
+            text.push_str(if is_edited { "?" } else { field })?;
+        }
+        text.push_str("\n")?;
+    }
+    Ok(text)
+}
+
+/// What a line of words tells over the usual files and one more.
+fn output_with(alloc: Global, words: &str, text: &str) -> Result<Output, Fail> {
+    let [cut, delays] = CHANGE;
+    output_of(alloc, [cut, delays, ("f", text)].as_slice(), words)
+}
+
+/// What it tells where a field of that one is edited.
+fn output_edited(
+    alloc: Global,
+    words: &str,
+    whole: &str,
+    at: usize,
+    place: usize,
+) -> Result<Output, Fail> {
+    let text = edited(alloc, whole, at, place)?;
+    output_with(alloc, words, text.as_str())
+}
+
+/// Stops where an edited field is not refused with this status, and with a line that begins like this.
+fn is_looked_at(rt: &impl Abort, told: &Output, status: u8, front: &str, place: usize) {
+    let refused = output.status == status && output.out.is_empty();
+    let so = refused && output.err.as_str().starts_with(front);
+    let (status, line) = (output.status, output.err.as_str());
+    assert!(rt; so, "{front}{place}: {status} {line}");
+}
+
+/// Stops where one of so many fields of a line, each edited in its turn, is not refused with this status and a line that
+/// begins like this.
+fn are_looked_at(
+    rt: &impl Abort,
+    alloc: Global,
+    words: &str,
+    whole: &str,
+    at: usize,
+    fields: usize,
+    status: u8,
+    front: &str,
+) -> Result<(), Fail> {
+    for place in 0..fields {
+        let output = output_edited(alloc, words, whole, at, place)?;
+        is_looked_at(rt, &output, status, front, place);
+    }
+    Ok(())
+}
+
+#[test]
+fn the_whole_graph_is_taken(rt: HostRuntime) -> Result<(), Fail> {
+    let whole = output_with(rt.alloc(), REPLAY, CHANGE_PLAN)?;
+    assert_eq!(rt; whole.status, 0);
+    Ok(())
+}
+
+#[test]
+fn each_field_of_a_graph_is_looked_at(rt: HostRuntime) -> Result<(), Fail> {
+    for (line, front) in [
+        (0, "meat: graph file line 1: "),
+        (1, "meat: graph file line 2: "),
+        (2, "meat: graph file line 3: "),
+        (3, "meat: graph file line 4: "),
+        (4, "meat: graph file line 5: "),
+    ] {
+        are_looked_at(&rt, rt.alloc(), REPLAY, CHANGE_PLAN, line, 8, 10, front)?;
+    }
+    Ok(())
+}
+
+#[test]
+fn each_field_of_a_proof_is_looked_at(rt: HostRuntime) -> Result<(), Fail> {
+    for (line, fields, front) in [
+        (0, 7, "meat: proof file line 1: "),
+        (1, 4, "meat: proof file line 2: "),
+        (2, 4, "meat: proof file line 3: "),
+        (3, 4, "meat: proof file line 4: "),
+    ] {
+        are_looked_at(&rt, rt.alloc(), CHECK, PROOF, line, fields, 14, front)?;
+    }
+    Ok(())
+}

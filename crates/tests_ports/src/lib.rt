@@ -1,0 +1,7 @@
+//! Files and sinks in use, and made files.
+#![tactic(auto)]
+
+#[cfg(test)]
+mod made;
+#[cfg(test)]
+mod ports;
