@@ -9,7 +9,7 @@ use crate::moments::day_of;
 use jiff::ToSpan;
 use jiff::civil::{Date, date};
 
-/// The day number of a text YYYYMMDD, 0 for 1970-01-01, or none where it has another form or the calendar has no
+/// The day number of a text YYYYMMDD, 0 for 1970-01-01, or `None` if it has another form or the calendar has no
 /// such day.
 pub fn read_date(text: &[u8]) -> Option<i32>
     ensures { result ≡ date_at text.now }
@@ -40,7 +40,7 @@ fn seconds_of_time(hour: u32, minute: u32, second: u32) -> Option<u32>
     Some(3600 * hour + 60 * minute + second)
 }
 
-/// The seconds of a time whose hours have so many digits.
+/// The seconds of a time whose hours have this number of digits.
 fn time_of(text: &[u8], digits: usize) -> Option<u32>
     requires long { length text.now ≡ digits + 6 }
     requires short { digits ≤ 3 }
@@ -56,7 +56,7 @@ fn time_of(text: &[u8], digits: usize) -> Option<u32>
 }
 
 /// The seconds of a text H:MM:SS with one to three digits of hours up to 167, as the GTFS Schedule reference counts
-/// a time: from noon minus twelve hours of the service day. None where it has another form.
+/// a time: from noon minus twelve hours of the service day. `None` if it has another form.
 pub fn read_time(text: &[u8]) -> Option<u32>
     ensures { result ≡ time_at text.now }
 {

@@ -2,6 +2,8 @@
 ghost use Rattle.std.specs.Prelude.{◌≡◌, ◌<◌, ◌≤◌, ◌^◌, length, IfSome};
 ghost use Rattle.clock_text.specs.Digits.{digits, number_spelled, optional_seconds_of, whole_of};
 
+use plan_model::SECONDS_PER_DAY;
+
 /// The number that a text of at most nine digits spells.
 pub(crate) fn read_digits(text: &[u8]) -> Option<u32>
     requires { length text.now ≤ 9 }
@@ -18,8 +20,8 @@ pub(crate) fn read_digits(text: &[u8]) -> Option<u32>
     Some(number)
 }
 
-/// The number of a text of one to nine decimal digits, if it is at most `most`. Leading zeros are allowed, a sign
-/// is not.
+/// The number of a text of one to nine decimal digits. Leading zeros are allowed, a sign is not. `None` if the text does not
+/// have this form or its number is above `most`.
 pub fn read_whole(text: &[u8], most: u32) -> Option<u32>
     ensures { result ≡ whole_of most text.now }
 {
@@ -30,14 +32,14 @@ pub fn read_whole(text: &[u8], most: u32) -> Option<u32>
     if number > most { None } else { Some(number) }
 }
 
-/// The seconds of a text, at most a day, or nothing where the text is empty. None where it has another form.
+/// The seconds of a text, at most a day, or nothing if the text is empty. `None` if it has another form.
 pub fn read_optional_seconds(text: &[u8]) -> Option<Option<u32>>
     ensures { result ≡ optional_seconds_of text.now }
 {
     if text.is_empty() {
         return Some(None);
     }
-    match read_whole(text, 86_400) {
+    match read_whole(text, SECONDS_PER_DAY) {
         None => None,
         Some(seconds) => Some(Some(seconds)),
     }

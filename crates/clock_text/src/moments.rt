@@ -8,11 +8,10 @@ ghost use Rattle.clock_text.specs.Times.{as_parts, day_of, has_marks, moment_of_
 use crate::dates::date_from;
 use crate::digits::{four, nine, read_digits, two};
 use jiff::civil::Date;
-use plan_model::Moment;
+use plan_model::{Moment, NANOS_PER_SECOND, SECONDS_PER_DAY};
 
-const NANOS_PER_SECOND: u64 = 1_000_000_000;
-
-const SECONDS_PER_DAY: u64 = 86_400;
+/// A day, in the seconds of a moment.
+const DAY: u64 = SECONDS_PER_DAY as u64;
 
 /// Whether a text has the length and the marks of a moment.
 fn has_marks(text: &[u8]) -> bool
@@ -64,10 +63,10 @@ fn moment_of_parts(w: &Written) -> Option<Moment>
     }
     let day = day_of(w.year, w.month, w.day)? as u64;
     let second = u64::from(3600 * w.hour + 60 * w.minute + w.second);
-    Some(Moment(SECONDS_PER_DAY * day + second))
+    Some(Moment(DAY * day + second))
 }
 
-/// The moment of a text YYYY-MM-DDTHH:MM:SS of the years 1970 to 9999, or none where it has another form.
+/// The moment of a text YYYY-MM-DDTHH:MM:SS of the years 1970 to 9999, or `None` if it has another form.
 pub fn read_moment(text: &[u8]) -> Option<Moment>
     ensures { option_map (λ m. m.0) result ≡ moment_at text.now }
 {
@@ -90,7 +89,7 @@ pub fn read_moment(text: &[u8]) -> Option<Moment>
     })
 }
 
-/// The date that is so many days after the first of 1970.
+/// The date that is these days after the first of 1970.
 fn date_since_1970(days: u32) -> Date
     requires { days ≤ last_day }
     ensures value { epoch_day result ≡ pos days }
@@ -110,8 +109,8 @@ fn parts_of(moment: u64) -> Written
     ensures second { result.second < 100 }
     ensures moment { moment_of_parts (as_parts result) ≡ Some moment }
 {
-    let date = date_since_1970((moment / SECONDS_PER_DAY) as u32).to_plain();
-    let second = (moment % SECONDS_PER_DAY) as u32;
+    let date = date_since_1970((moment / DAY) as u32).to_plain();
+    let second = (moment % DAY) as u32;
     Written {
         year: date.year as u32,
         month: u32::from(date.month),
@@ -122,7 +121,7 @@ fn parts_of(moment: u64) -> Written
     }
 }
 
-/// A text that tells a moment before the year 10000.
+/// The text of a moment before the year 10000.
 fn moment_bytes(moment: Moment) -> [u8; 19]
     requires { moment.0 ≤ last_printable }
     ensures { moment_at result ≡ Some moment.0 }
@@ -163,7 +162,7 @@ fn nanos_of(moment: u64, fraction: u32) -> Option<u64>
         .checked_add(u64::from(fraction))
 }
 
-/// The nanoseconds since 1970 of a text of a moment, a point and nine digits, or none where it has another form or
+/// The nanoseconds since 1970 of a text of a moment, a point and nine digits, or `None` if it has another form or
 /// they do not fit 64 bits.
 pub fn read_nanos(text: &[u8]) -> Option<u64>
     ensures { result ≡ nanos_at text.now }
@@ -184,7 +183,7 @@ pub fn write_nanos(nanos: u64) -> [u8; 29]
     nanos_bytes(nanos)
 }
 
-/// A text that tells nanoseconds.
+/// The text of nanoseconds.
 fn nanos_bytes(nanos: u64) -> [u8; 29]
     ensures { nanos_at result ≡ Some nanos }
 {

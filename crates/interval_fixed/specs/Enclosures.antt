@@ -4,7 +4,7 @@ use Rattle.plan_model.specs.declared.model.Outcome.{Outcome}
 use Rattle.interval_fixed.specs.Interval.{Interval}
 use Rattle.interval_fixed.specs.Means.{weighted}
 
--- each value is within the span that stands beside it
+-- each value is within the span beside it
 abbrev pub AreEnclosed : List Interval → List ℕ → Type 0
 AreEnclosed [] [] = Unit {0}
 AreEnclosed (span ∷ spans) (x ∷ xs) = (span.lo ≤ x) × (x ≤ span.hi) × AreEnclosed spans xs

@@ -1,7 +1,7 @@
--- The bounds of what a network tells, as numbers.
+-- The bounds of a network's numbers.
 use Rattle.std.specs.Prelude.{ℕ}
 
--- as many connections as a network may have
+-- the most connections of a network
 abbrev pub most_connections : ℕ
 most_connections = 8388608
 
@@ -35,6 +35,6 @@ nanos_per_second = 1000000000
 abbrev pub seconds_per_day : ℕ
 seconds_per_day = 86400
 
--- certainty, in the units in which a chance is told: 10 to the -18
+-- certainty, in the units of a chance: 10 to the -18
 abbrev pub certainty : ℕ
 certainty = 1000000000000000000

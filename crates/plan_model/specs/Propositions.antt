@@ -1,4 +1,4 @@
--- That a network is valid can be told in one way alone, so it is a fact that a type can have.
+-- There is one way alone for a network to be valid, so it is a fact that a type can have.
 use Rattle.std.proofs.Common.{◌≡◌, ℕ, ◌<◌, ◌⊎◌, arith, inl, inr, ap}
 use Rattle.std.specs.Coded.{le_prop}
 use Rattle.std.proofs.Props.{props}

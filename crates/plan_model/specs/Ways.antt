@@ -22,7 +22,7 @@ way_in ways place = option_map (λ way. way.seconds) (find (λ way. way.from.0 =
 abbrev pub way_of : NetworkModel → ℕ → ℕ → Option ℕ
 way_of network from to = way_in (ways_into network to) from
 
--- so many seconds before a moment, where that is not before all time
+-- the moment that is these seconds earlier, if that is not before all time
 abbrev pub earlier_by : ℕ → ℕ → Option ℕ
 earlier_by moment seconds = if nat_le seconds moment then Some (moment - seconds) else None
 

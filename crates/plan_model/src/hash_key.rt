@@ -1,9 +1,9 @@
-//! Where hashes begin. Who makes the names of a timetable can't make them share one hash where the keys are drawn anew at each
+//! Where hashes begin. Who makes the names of a timetable can't make them share one hash if the keys are drawn anew at each
 //! start of the program.
 use std::hash::{BuildHasher, DefaultHasher, RandomState};
 use std::random::RandomSource;
 
-/// The keys of a hash map or set: those that a source drew, or none where it draws nothing. The hasher is that of std.
+/// The keys of a hash map or set: those that a source drew, or none if it draws nothing. The hasher is that of std.
 #[derive(Clone, Copy)]
 pub enum HashKey {
     /// Keys that a source drew.
@@ -18,7 +18,7 @@ impl HashKey {
         HashKey::Fixed
     }
 
-    /// Keys that a source draws, or the fixed ones where it draws nothing.
+    /// Keys that a source draws, or the fixed ones if it draws nothing.
     pub fn drawn(source: &impl RandomSource) -> HashKey {
         match RandomState::new(source) {
             Ok(state) => HashKey::Drawn(state),

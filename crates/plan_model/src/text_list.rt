@@ -7,13 +7,13 @@ use crate::list::NoMemory;
 use std::alloc::Global;
 use std::marker::Model;
 
-/// Distinct texts, each with its place in the order in which they were added as its number.
+/// Distinct texts, each with its index in the order in which they were added as its number.
 pub struct TextList {
     strings: Vec<String>,
 }
 
 impl Drop for TextList {
-    /// Lets go of its parts here, so that a caller lets go of one value.
+    /// Drops its parts here, so that a caller drops one value.
     fn drop(self) {
         let TextList { strings: _strings } = self;
     }
@@ -31,7 +31,7 @@ impl Model for TextList {
     ghost invariant = { λ s. AreTexts (texts s.strings.items) };
 }
 
-/// The place of a text among these, if it is there.
+/// The index of a text among these; `None` if it is not among them.
 fn place_among(strings: &[String], text: &str) -> Option<usize>
     ensures found { IfSome result (λ i. (i < length (texts strings.now))
         × (slice_index_or (texts strings.now) i [] ≡ text.now)) }
@@ -65,7 +65,7 @@ impl TextList {
         self.strings.len() as u32
     }
 
-    /// The number of a text, if it is there. Each text is looked at in turn.
+    /// The number of a text; `None` if it is not in the list. Each text is looked at in turn.
     pub fn number(&self, text: &str) -> Option<u32>
         ensures found { IfSome result (λ number. slice_get self.now number ≡ Some text.now) }
         ensures none { IfNone result (¬ Contains self.now text.now) }
@@ -86,7 +86,7 @@ impl TextList {
         self.strings[number as usize].as_str()
     }
 
-    /// Adds a text that is new at the end.
+    /// Adds a text that is new at the end. Without memory nothing changes.
     pub fn push(&mut self, alloc: Global, text: &str) -> Result<(), NoMemory>
         requires room { length self.old < 2 ^ 32 - 1 }
         requires absent { ¬ Contains self.old text.now }
@@ -99,7 +99,7 @@ impl TextList {
         Ok(())
     }
 
-    /// Adds a text at the end, and says whether it is new. Each text is looked at in turn.
+    /// Adds a text at the end if it is new, and says whether it is. Each text is looked at in turn. Without memory nothing changes.
     pub fn add(&mut self, alloc: Global, text: &str) -> Result<bool, NoMemory>
         requires { length self.old < 2 ^ 32 - 1 }
         ensures added { IfOk result (Adds self.old self.new text.now) }

@@ -20,7 +20,7 @@ pub struct Timetable {
 }
 
 impl Drop for Timetable {
-    /// Lets go of its parts here, so that a caller lets go of one value.
+    /// Drops its parts here, so that a caller drops one value.
     fn drop(self) {
         let Timetable {
             network: _network,
