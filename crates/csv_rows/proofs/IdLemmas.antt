@@ -1,4 +1,4 @@
--- Ids by their numbers, and ids that stand twice.
+-- Ids by their numbers, and ids that come twice.
 use Rattle.std.proofs.Common.{◌≡◌, ℕ, ◌+◌, ◌<◌, ◌≤◌, ◌==◌, ◌&&◌, Bool, true, false, List, [], ◌∷◌, ◌++◌, length, slice_index_or, Option, Some, None, IfSome}
 use Rattle.std.proofs.Common.{IfNone, Contains, refl, sym, ap, ap₂, ◌∙◌, subst, arith, ⊎_elim, bytes_eq, if◌then◌else◌, add-one, length-append, slice_get}
 use Rattle.std.proofs.Common.{Result, Ok, Err, IfOk, OnErr, ◌-◌, ◌^◌, eq-eqb, ne_eqb}
@@ -75,7 +75,7 @@ repeated table id i old x e same there =
     let here : id there.0 ≡ id i = sym (get-list_below id i there.0 x inside) ∙ sym (ap (λ xs. slice_index_or xs there.0 x) e) ∙ there.2 ∙ same in
     ap (dup table i) (any-true (λ j. bytes_eq (id j) (id i)) i there.0 inside ((bytes_eq-Decides (id there.0) (id i)).1 here))
 
--- ids of which none stands twice
+-- ids of which none comes twice
 pub ids_differ : (table : Table) (id : ℕ → List ℕ) (n : ℕ) → first_below (repeated_id table id) n ≡ None → (i j : ℕ) → i < j → j < n → id i ≡ id j → ⊥
 unfolding repeated_id dup
 ids_differ table id n none i j less inside same =

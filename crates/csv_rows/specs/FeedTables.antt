@@ -49,7 +49,7 @@ abbrev pub is_unread : Option Table → Table → Bool
 is_unread None table = false
 is_unread (Some unread) table = rank_of unread == rank_of table
 
--- the table that a fault is in; want of memory is in none
+-- the table that a fault is in; out of memory is in none
 abbrev pub table_of_fault : FeedFault → Option Table
 table_of_fault (Read table) = Some table
 table_of_fault (TooLong table) = Some table

@@ -38,11 +38,11 @@ has_twin group order i = any_below (λ j. (group j == group i) && (order j == or
 unfoldable pub twin_at : (group order : ℕ → ℕ) → ℕ → Option ℕ
 twin_at group order i = if has_twin group order i then Some i else None
 
--- row j stands before row i in its group, and the test holds of both
+-- row j comes before row i in its group, and the test holds of both
 abbrev pub precedes : (test : ℕ → Bool) (group order : ℕ → ℕ) → ℕ → ℕ → Bool
 precedes test group order j i = (test j && test i) && ((group j == group i) && nat_lt (order j) (order i))
 
--- and no such row of the group stands between
+-- and no such row of the group is between
 abbrev pub just_precedes : (test : ℕ → Bool) (group order : ℕ → ℕ) (count : ℕ) → ℕ → ℕ → Bool
 just_precedes test group order count j i =
     precedes test group order j i && not (any_below (λ k. precedes test group order j k && precedes test group order k i) count)

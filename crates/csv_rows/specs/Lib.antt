@@ -1,5 +1,6 @@
 pub mod Columns
 pub mod Fields
+pub mod FaultTexts
 pub mod FeedTables
 pub mod First
 pub mod Ids

@@ -1,4 +1,4 @@
--- The faults that tables have alike. Row i stands in line i + 2.
+-- The faults that tables have alike. Row i is line i + 2.
 use Rattle.std.specs.Prelude.{◌≡◌, ◌≢◌, ℕ, ◌+◌, List, [], ◌∷◌, Option, None, Some, is_none, Result, MatchResult, if◌then◌else◌}
 use Rattle.std.specs.Option.{option_or}
 use Rattle.std.specs.Str.{bytes_eq}

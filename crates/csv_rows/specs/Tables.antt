@@ -28,7 +28,7 @@ place_in name names = first_below (λ k. if bytes_eq (slice_index_or names k [])
 abbrev pub place_of : Column → List (List (List ℕ)) → Option ℕ
 place_of column t = place_in (name_of column) (header t)
 
--- the field of a row at a place: empty past the row's end, and where the table lacks the column
+-- the field of a row at an index: empty past the row's end, and if the table does not have the column
 abbrev pub field_at : List (List (List ℕ)) → Option ℕ → ℕ → List ℕ
 field_at t None i = []
 field_at t (Some k) i = slice_index_or (slice_index_or t (i + 1) []) k []

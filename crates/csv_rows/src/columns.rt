@@ -35,7 +35,7 @@ pub enum Column {
     EndTime,
     /// `headway_secs` of `frequencies.txt`: the seconds from one departure to the next.
     HeadwaySecs,
-    /// `exact_times` of `frequencies.txt`: whether the departures are told to the second.
+    /// `exact_times` of `frequencies.txt`: whether the departures are exact to the second.
     ExactTimes,
     /// `monday` of `calendar.txt`: whether a service runs on Mondays.
     Monday,
@@ -79,7 +79,7 @@ pub enum Column {
     Class,
     /// `delay` of a delay file: the seconds of a delay.
     Delay,
-    /// `weight` of a delay file: in how many of 10,000 cases the delay comes.
+    /// `weight` of a delay file: in how many of 10,000 cases this is the delay.
     Weight,
     /// `hour` of a delay file: the hour of the day in which a trip is to arrive.
     Hour,

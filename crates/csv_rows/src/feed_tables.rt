@@ -4,7 +4,7 @@ ghost use Rattle.csv_rows.specs.FeedTables.{file_name};
 
 use crate::columns::Column;
 use plan_model::NoMemory;
-use std::alloc::AllocFailed;
+use std::alloc::{AllocError, AllocFailed};
 
 /// A table of a feed (GTFS Schedule reference), in the order in which they are read.
 #[derive(Clone, Copy, Debug, PartialEq, Eq)]
@@ -45,7 +45,7 @@ impl Table {
     }
 }
 
-/// Why a feed is refused. A line is the number of a record, where the header is line 1.
+/// Why a feed is refused. A line is the number of a record; the header is line 1.
 #[derive(Clone, Copy, Debug, PartialEq, Eq)]
 pub enum FeedFault {
     /// Opening the file or a read failed.
@@ -77,6 +77,17 @@ impl From<NoMemory> for FeedFault {
     ghost from_gives = { λ _ fault. fault ≡ NoMemoryFault };
 
     fn from(_: NoMemory) -> Self {
+        FeedFault::NoMemory
+    }
+}
+
+impl From<AllocError> for FeedFault {
+    ghost use Rattle.std.specs.Prelude.{◌≡◌};
+    ghost use Rattle.csv_rows.specs.declared.feed_tables.FeedFault.TheVariants.{NoMemory as NoMemoryFault};
+
+    ghost from_gives = { λ _ fault. fault ≡ NoMemoryFault };
+
+    fn from(_: AllocError) -> Self {
         FeedFault::NoMemory
     }
 }

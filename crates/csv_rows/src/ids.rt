@@ -1,4 +1,4 @@
-//! Ids, numbered in the order in which they stand in a table.
+//! Ids, numbered in the order in which they are in a table.
 ghost use Rattle.std.specs.Prelude.{◌≡◌, ◌<◌, ◌-◌, ◌^◌, ◌++◌, ◌∷◌, ℕ, [], length, None, Some, IfOk, IfErr, IfSome, OnOk, OnErr, All, Contains, slice_get};
 ghost use Rattle.csv_rows.specs.First.{first_below};
 ghost use Rattle.csv_rows.specs.Names.{name_in};
@@ -17,14 +17,14 @@ use plan_model::{HashKey, NoMemory, TextList};
 use std::alloc::Global;
 use std::marker::Model;
 
-/// Distinct ids, of which each has its place as its number. None begins or ends with a space.
+/// Distinct ids, each with its index in the order of the table as its number. None begins or ends with a space.
 pub struct Ids {
     key: HashKey,
     ids: TextList,
 }
 
 impl Drop for Ids {
-    /// Lets go of its parts here, so that a caller lets go of one value.
+    /// Drops its parts here, so that a caller drops one value.
     fn drop(self) {
         let Ids {
             key: _key,
@@ -46,7 +46,7 @@ impl Model for Ids {
 }
 
 impl Ids {
-    /// No ids, which will be hashed by a key where they are looked up.
+    /// No ids, which will be hashed by a key when they are looked up.
     pub fn with_key(alloc: Global, key: HashKey) -> Ids
         ensures { result ≡ [] }
     {
@@ -56,7 +56,7 @@ impl Ids {
         }
     }
 
-    /// These texts as ids, which will be hashed by a key where they are looked up.
+    /// These texts as ids, which will be hashed by a key when they are looked up.
     pub fn of(key: HashKey, texts: TextList) -> Ids
         requires { All IsTrimmed texts }
         ensures { result ≡ texts }
@@ -70,7 +70,7 @@ impl Ids {
         self.key
     }
 
-    /// Adds an id at the end, and says whether it is new. Each id is looked at in turn.
+    /// Adds an id at the end if it is new, and says whether it is. Each id is looked at in turn. Without memory nothing changes.
     pub fn add(&mut self, alloc: Global, id: &str) -> Result<bool, NoMemory>
         requires room { length self.old < 2 ^ 32 - 1 }
         requires trimmed { IsTrimmed id.now }
@@ -80,7 +80,7 @@ impl Ids {
         self.ids.add(alloc, id)
     }
 
-    /// Adds an id that is new at the end.
+    /// Adds an id that is new at the end. Without memory nothing changes.
     pub fn push(&mut self, alloc: Global, id: &str) -> Result<(), NoMemory>
         requires room { length self.old < 2 ^ 32 - 1 }
         requires trimmed { IsTrimmed id.now }
@@ -99,7 +99,7 @@ impl Ids {
         self.ids.len()
     }
 
-    /// The number of an id, if it is there. Each id is looked at in turn.
+    /// The number of an id; `None` if it is not among them. Each id is looked at in turn.
     pub fn number(&self, id: &str) -> Option<u32>
         ensures place { result ≡ place_in id.now self.now }
         ensures inside { IfSome result (λ number. number < length self.now) }
@@ -135,7 +135,7 @@ fn name_at(rows: &Rows, row: usize, column: Option<usize>) -> &str
     }
 }
 
-/// The ids of all rows, or the first row whose id stands in an earlier one.
+/// The ids of all rows; or `DuplicateKey` with the line of the first row whose id is in an earlier one.
 pub fn read_ids(alloc: Global, rows: &Rows, table: Table, column: Column) -> Result<Ids, FeedFault>
     requires few { row_count rows.now < 2 ^ 32 - 1 }
     requires named { (i : ℕ) → i < row_count rows.now
@@ -144,16 +144,16 @@ pub fn read_ids(alloc: Global, rows: &Rows, table: Table, column: Column) -> Res
     ensures tells { TellsFirst table
         (first_below (repeated_id table (field rows.now column)) (row_count rows.now)) result }
 {
-    let place = rows.place_of(column);
+    let index = rows.place_of(column);
     let mut seen: IndexSet<&str, HashKey> = IndexSet::with_hasher(alloc, rows.key());
     let mut ids = Ids::with_key(alloc, rows.key());
     for i in 0..rows.count() {
-        let name = name_at(rows, i, place);
-        match seen.insert(name) {
-            Err(_) => return Err(FeedFault::NoMemory),
-            Ok(true) => ids.push(alloc, name)?,
-            Ok(false) => return Err(FeedFault::DuplicateKey(table, rows.line(i))),
+        let name = name_at(rows, i, index);
+        let new = seen.insert(name)?;
+        if !new {
+            return Err(FeedFault::DuplicateKey(table, rows.line(i)));
         }
+        ids.push(alloc, name)?;
     }
     Ok(ids)
 }

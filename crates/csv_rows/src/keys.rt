@@ -1,21 +1,21 @@
-//! The rows of a table by group, order and place in the file, and what shows there.
+//! The rows of a table by group, order and row number in the file.
 ghost use Rattle.std.specs.Prelude.{◌≡◌, ◌<◌, ℕ, true, length, Some, None};
 ghost use Rattle.std.specs.List.Sorted.{IsPermutation};
 ghost use Rattle.csv_rows.specs.First.{first_below};
 ghost use Rattle.csv_rows.specs.Keys.{IsRising, AreSorted, IsBefore, twin_at, repeated, sooner};
 
-/// A row of a table by its group, its order in the group and its place in the file.
+/// A row of a table by its group, its order in the group and its row number in the file.
 #[derive(Clone, Copy, Debug, PartialEq, Eq, PartialOrd, Ord)]
 pub struct Key {
     /// The number of its group.
     pub group: u32,
     /// Its order in the group.
     pub order: u32,
-    /// Its place in the file.
+    /// Its row number in the file, from 0 on.
     pub row: u32,
 }
 
-/// The keys by group, then by order, then by place in the file.
+/// The keys by group, then by order, then by row number.
 pub fn in_order(mut keys: Vec<Key>) -> Vec<Key>
     ensures same { IsPermutation keys.items result.items }
     ensures rising { IsRising result.items }
@@ -24,7 +24,7 @@ pub fn in_order(mut keys: Vec<Key>) -> Vec<Key>
     keys
 }
 
-/// The key before this one, if it is of the same group.
+/// The key before this one; `None` for the first key, and if the one before is of another group.
 pub fn before_at(keys: &[Key], k: usize) -> Option<Key>
     requires { k < length keys.now }
     ensures { IsBefore keys.now k result }
@@ -40,7 +40,8 @@ pub fn before_at(keys: &[Key], k: usize) -> Option<Key>
     }
 }
 
-/// The sooner of two faults, by their rows.
+/// Of a fault that was found and one of a row, if there is one, the fault of the lesser row number; of two at one row the
+/// new one. `None` if there is neither.
 pub fn sooner<F: Copy>(first: Option<(u32, F)>, row: u32, fault: Option<F>) -> Option<(u32, F)>
     ensures { result ≡ sooner first row fault }
 {
@@ -59,7 +60,7 @@ pub fn sooner<F: Copy>(first: Option<(u32, F)>, row: u32, fault: Option<F>) -> O
     }
 }
 
-/// The row of a key, if the key before it has its order too.
+/// The row of a key whose order the key before it has too; `None` for any other key.
 fn repeated(before: Option<Key>, here: Key) -> Option<u32>
     ensures { result ≡ repeated before here }
 {
@@ -75,7 +76,8 @@ fn repeated(before: Option<Key>, here: Key) -> Option<u32>
     }
 }
 
-/// The first row that has the group and the order of an earlier one, by the keys of all rows in their order.
+/// The first row that has the group and the order of an earlier one, by the keys of all rows in their order. `None` if no two
+/// rows have one group and order.
 pub fn first_repeat(keys: &[Key]) -> Option<u32>
     ensures { (group order : ℕ → ℕ) (count : ℕ) → AreSorted (λ i. true) group order count keys.now
         → first_below (twin_at group order) count ≡ result }

@@ -2,7 +2,7 @@
 ghost use Rattle.std.specs.Prelude.{◌≡◌, option_map};
 ghost use Rattle.csv_rows.specs.Names.{name_in, text_in};
 
-/// A name: a text of UTF-8 that is not empty.
+/// The text of a field that is a name; `None` if it is empty or not UTF-8.
 pub fn read_name(text: &[u8]) -> Option<&str>
     ensures { option_map (λ s. s.now) result ≡ name_in text.now }
 {
@@ -15,7 +15,7 @@ pub fn read_name(text: &[u8]) -> Option<&str>
     }
 }
 
-/// A text of UTF-8, which may be empty.
+/// The text of a field, which may be empty; `None` if it is not UTF-8.
 pub fn read_text(text: &[u8]) -> Option<&str>
     ensures { option_map (λ s. s.now) result ≡ text_in text.now }
 {

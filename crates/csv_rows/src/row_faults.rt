@@ -7,19 +7,19 @@ use crate::columns::Column;
 use crate::feed_tables::{FeedFault, Table};
 use crate::rows::Rows;
 
-/// The fault of a required column that stands nowhere in the header.
-pub fn lack(table: Table, column: Column, place: Option<usize>) -> Option<FeedFault>
-    ensures fault { result ≡ lack table column place }
+/// `MissingColumn` of a required column that has no index in the header; `None` if it has one.
+pub fn lack(table: Table, column: Column, index: Option<usize>) -> Option<FeedFault>
+    ensures fault { result ≡ lack table column index }
     ensures content { IfSome result (λ f. unread_of f ≡ None) }
     ensures own { IfSome result (IsFaultOf table) }
 {
-    if place.is_none() {
+    if index.is_none() {
         return Some(FeedFault::MissingColumn(table, column));
     }
     None
 }
 
-/// That these columns stand in the header; or the fault of the first that does not.
+/// That the header has all of these columns; or `MissingColumn` of the first that is absent.
 pub fn check_columns(rows: &Rows, table: Table, required: &[Column]) -> Result<(), FeedFault>
     ensures { TellsFirst table (first_lack table rows.now required.now) result }
 {

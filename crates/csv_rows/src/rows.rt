@@ -6,7 +6,7 @@ ghost use Rattle.csv_rows.specs.Spaces.{trimmed_text, AreTrimmed};
 ghost use Rattle.csv_rows.specs.Tables.{table_of, header, row_count, place_of, field_at};
 
 use crate::columns::Column;
-use crate::fields::{Fields, start_of};
+use crate::fields::{END_OF_ENDS, Fields, start_of};
 use crate::spaces::trimmed;
 use csv::{ByteRecord, ReaderBuilder};
 use plan_model::{HashKey, NoMemory};
@@ -21,7 +21,7 @@ pub struct Rows {
 }
 
 impl Drop for Rows {
-    /// Lets go of its parts here, so that a caller lets go of one value.
+    /// Drops its parts here, so that a caller drops one value.
     fn drop(self) {
         let Rows {
             fields: _fields,
@@ -43,7 +43,7 @@ impl Model for Rows {
     ghost invariant = { AreRows };
 }
 
-/// The field of a record at a place.
+/// The field of a record at an index.
 fn field_of(row: &ByteRecord, i: usize) -> &[u8]
     requires { i < length (csv.fields_of row.now) }
     ensures { result.now ≡ slice_index_or (csv.fields_of row.now) i [] }
@@ -64,11 +64,8 @@ fn push_fields(fields: &mut Fields, row: &ByteRecord) -> Result<(), AllocError>
     Ok(())
 }
 
-/// All rows together have fewer fields.
-const LIMIT: usize = 1 << 32;
-
-/// Adds a record to the fields of all rows and the places where rows end.
-fn push_row(fields: &mut Fields, ends: &mut Vec<u32>, row: &ByteRecord) -> Result<(), AllocError>
+/// Adds a record to the fields of all rows, and where it ends to the ends of the rows.
+fn push_row(fields: &mut Fields, ends: &mut Vec<u32>, row: &ByteRecord) -> Result<(), NoMemory>
     requires { Fills ends.old.items (length fields.old) }
     ensures fills { OnOk result (Fills ends.new.items (length fields.new)) }
     ensures rows { OnOk result (parts_from 0 ends.new.items fields.new
@@ -76,13 +73,11 @@ fn push_row(fields: &mut Fields, ends: &mut Vec<u32>, row: &ByteRecord) -> Resul
 {
     push_fields(fields, row)?;
     let end = fields.len();
-    if end >= LIMIT {
-        return Err(AllocError);
+    if end >= END_OF_ENDS {
+        return Err(NoMemory);
     }
-    match ends.push(end as u32) {
-        Ok(()) => Ok(()),
-        Err(_) => Err(AllocError),
-    }
+    ends.push(end as u32)?;
+    Ok(())
 }
 
 /// The rows, if there is one.
@@ -124,7 +119,7 @@ impl From<NoMemory> for RowsFault {
 impl Rows {
     /// The records of a text after RFC 4180, with fields that commas part and double quotes may enclose, and records of any
     /// length that LF, CR or CRLF ends. A blank line is no record. One byte-order mark at the start is dropped, and so are
-    /// the ASCII spaces round each field. The answer is `NoHeader` exactly where there is no record.
+    /// the ASCII spaces round each field. The answer is `NoHeader` exactly if there is no record.
     pub fn read(alloc: Global, bytes: &[u8]) -> Result<Rows, RowsFault>
         ensures rows { IfOk result (λ rows. rows ≡ table_of bytes.now) }
         ensures header { IfOk result (λ rows. 0 < length rows) }
@@ -139,10 +134,7 @@ impl Rows {
         let mut ends = Vec::new(alloc);
         for _ in 0..u64::MAX {
             match reader.read_byte_record(&mut row) {
-                Ok(true) => match push_row(&mut fields, &mut ends, &row) {
-                    Ok(()) => {}
-                    Err(_) => return Err(RowsFault::NoMemory),
-                },
+                Ok(true) => push_row(&mut fields, &mut ends, &row)?,
                 Ok(false) => return finished(fields, ends),
                 Err(_) => return Err(RowsFault::NoMemory),
             }
@@ -162,7 +154,7 @@ impl Rows {
         Rows { fields, ends, key }
     }
 
-    /// The key by which their ids are hashed: a fixed one, where no other was given.
+    /// The key by which their ids are hashed: a fixed one if no other was given.
     pub fn key(&self) -> HashKey {
         self.key
     }
@@ -177,7 +169,7 @@ impl Rows {
         ends.len().saturating_sub(1)
     }
 
-    /// The line of a row, as refusals name it: its number among the records, where the header is line 1.
+    /// The line of a row, as refusals name it: its number among the records; the header is line 1.
     pub fn line(&self, row: usize) -> u64
         requires { row < row_count self.now }
         ensures { result ≡ row + 2 }
@@ -186,20 +178,20 @@ impl Rows {
         row as u64 + 2
     }
 
-    /// How many fields a record has, where the header is record 0.
-    fn record_width(&self, place: usize) -> usize
-        requires { place < length self.now }
-        ensures { result ≡ length (slice_index_or self.now place []) }
+    /// How many fields a record has; the header is record 0.
+    fn record_width(&self, index: usize) -> usize
+        requires { index < length self.now }
+        ensures { result ≡ length (slice_index_or self.now index []) }
     {
-        width_at(&self.ends, &self.fields, place)
+        width_at(&self.ends, &self.fields, index)
     }
 
     /// The field of a record, or an empty one past its end.
-    fn record_field(&self, place: usize, column: usize) -> &[u8]
-        requires { place < length self.now }
-        ensures { result.now ≡ slice_index_or (slice_index_or self.now place []) column [] }
+    fn record_field(&self, index: usize, column: usize) -> &[u8]
+        requires { index < length self.now }
+        ensures { result.now ≡ slice_index_or (slice_index_or self.now index []) column [] }
     {
-        field_in(&self.fields, &self.ends, place, column)
+        field_in(&self.fields, &self.ends, index, column)
     }
 
     /// How many fields the header has.
@@ -216,7 +208,7 @@ impl Rows {
         field_in(&self.fields, &self.ends, 0, column)
     }
 
-    /// The first column of this name.
+    /// The index of the first field of the header that is this name; `None` if there is none.
     pub fn column(&self, name: &str) -> Option<usize>
         ensures found { IfSome result (λ i. (i < length (header self.now))
             × (slice_index_or (header self.now) i [] ≡ name.now)) }
@@ -233,14 +225,14 @@ impl Rows {
         None
     }
 
-    /// The first place of a column, if the header has it.
+    /// The index of a column: that of the first field of the header with its name; `None` if there is none.
     pub fn place_of(&self, column: Column) -> Option<usize>
         ensures { result ≡ place_of column self.now }
     {
         self.column(column.name())
     }
 
-    /// The place of a row among the records.
+    /// The index of a row among the records.
     fn record_of(&self, row: usize) -> usize
         requires { row < row_count self.now }
         ensures { result ≡ row + 1 }
@@ -258,12 +250,12 @@ impl Rows {
         self.record_field(record, column)
     }
 
-    /// The field of a row under a column at a place: empty past its end, and where the table lacks the column.
-    pub fn field_at(&self, row: usize, place: Option<usize>) -> &[u8]
+    /// The field of a row under a column at an index: empty past its end, and if the table has no such column.
+    pub fn field_at(&self, row: usize, column: Option<usize>) -> &[u8]
         requires { row < row_count self.now }
-        ensures { result.now ≡ field_at self.now place row }
+        ensures { result.now ≡ field_at self.now column row }
     {
-        match place {
+        match column {
             Some(column) => self.field(row, column),
             None => &[],
         }
@@ -279,23 +271,23 @@ impl Rows {
     }
 }
 
-/// How many fields the record at a place has.
-fn width_at(ends: &[u32], fields: &Fields, place: usize) -> usize
-    requires place { place < length ends.now }
+/// How many fields the record at an index has.
+fn width_at(ends: &[u32], fields: &Fields, index: usize) -> usize
+    requires index { index < length ends.now }
     requires fills { Fills ends.now (length fields.now) }
-    ensures { result ≡ length (slice_index_or (parts_from 0 ends.now fields.now) place []) }
+    ensures { result ≡ length (slice_index_or (parts_from 0 ends.now fields.now) index []) }
 {
-    ends[place] as usize - start_of(ends, place)
+    ends[index] as usize - start_of(ends, index)
 }
 
-/// The field of the record at a place, or an empty one past its end.
-fn field_in<'a>(fields: &'a Fields, ends: &[u32], place: usize, column: usize) -> &'a [u8]
-    requires place { place < length ends.now }
+/// The field of the record at an index, or an empty one past its end.
+fn field_in<'a>(fields: &'a Fields, ends: &[u32], index: usize, column: usize) -> &'a [u8]
+    requires index { index < length ends.now }
     requires fills { Fills ends.now (length fields.now) }
-    ensures { result.now ≡ slice_index_or (slice_index_or (parts_from 0 ends.now fields.now) place []) column [] }
+    ensures { result.now ≡ slice_index_or (slice_index_or (parts_from 0 ends.now fields.now) index []) column [] }
 {
-    if column >= width_at(ends, fields, place) {
+    if column >= width_at(ends, fields, index) {
         return &[];
     }
-    fields.get(start_of(ends, place) + column)
+    fields.get(start_of(ends, index) + column)
 }

@@ -33,7 +33,7 @@ pub push-requires-clause-absent : goal.push-requires-clause-absent
 push-requires-clause-absent c =
     let name = c.name_at-name.result.now in
     let keys = c.loop-i.seen.keys in
-    let fresh : has_key name keys ≡ false = new_is (has_key name keys) (sym c.in-Ok-true.field-0-test ∙ c.in-Ok-true.ensures.added) in
+    let fresh : has_key name keys ≡ false = new_is (has_key name keys) (sym c.if-not-new.false ∙ c.in_ok-new.ensures.added) in
     subst (λ (w : List (List ℕ)). ¬ Contains w name) c.loop-i.invariant.seen (key_absent name keys fresh)
 
 pub loop-i-preserved : goal.loop-i-preserved
@@ -42,25 +42,25 @@ loop-i-preserved c =
     let id = field t c.args.column in
     let name = c.name_at-name.result.now in
     let keys = c.loop-i.seen.keys in
-    let is = c.name_at-name.ensures ∙ ap (λ p. field_at t p c.loop-i.i) c.place_of-place.ensures in
-    let fresh : has_key name keys ≡ false = new_is (has_key name keys) (sym c.in-Ok-true.field-0-test ∙ c.in-Ok-true.ensures.added) in
+    let is = c.name_at-name.ensures ∙ ap (λ p. field_at t p c.loop-i.i) c.place_of-index.ensures in
+    let fresh : has_key name keys ≡ false = new_is (has_key name keys) (sym c.if-not-new.false ∙ c.in_ok-new.ensures.added) in
     let absent = subst (λ (w : List (List ℕ)). ¬ Contains w name) c.loop-i.invariant.seen (key_absent name keys fresh) in
     record {
-      ids = list_below-next id c.loop-i.i c.loop-i.ids c.push.new.self name c.loop-i.invariant.ids c.in_ok-push-in-Ok-true.ensures.ok is;
-      seen = key_last keys c.insert.new.self.keys c.name_at-name.result fresh c.in-Ok-true.ensures.keys
-          ∙ ap (λ (w : List (List ℕ)). w ++ name ∷ []) c.loop-i.invariant.seen ∙ sym c.in_ok-push-in-Ok-true.ensures.ok;
+      ids = list_below-next id c.loop-i.i c.loop-i.ids c.push.new.self name c.loop-i.invariant.ids c.in_ok-push.ensures.ok is;
+      seen = key_last keys c.insert.new.self.keys c.name_at-name.result fresh c.in_ok-new.ensures.keys
+          ∙ ap (λ (w : List (List ℕ)). w ++ name ∷ []) c.loop-i.invariant.seen ∙ sym c.in_ok-push.ensures.ok;
       none = first-next (repeated_id c.args.table id) c.loop-i.i None c.loop-i.invariant.none
           (not_repeated c.args.table id c.loop-i.i c.loop-i.ids name c.loop-i.invariant.ids is absent);
     }
 
-pub returns-in-Ok-false-clause-tells : goal.returns-in-Ok-false-clause-tells
-returns-in-Ok-false-clause-tells c =
+pub returns-then-not-new-clause-tells : goal.returns-then-not-new-clause-tells
+returns-then-not-new-clause-tells c =
     let t = c.args.rows.now in
     let id = field t c.args.column in
     let name = c.name_at-name.result.now in
     let keys = c.loop-i.seen.keys in
-    let is = c.name_at-name.ensures ∙ ap (λ p. field_at t p c.loop-i.i) c.place_of-place.ensures in
-    let known : has_key name keys ≡ true = known_is (has_key name keys) (sym c.in-Ok-false.field-0-test ∙ c.in-Ok-false.ensures.added) in
+    let is = c.name_at-name.ensures ∙ ap (λ p. field_at t p c.loop-i.i) c.place_of-index.ensures in
+    let known : has_key name keys ≡ true = known_is (has_key name keys) (sym c.if-not-new.true ∙ c.in_ok-new.ensures.added) in
     let there = subst (λ (w : List (List ℕ)). Contains w name) c.loop-i.invariant.seen (key_there name keys known) in
     record {
       why = λ free.
