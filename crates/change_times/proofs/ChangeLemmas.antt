@@ -20,7 +20,7 @@ use Rattle.change_times.specs.Changes.{change_seconds, greatest_link, ChangePart
 use Rattle.change_times.proofs.GreatestLemmas.{IsShort, greatest-zero}
 use Rattle.change_times.proofs.LinkLemmas.{ways-none}
 
--- the row by where the columns stand
+-- the row by the indexes of the columns
 pub transfer_is : (feed : FeedParts) (t : Records) (c : TransferColumns) (i : ℕ) → c ≡ transfer_columns t → transfer_at feed t i ≡ transfer_in feed t c i
 unfolding transfer_at
 transfer_is feed t c i e = ap (λ k. transfer_in feed t k i) (sym e)

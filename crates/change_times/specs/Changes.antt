@@ -20,7 +20,7 @@ use Rattle.change_times.specs.Greatest.{greatest_below}
 use Rattle.change_times.specs.Links.{ways_at, ways_below}
 use Rattle.change_times.specs.Walks.{seconds_between, link_between}
 
--- a change takes a second at least, and 120 where nothing is told
+-- a change takes a second at least, and 120 if no row says it
 abbrev pub change_seconds : Option ℕ → ℕ
 change_seconds None = 120
 change_seconds (Some seconds) = max 1 seconds
@@ -45,8 +45,8 @@ links_in feed t place = ways_below (λ from. greatest_link feed t (row_count t) 
 abbrev pub passed_below : FeedParts → Records → ℕ → ℕ
 passed_below feed t n = count_by is_none (list_below (transfer_told_by feed t) n)
 
--- the places for which a row tells seconds, with the greatest that is told, the links into each place, and how many rows
--- tell neither; where the lists of links end, no link leads into the places from there on
+-- the places for which a row has seconds, with the greatest of these, the links into each place, and how many rows
+-- have neither; where the lists of links end, no link leads into the places from there on
 pub record ChangeParts : Type 0 where
   pub told : List (ℕ × ℕ)
   pub links : List (List Way)
@@ -60,11 +60,11 @@ seconds_of c place = change_seconds (lookup (nat_eq place) c.told)
 abbrev pub links_of : ChangeParts → ℕ → List Way
 links_of c place = ways_at c.links place
 
--- each link comes from one of so many places
+-- each link comes from one of this number of places
 abbrev pub LinksComeFrom : ℕ → ChangeParts → Type 0
 LinksComeFrom places c = (place : ℕ) → All (λ way. way.from.0 < places) (links_of c place)
 
--- these are the change times and the links that a table tells; a place that the feed does not have has no link into it
+-- these are the change times and the links of a table; a place that the feed does not have has no link into it
 pub record AreToldChanges (feed : FeedParts) (c : ChangeParts) (t : Records) : Type 0 where
   pub seconds : (place : ℕ) → seconds_of c place ≡ change_time feed t place
   pub links : (place : ℕ) → place < length feed.stop_ids → links_of c place ≡ links_in feed t place
@@ -77,7 +77,7 @@ fault_of_transfers feed (Found t) = transfers_fault feed t
 fault_of_transfers feed Absent = None
 fault_of_transfers feed NoRecord = None
 
--- whatever the files tell, change times and links are those of some table with no fault
+-- whatever the files say, change times and links are those of some table with no fault
 pub record AreToldBySome (feed : FeedParts) (c : ChangeParts) : Type 0 where
   pub loaded : Loaded
   pub no_fault : fault_of_transfers feed loaded ≡ None

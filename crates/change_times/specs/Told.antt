@@ -1,4 +1,4 @@
--- What the first rows of a table tell, as it is noted.
+-- What the first rows of a table say, as it is noted.
 use Rattle.std.specs.Prelude.{◌≡◌, ℕ, ◌≤◌, nat_eq, length, IfSome}
 use Rattle.plan_model.specs.Bounds.{seconds_per_day}
 use Rattle.std.specs.HashMap.{get}
@@ -8,7 +8,7 @@ use Rattle.change_times.specs.declared.changes.Told.{Told}
 use Rattle.change_times.specs.Walks.{walks_of, most_to}
 use Rattle.change_times.specs.Changes.{greatest_change, greatest_link, passed_below}
 
--- it is what the first n rows tell, and no seconds are more than a day
+-- it is what the first n rows say, and no seconds are more than a day
 pub record AreTold (feed : FeedParts) (t : Records) (n : ℕ) (told : Told) : Type 0 where
   pub size : length told.walks.items ≡ length feed.stop_ids
   pub seconds : (place : ℕ) → get nat_eq told.seconds place ≡ greatest_change feed t n place

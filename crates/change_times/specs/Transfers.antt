@@ -1,4 +1,4 @@
--- The rows of `transfers.txt`: their transfers between places, and their faults. Row i stands in line i + 2.
+-- The rows of `transfers.txt`: their transfers between places, and their faults. Row i is line i + 2.
 use Rattle.std.specs.Prelude.{ℕ, ◌+◌, ◌==◌, ◌&&◌, Bool, List, length, slice_index, Option, None, Result, Ok, option_map, if◌then◌else◌, [], ◌∷◌}
 use Rattle.std.specs.Option.{option_or}
 use Rattle.std.specs.Result.{result_err}
@@ -51,7 +51,7 @@ transfer_from kind line general timed =
     require (is_timed_in kind) (BadField Transfers line TransferType) (λ is_timed.
     if is_timed && general then timed else Ok None)
 
--- where the columns stand
+-- the indexes of the columns
 abbrev pub transfer_columns : List (List (List ℕ)) → TransferColumns
 transfer_columns t = record {
   from = place_of FromStopId t;

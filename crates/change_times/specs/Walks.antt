@@ -1,4 +1,4 @@
--- What transfers tell for changes and for links.
+-- What transfers say for changes and for links.
 use Rattle.std.specs.Prelude.{ℕ, ◌==◌, ◌&&◌, List, [], ◌∷◌, slice_index_or, Option, None, Some, if◌then◌else◌}
 use Rattle.change_times.specs.declared.links.Walk.{Walk}
 use Rattle.change_times.specs.declared.transfers.Transfer.{Transfer}

@@ -37,7 +37,7 @@ pub struct Changes {
 }
 
 impl Drop for Changes {
-    /// Lets go of its parts here, so that a caller lets go of one value.
+    /// Drops its parts here, so that a caller drops one value.
     fn drop(self) {
         let Changes {
             seconds: _seconds,
@@ -59,7 +59,7 @@ impl Model for Changes {
     ghost invariant = { AreSound };
 }
 
-/// What rows tell: the change times of places, the walks from each place, and how many tell neither.
+/// What rows say: the change times of places, the walks from each place, and how many rows say neither.
 #[derive(Drop)]
 pub(crate) struct Told {
     seconds: HashMap<u32, u32, HashKey>,
@@ -67,7 +67,7 @@ pub(crate) struct Told {
     passed: u64,
 }
 
-/// Notes a transfer that stays at its place: its seconds, where the place has no greater ones.
+/// Notes a transfer that stays at its place: its seconds, unless the place has greater ones.
 fn note_change(seconds: &mut HashMap<u32, u32, HashKey>, transfer: Transfer) -> Result<(), NoMemory>
     requires { transfer.from ≡ transfer.to }
     ensures { OnOk result ((place : ℕ) → get nat_eq seconds.new place
@@ -81,7 +81,7 @@ fn note_change(seconds: &mut HashMap<u32, u32, HashKey>, transfer: Transfer) -> 
     Ok(())
 }
 
-/// What no rows tell, over so many places, which will be hashed by a key.
+/// What no rows say of this number of places, which will be hashed by a key.
 fn nothing_told(alloc: Global, places: u32, key: HashKey) -> Result<Told, NoMemory>
     ensures { IfOk result (λ told. (feed : FeedParts) → (t : Records) → length feed.stop_ids ≡ places
         → AreTold feed t 0 told) }
@@ -116,7 +116,7 @@ fn note(told: &mut Told, transfer: Option<Transfer>) -> Result<(), NoMemory>
     add_walk(&mut told.walks, transfer)
 }
 
-/// What the rows tell, or the first of their faults.
+/// What the rows say, or the first of their faults.
 fn tell(nothing: Told, feed: &FeedStops<'_>, rows: &Rows) -> Result<Told, FeedFault>
     requires { AreTold feed.now rows.now 0 nothing }
     ensures told { IfOk result (AreTold feed.now rows.now (row_count rows.now)) }
@@ -132,7 +132,7 @@ fn tell(nothing: Told, feed: &FeedStops<'_>, rows: &Rows) -> Result<Told, FeedFa
     Ok(told)
 }
 
-/// What the rows tell of a feed, whose stops are found by their ids, or the first of their faults.
+/// What the rows say of a feed, whose stops are found by their ids, or the first of their faults.
 fn told_of(alloc: Global, nothing: Told, feed: &Feed, rows: &Rows) -> Result<Told, FeedFault>
     requires { AreTold feed.now rows.now 0 nothing }
     ensures told { IfOk result (AreTold feed.now rows.now (row_count rows.now)) }
@@ -143,7 +143,7 @@ fn told_of(alloc: Global, nothing: Told, feed: &Feed, rows: &Rows) -> Result<Tol
     tell(nothing, &stops, rows)
 }
 
-/// The change times and the links that the rows tell, or the first of their faults.
+/// The change times and the links of the rows, or the first of their faults.
 fn read_rows(alloc: Global, feed: &Feed, rows: &Rows) -> Result<Changes, FeedFault>
     ensures changes { IfOk result (λ c. AreToldChanges feed.now c rows.now) }
     ensures links { IfOk result (λ c. LinksComeFrom (length feed.now.stop_ids) c) }
@@ -160,7 +160,7 @@ fn read_rows(alloc: Global, feed: &Feed, rows: &Rows) -> Result<Changes, FeedFau
     })
 }
 
-/// What a table tells, or the first of its faults.
+/// The change times and the links of a table, or the first of its faults.
 fn read_transfers(alloc: Global, feed: &Feed, rows: &Rows) -> Result<Changes, FeedFault>
     ensures changes { IfOk result (λ c. AreToldChanges feed.now c rows.now) }
     ensures links { IfOk result (λ c. LinksComeFrom (length feed.now.stop_ids) c) }
@@ -174,7 +174,7 @@ fn read_transfers(alloc: Global, feed: &Feed, rows: &Rows) -> Result<Changes, Fe
     read_rows(alloc, feed, rows)
 }
 
-/// What a table with no rows tells: nothing, whatever the feed is.
+/// No change times and no links, as of a table with no rows, whatever the feed is.
 fn no_changes(alloc: Global) -> Changes
     ensures changes { (feed : FeedParts) → AreToldChanges feed result [] }
     ensures links { (places : ℕ) → LinksComeFrom places result }
@@ -186,7 +186,7 @@ fn no_changes(alloc: Global) -> Changes
     }
 }
 
-/// What the table that is loaded tells, or the first of its faults.
+/// The change times and the links of the table that is loaded, or the first of its faults.
 fn changes_of(alloc: Global, feed: &Feed, loaded: &Loaded) -> Result<Changes, FeedFault>
     ensures changes { IfOk result (λ c. AreToldChanges feed.now c (loaded_rows loaded.now)) }
     ensures links { IfOk result (λ c. LinksComeFrom (length feed.now.stop_ids) c) }
@@ -201,8 +201,8 @@ fn changes_of(alloc: Global, feed: &Feed, loaded: &Loaded) -> Result<Changes, Fe
 
 impl Changes {
     /// Reads `transfers.txt` of the feed in this folder, or answers the first of its faults. The table may be absent. The
-    /// faults are `Read`, which comes only where opening or reading the file failed, `TooLong`, `TooManyRows` and
-    /// `MissingColumn`; then `BadField`, and `UnknownKey` where the feed lacks the stop, by line, and in a line by
+    /// faults are `Read`, which comes only if opening or reading the file failed, `TooLong`, `TooManyRows` and
+    /// `MissingColumn`; then `BadField`, and `UnknownKey` of a stop that the feed does not have, by line, and in a line by
     /// `transfer_type`, `from_stop_id`, `to_stop_id` and `min_transfer_time`. The last three are looked at only in a row of
     /// type 2 that names no route and no trip.
     pub fn read<F: Files>(
@@ -226,7 +226,7 @@ impl Changes {
     }
 
     /// The seconds that a change at a place takes: the greatest `min_transfer_time` of the rows of type 2 that name no route
-    /// and no trip and whose two stops have this place, 1 at least, and 120 where there is no such row.
+    /// and no trip and whose two stops have this place, 1 at least, and 120 if there is no such row.
     pub fn seconds(&self, place: PlaceId) -> u32
         ensures value { result ≡ seconds_of self.now place.0 }
         ensures least { 1 ≤ result }
@@ -251,7 +251,7 @@ impl Changes {
         }
     }
 
-    /// How many rows of the table tell neither a change time nor a link.
+    /// How many rows of the table have neither a change time nor a link.
     pub fn passed(&self) -> u64
         ensures { result ≡ self.now.passed }
     {

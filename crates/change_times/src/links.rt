@@ -10,7 +10,7 @@ use plan_model::{List, NoMemory, PlaceId, Way};
 use std::alloc::Global;
 use std::marker::Model;
 
-/// A walk to another place, and the seconds that a row tells for it.
+/// A walk to another place, and its seconds in a row.
 #[derive(Clone, Copy)]
 pub(crate) struct Walk {
     pub(crate) to: u32,
@@ -49,7 +49,7 @@ impl Ways {
         self.items.as_slice()
     }
 
-    /// Puts a way at the end, or lengthens the last one where it comes from the same place. A way takes a second at least.
+    /// Puts a way at the end, or lengthens the last one if it comes from the same place. A way takes a second at least.
     fn put(&mut self, from: PlaceId, seconds: u32) -> Result<(), NoMemory>
         ensures { OnOk result ((base : Sequence WayParts) (o : Option ℕ) → ComeBefore base from.0
             → self.old ≡ base ++ link_from from.0 o
@@ -69,7 +69,7 @@ impl Ways {
     }
 }
 
-/// No walks from each of so many places.
+/// No walks from each of this number of places.
 pub(crate) fn no_walks(alloc: Global, places: u32) -> Result<Vec<List<Walk>>, NoMemory>
     ensures size { IfOk result (λ walks. length walks.items ≡ places) }
     ensures none { IfOk result (λ walks. (from : ℕ) → walks_of walks.items from ≡ []) }
@@ -95,7 +95,7 @@ pub(crate) fn add_walk(walks: &mut Vec<List<Walk>>, transfer: Transfer) -> Resul
     })
 }
 
-/// No ways into each of so many places.
+/// No ways into each of this number of places.
 fn no_links(alloc: Global, places: usize) -> Result<Vec<Ways>, NoMemory>
     ensures size { IfOk result (λ links. length links.items ≡ places) }
     ensures none { IfOk result (λ links. (to : ℕ) → ways_at links.items to ≡ []) }

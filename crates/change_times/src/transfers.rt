@@ -22,7 +22,7 @@ pub(crate) struct Transfer {
     pub(crate) seconds: u32,
 }
 
-/// Where the columns stand.
+/// The indexes of the columns.
 #[derive(Clone, Copy)]
 pub(crate) struct TransferColumns {
     from: Option<usize>,
@@ -35,7 +35,7 @@ pub(crate) struct TransferColumns {
     to_trip: Option<usize>,
 }
 
-/// Where the columns of the transfers stand.
+/// The indexes of the columns of the transfers.
 pub(crate) fn transfer_columns(rows: &Rows) -> TransferColumns
     ensures { result ≡ transfer_columns rows.now }
 {
@@ -73,7 +73,7 @@ fn read_place(
     }
 }
 
-/// The transfer from one place to another, where it has seconds.
+/// The transfer from one place to another, if it has seconds.
 fn transfer_between(from: PlaceId, to: PlaceId, seconds: Option<u32>) -> Option<Transfer>
     ensures { result ≡ transfer_between from.0 to.0 seconds }
 {

@@ -1,4 +1,4 @@
--- What the files of a made timetable stand for.
+-- The meaning of the files of a made timetable.
 use Rattle.std.specs.Prelude.{ℕ, List, ◌∷◌, Option, Some, codes, if◌then◌else◌}
 use Rattle.file_ports.specs.Ports.{FileMap, FilesState}
 use Rattle.file_ports.specs.Steady.{folder_of as others_on, hand_of as hand_on, left_of as left_on}
@@ -10,7 +10,7 @@ use Rattle.feed_maker.specs.declared.files.MadeFiles.{MadeFiles}
 abbrev pub folder_of : MadeFiles → FileMap
 folder_of f = (codes "feed/stop_times.txt", stop_times_text (lines_of f.times)) ∷ others_on f.others
 
--- the path of the file in hand
+-- the path of the open file
 abbrev pub hand_of : MadeFiles → Option (List ℕ)
 hand_of f = if f.in_times then Some (codes "feed/stop_times.txt") else hand_on f.others
 

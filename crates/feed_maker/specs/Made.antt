@@ -3,7 +3,7 @@ use Rattle.std.specs.Prelude.{◌≡◌, ℕ, List, [], ◌∷◌, codes}
 use Rattle.file_ports.specs.Ports.{FileMap, file_at}
 use Rattle.feed_maker.specs.MadeTables.{stops_text, routes_text, trips_text, stop_times_text, calendar_text, delays_text}
 
--- the files of so many lines by their paths
+-- the files of this number of lines by their paths
 unfoldable pub made : ℕ → FileMap
 made lines =
     (codes "feed/stops.txt", stops_text lines)

@@ -1,4 +1,4 @@
--- What the tables of the feed and the delay file hold, for so many lines.
+-- The tables of the feed and the delay file, by the number of lines.
 use Rattle.std.specs.Prelude.{ℕ, ◌+◌, ◌%◌, List, ◌++◌, codes, decimal, flat_map}
 use Rattle.std.specs.List.{range_with_len}
 use Rattle.feed_maker.specs.HubLines.{seconds_at}

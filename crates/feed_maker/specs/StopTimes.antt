@@ -1,10 +1,10 @@
--- What stop times that are made as they are read stand for.
+-- The meaning of stop times that are made as they are read.
 use Rattle.std.specs.Prelude.{ℕ, ◌-◌, List, ◌++◌, drop, flat_map}
 use Rattle.std.specs.List.{range_with_len}
 use Rattle.feed_maker.specs.MadeTables.{line_rows}
 use Rattle.feed_maker.specs.declared.stop_times.StopTimes.{StopTimes}
 
--- the rows of so many lines from one on
+-- the rows of this number of lines from one on
 abbrev pub rows_from : ℕ → ℕ → List ℕ
 rows_from line count = flat_map line_rows (range_with_len line count)
 

@@ -8,7 +8,7 @@ use file_ports::{Failed, Files, Presence, SteadyFiles};
 use plan_model::NoMemory;
 use std::alloc::Global;
 
-/// The files of a made timetable, of which no call fails. The text of the stop times, which is nearly all of them, stands nowhere
+/// The files of a made timetable, of which no call fails. The text of the stop times, which is nearly all of them, is nowhere
 /// as a whole: it is made line by line as it is read.
 #[derive(Drop)]
 pub struct MadeFiles {
@@ -22,7 +22,7 @@ impl MadeFiles {
     ghost use Rattle.feed_maker.specs.Files.{folder_of, hand_of};
     ghost use Rattle.feed_maker.specs.Made.{made, SameFolder};
 
-    /// The files that `make` gives, none of them in hand. `NoMemory` comes only for want of memory, and no read of
+    /// The files that `make` gives, none of them open. `NoMemory` comes only if there is no memory, and no read of
     /// the files takes any.
     pub fn new(alloc: Global, size: u32) -> Result<MadeFiles, NoMemory>
         requires low { 10 ≤ size }

@@ -1,4 +1,7 @@
 //! A timetable made by rule: lines between ten hubs, as the files of a feed and its delays.
+//!
+//! A call that takes an allocator may answer that there is no memory, as `NoMemory` or as the variant of that name; then
+//! what it was lent is as it was, unless its own comment says otherwise.
 #![tactic(auto)]
 
 ghost use Rattle.std.specs.Prelude.{◌≡◌, ◌≤◌, None, IfOk};
@@ -42,14 +45,14 @@ fn other_files(alloc: Global, lines: Lines) -> Result<SteadyFiles, NoMemory>
 }
 
 /// A feed of `size` lines in the folder `feed`, in the form of the GTFS Schedule reference, and the
-/// delays of its classes in `delays.csv`, which is no part of that reference. No file is in hand,
+/// delays of its classes in `delays.csv`, which is no part of that reference. No file is open,
 /// and a read gives at most 65,536 bytes.
 ///
 /// Line `a` goes from hub `a % 10` to hub `(a + 1 + a / 10 % 3) % 10`, over 19 stops of its own, in
 /// 20 hops of `60 + 5 * (a % 7)` seconds each. It has a run every 15 minutes, 96 a day, the first at
 /// `35 * a % 900` seconds after midnight, and its route is of type `a % 4`.
 ///
-/// `NoMemory` comes only for want of memory. `MadeFiles` are the same files in less of it.
+/// `NoMemory` comes only if there is no memory. `MadeFiles` are the same files in less of it.
 pub fn make(alloc: Global, size: u32) -> Result<SteadyFiles, NoMemory>
     requires low { 10 ≤ size }
     requires high { size ≤ 400 }

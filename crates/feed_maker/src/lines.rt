@@ -38,7 +38,7 @@ pub struct Place {
     pub ghost inside: { number ≤ 20 },
 }
 
-/// The stop at a place of a line.
+/// The stop at a position of a line.
 #[tactic(auto, unfolding(crate::specs::Names::name_at))]
 pub fn stop_at(line: Line, place: Place) -> Stop
     ensures { stop_name result ≡ name_at line.number place.number }
@@ -71,7 +71,7 @@ fn ride_to(line: u32, place: Place) -> u32
     place.number * hop_of(line)
 }
 
-/// The seconds of the service day at which a run is at a place of its line.
+/// The seconds of the service day at which a run is at a position of its line.
 #[tactic(auto, unfolding(crate::specs::HubLines::seconds_at))]
 pub fn seconds_at(trip: Trip, place: Place) -> u32
     ensures value { result ≡ seconds_at trip.line.number trip.run place.number }

@@ -57,7 +57,7 @@ fn run_piece(trip: Trip) -> ArrayString<PIECE_ROOM>
     piece
 }
 
-/// The end of the rows at a place of a line.
+/// The end of the rows at a position of a line.
 fn place_piece(line: Line, place: Place) -> ArrayString<PIECE_ROOM>
     ensures { result.bytes ≡ place_piece line.number place.number }
 {
@@ -80,7 +80,7 @@ fn place_pieces(line: Line) -> ArrayVec<ArrayString<PIECE_ROOM>, 21>
     ends
 }
 
-/// Adds the row of a run at a place of its line, by the front and the end that it has.
+/// Adds the row of a run at a position of its line, by the front and the end that it has.
 #[tactic(auto, unfolding(crate::specs::MadeTables::stop_time_row))]
 fn add_stop_time(
     text: &mut Vec<u8>,
@@ -136,7 +136,7 @@ fn add_line(text: &mut Vec<u8>, line: Line)
     }
 }
 
-/// The times of so many lines' runs at their places.
+/// The times of the runs of `lines` lines at their positions.
 #[tactic(auto, using(crate::proofs::JoinedLemmas::joined_steps), unfolding(crate::specs::MadeTables::stop_times_text))]
 pub(crate) fn stop_times(alloc: Global, lines: Lines) -> Result<Vec<u8>, NoMemory>
     ensures { IfOk result (λ text. text.items ≡ stop_times_text lines.count) }
@@ -149,7 +149,7 @@ pub(crate) fn stop_times(alloc: Global, lines: Lines) -> Result<Vec<u8>, NoMemor
     Ok(text)
 }
 
-/// The stop times of so many lines: the text that was made last, how much of it was read, and the line whose rows are
+/// The stop times of a number of lines: the text that was made last, how much of it was read, and the line whose rows are
 /// made next. No call on them takes memory.
 #[derive(Drop)]
 pub(crate) struct StopTimes {
@@ -167,7 +167,7 @@ impl StopTimes {
     ghost use Rattle.feed_maker.specs.StopTimes.{left_of, lines_of};
     ghost use Rattle.feed_maker.specs.MadeTables.{stop_times_text};
 
-    /// The stop times of so many lines, none of them read.
+    /// The stop times of `lines` lines, none of them read.
     pub(crate) fn new(alloc: Global, lines: Lines) -> Result<StopTimes, NoMemory>
         ensures lines { IfOk result (λ times. lines_of times ≡ lines.count) }
     {
@@ -192,7 +192,7 @@ impl StopTimes {
         self.text.extend_from_slice(HEADER.as_bytes()).unwrap();
     }
 
-    /// Makes the rows of the next line, where all that was made is read.
+    /// Makes the rows of the next line, if all that was made is read.
     fn fill(&mut self)
         ensures lines { lines_of self.new ≡ lines_of self.old }
         ensures left { left_of self.new ≡ left_of self.old }
@@ -207,7 +207,7 @@ impl StopTimes {
         self.next += 1;
     }
 
-    /// Moves some bytes of what is left to the front of the buffer, none only at its end.
+    /// Moves some bytes of the rest to the front of the buffer, none only at its end.
     pub(crate) fn read(&mut self, buffer: &mut [u8]) -> usize
         requires { 0 < length buffer.old }
         ensures lines { lines_of self.new ≡ lines_of self.old }

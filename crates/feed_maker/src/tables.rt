@@ -30,7 +30,7 @@ fn write_own_stops(text: &mut String, line: u32) -> Result<(), AllocError>
     Ok(())
 }
 
-/// The stops of so many lines.
+/// The stops of `lines` lines.
 #[tactic(auto, using(crate::proofs::JoinedLemmas::joined_steps), unfolding(crate::specs::MadeTables::stops_text))]
 pub fn stops(alloc: Global, lines: u32) -> Result<String, AllocError>
     ensures { IfOk result (λ text. string_bytes text ≡ stops_text lines) }
@@ -43,7 +43,7 @@ pub fn stops(alloc: Global, lines: u32) -> Result<String, AllocError>
     Ok(text)
 }
 
-/// The routes of so many lines.
+/// The routes of `lines` lines.
 #[tactic(auto, using(crate::proofs::JoinedLemmas::joined_steps), unfolding(crate::specs::MadeTables::routes_text))]
 pub fn routes(alloc: Global, lines: u32) -> Result<String, AllocError>
     ensures { IfOk result (λ text. string_bytes text ≡ routes_text lines) }
@@ -70,7 +70,7 @@ fn write_trips(text: &mut String, line: Line) -> Result<(), AllocError>
     Ok(())
 }
 
-/// The trips of so many lines.
+/// The trips of `lines` lines.
 #[tactic(auto, using(crate::proofs::JoinedLemmas::joined_steps), unfolding(crate::specs::MadeTables::trips_text))]
 pub fn trips(alloc: Global, lines: Lines) -> Result<String, AllocError>
     ensures { IfOk result (λ text. string_bytes text ≡ trips_text lines.count) }

@@ -222,7 +222,7 @@ pub fault_after : {F : Type 0} (o : Option F) (L P : F → Type 0) (N : Type 0) 
 fault_after None L P N a h = tt
 fault_after (Some m) L P N a h = λ n. h n a
 
--- whatever the files tell
+-- whatever the files say
 pub sound_feed : (l : FeedLists) (t : TripTimes) → AreSoundLists l → AreSoundTimes l t → IsSoundFeed (parts_by l t)
 sound_feed l t a v =
     let s = a.stops.table in

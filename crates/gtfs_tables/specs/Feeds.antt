@@ -82,7 +82,7 @@ abbrev pub IsFeedOf : Result Tables FeedFault → FeedParts → Type 0
 IsFeedOf (Ok t) f = IsFeed t f
 IsFeedOf (Err fault) f = ⊥
 
--- whatever the files tell, a feed is that of some tables with no fault
+-- whatever the files say, a feed is that of some tables with no fault
 pub record IsSoundFeed (f : FeedParts) : Type 0 where
   pub tables : Tables
   pub stops : stops_fault tables.stops ≡ None

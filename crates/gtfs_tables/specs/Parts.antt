@@ -51,7 +51,7 @@ pub record AreTripTimes (load : Table → Result Loaded FeedFault) (l : FeedList
   pub visits : HasVisits (stop_times_from (load StopTimes) l.trips.ids l.stops.ids l.stops.places.items) l t
   pub repeats : HasRepeats (frequencies_from (load Frequencies) l.trips.ids) l t
 
--- whatever the files tell: the lists are those of tables with no fault
+-- whatever the files say: the lists are those of tables with no fault
 pub record AreSoundLists (l : FeedLists) : Type 0 where
   pub stops : AreSoundStops l.stops
   pub routes : AreSoundRoutes l.routes

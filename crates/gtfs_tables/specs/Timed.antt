@@ -13,7 +13,7 @@ rows_of f trip = slice_index_or f.stop_times trip []
 abbrev pub kept_at : List StopRow → ℕ → StopRow
 kept_at rows k = slice_index_or rows k no_visit
 
--- they stand at one of so many places, and no time goes back
+-- they are at one of this number of places, and no time goes back
 pub record AreTimed (rows : List StopRow) (places : ℕ) : Type 0 where
   pub few : length rows ≤ end_of_steps
   pub place : (k : ℕ) → k < length rows → (kept_at rows k).place.0 < places

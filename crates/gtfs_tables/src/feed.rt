@@ -20,7 +20,7 @@ pub struct Feed {
 }
 
 impl Drop for Feed {
-    /// Lets go of its parts here, so that a caller lets go of one value.
+    /// Drops its parts here, so that a caller drops one value.
     fn drop(self) {
         let Feed {
             lists: _lists,
@@ -60,7 +60,7 @@ impl Feed {
         folder: &str,
         limits: &Limits,
     ) -> Result<Feed, FeedFault>
-        // Where the files are told: the feed of their tables, or the first of all faults.
+        // If the files are known: the feed of their tables, or the first of all faults.
         ensures feed { IfSome (F.state files.old).files (λ m. IfOk result (λ feed.
             IsFeedOf (tables_in m folder.now limits.now None) feed)) }
         ensures fault { IfSome (F.state files.old).files (λ m. IfErr result (λ f. f ≢ FeedFault.NoMemory
@@ -112,14 +112,15 @@ impl Feed {
         PlaceId(self.lists.stops.places[stop as usize])
     }
 
-    /// The stop with this id. Each id is looked at in turn.
+    /// The stop with this id; `None` if no row of `stops.txt` has it. Each id is looked at in turn.
     pub fn stop_of(&self, id: &str) -> Option<u32>
         ensures { result ≡ place_in id.now self.now.stop_ids }
     {
         self.lists.stops.ids.number(id)
     }
 
-    /// The place of the stop with this id: its parent station, or else itself. Each id is looked at in turn.
+    /// The place of the stop with this id: its parent station, or else itself; `None` if no row of `stops.txt` has the id.
+    /// Each id is looked at in turn.
     pub fn place_of(&self, id: &str) -> Option<PlaceId>
         ensures place { option_map (λ p. p.0) result
             ≡ option_map (λ stop. slice_index self.now.places stop) (place_in id.now self.now.stop_ids) }

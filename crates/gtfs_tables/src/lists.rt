@@ -18,7 +18,7 @@ pub(crate) struct FeedLists {
 }
 
 impl Drop for FeedLists {
-    /// Lets go of its parts here, so that a caller lets go of one value.
+    /// Drops its parts here, so that a caller drops one value.
     fn drop(self) {
         let FeedLists {
             stops: _stops,

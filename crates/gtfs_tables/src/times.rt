@@ -20,7 +20,7 @@ pub(crate) struct TripTimes {
 }
 
 impl Drop for TripTimes {
-    /// Lets go of its parts here, so that a caller lets go of one value.
+    /// Drops its parts here, so that a caller drops one value.
     fn drop(self) {
         let TripTimes {
             visits: _visits,

@@ -1,4 +1,4 @@
--- What files in memory that fail where they were told to stand for.
+-- The meaning of files in memory that fail at chosen calls.
 use Rattle.std.specs.Prelude.{◌≡◌, ℕ, List, Bool, ◌||◌, ◌&&◌, Option, Some, bytes_eq, nat_eq}
 use Rattle.file_ports.specs.Ports.{FileMap, FilesState}
 use Rattle.memory_ports.specs.Failing.{faults_in, fails_in}
@@ -9,7 +9,7 @@ use Rattle.memory_ports.specs.declared.memory.MemoryFiles.{MemoryFiles}
 abbrev pub folder_of : MemoryFiles → FileMap
 folder_of f = steady_folder f.steady
 
--- the path of the file in hand
+-- the path of the open file
 abbrev pub hand_of : MemoryFiles → Option (List ℕ)
 hand_of f = steady_hand f.steady
 
@@ -33,7 +33,7 @@ faults_at f path = faults_in f.failing.items path
 abbrev pub total_faults : MemoryFiles → ℕ
 total_faults f = f.faults
 
--- all of what they stand for
+-- all of their meaning
 abbrev pub state_of : MemoryFiles → FilesState
 state_of f = record { files = Some (folder_of f); in_hand = hand_of f; left = left_of f; faults = total_faults f; faults_of = faults_at f }
 
@@ -49,7 +49,7 @@ FailsAlike old new = (path : List ℕ) (call : ℕ) → fails_at new path call �
 abbrev pub FailsToo : MemoryFiles → MemoryFiles → List ℕ → ℕ → Type 0
 FailsToo old new path call = (p : List ℕ) (k : ℕ) → fails_at new p k ≡ (fails_at old p k || (bytes_eq path p && nat_eq call k))
 
--- the same files, and the same one in hand, as far read
+-- the same files, and the same one open, as far read
 pub record SameFiles (old new : MemoryFiles) : Type 0 where
   pub steady : SameSteadily old.steady new.steady
   pub reads : reads_of new ≡ reads_of old

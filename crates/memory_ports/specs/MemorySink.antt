@@ -1,4 +1,4 @@
--- What a sink in memory stands for.
+-- The meaning of a sink in memory.
 use Rattle.std.specs.Prelude.{ℕ, List}
 use Rattle.memory_ports.specs.declared.memory_sink.MemorySink.{MemorySink}
 

@@ -1,4 +1,7 @@
-//! Files and sinks in memory, which fail at the calls that they are told.
+//! Files and sinks in memory, which fail at chosen calls.
+//!
+//! A call that takes an allocator may answer that there is no memory, as `NoMemory` or as the variant of that name; then
+//! what it was lent is as it was, unless its own comment says otherwise.
 #![tactic(auto)]
 
 mod memory;

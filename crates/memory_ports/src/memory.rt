@@ -1,4 +1,4 @@
-//! Files in memory, which fail where they were told to.
+//! Files in memory, which fail at chosen calls.
 ghost use Rattle.std.specs.Prelude.{◌≡◌, ◌≢◌, ◌<◌, ◌≤◌, ◌+◌, ◌-◌, ◌^◌, min, nat_eq, position, bytes_eq, string_bytes, ℕ, List, true, false, length, Some, OnOk, OnErr, IfOk};
 ghost use Rattle.std.specs.List.{list_any};
 ghost use Rattle.memory_ports.specs.Failing.{faults_in, fails_in, SameFailing as SameFailures};
@@ -44,7 +44,7 @@ fn count_fault(failing: &mut Vec<Named<Failing>>, path: &str, call: u64) -> bool
     true
 }
 
-/// The place of this path's counter, which is made where there is none.
+/// The index of this path's counter, which is made if there is none.
 fn counter(alloc: Global, failing: &mut Vec<Named<Failing>>, path: &str) -> Result<usize, NoMemory>
     ensures place { IfOk result (λ i. position
         (λ e. bytes_eq (string_bytes e.path) path.now) failing.new.items
@@ -75,7 +75,7 @@ fn forget_calls(failing: &mut [Named<Failing>])
     }
 }
 
-/// Files in memory. Calls on them fail where `fail` says so, and only there.
+/// Files in memory. Calls on them fail if `fail` has chosen them, and only then.
 #[derive(Drop)]
 pub struct MemoryFiles {
     alloc: Global,
@@ -110,7 +110,7 @@ impl MemoryFiles {
         }
     }
 
-    /// The path now holds these bytes, and no file is in hand. Without memory nothing changes.
+    /// The path now holds these bytes, and no file is open. Without memory nothing changes.
     pub fn add(&mut self, path: &str, bytes: &[u8]) -> Result<(), NoMemory>
         ensures ok { OnOk result (PutsFile (folder_of self.old) (folder_of self.new) path.now bytes.now) }
         ensures hand { OnOk result (hand_of self.new ≡ None) }
@@ -123,7 +123,7 @@ impl MemoryFiles {
     }
 
     /// From now on this call on this path fails: call 0 opens it, and call k is the k-th read since it was opened,
-    /// where reads that failed are counted too. Without memory nothing changes.
+    /// with those that failed. Without memory nothing changes.
     pub fn fail(&mut self, path: &str, call: u32) -> Result<(), NoMemory>
         ensures ok { OnOk result (FailsToo self.old self.new path.now call) }
         ensures err { OnErr result (FailsAlike self.old self.new) }
@@ -137,7 +137,7 @@ impl MemoryFiles {
         Ok(())
     }
 
-    /// Forgets all calls that are to fail, and leaves the files, the file in hand and all counts as they are: from
+    /// Forgets all calls that are to fail, and leaves the files, the open file and all counts as they are: from
     /// now on no call fails until `fail` names one again.
     pub fn heal(&mut self)
         ensures calls { (path : List ℕ) (call : ℕ) → fails_at self.new path call ≡ false }

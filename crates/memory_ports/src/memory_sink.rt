@@ -1,4 +1,4 @@
-//! A sink in memory, which fails where it was told to.
+//! A sink in memory, which fails at chosen writes.
 ghost use Rattle.std.specs.Prelude.{◌≡◌, ◌<◌, ◌≤◌, nat_eq, vec_len, vec_capacity};
 ghost use Rattle.std.specs.List.{list_any};
 
@@ -24,8 +24,8 @@ impl MemorySink {
     ghost use Rattle.std.specs.Prelude.{◌≡◌, ◌<◌, [], IfOk};
     ghost use Rattle.memory_ports.specs.MemorySink.{held_of, piece_of, room_of, writes_of, failing_of, total_faults};
 
-    /// Nothing yet, and room for so many bytes. A write takes at most `piece` bytes, and at most what is left of
-    /// the room. The writes with these numbers, counted from 1, fail, and so do those that find no room left.
+    /// Nothing yet, and room for `room` bytes. A write takes at most `piece` bytes, and at most what remains of
+    /// the room. The writes with these numbers, counted from 1, fail, and so do those that find no room.
     pub fn new(
         alloc: Global,
         piece: usize,

@@ -8,7 +8,7 @@ use plan_model::{HashKey, NoMemory, TextList};
 use std::alloc::Global;
 use std::marker::Model;
 
-/// Distinct texts that stand elsewhere, each with its place in the order in which they were added as its number.
+/// Distinct texts that are borrowed, each with its index in the order in which they were added as its number.
 #[derive(Drop)]
 pub struct TextIndex<'a> {
     numbers: IndexSet<&'a str, HashKey>,
@@ -55,7 +55,7 @@ impl<'a> TextIndex<'a> {
         self.numbers.len() as u32
     }
 
-    /// The number of a text, which is added at the end where it is new.
+    /// The number of a text, which is added at the end if it is new. Without memory nothing changes.
     pub fn add(&mut self, text: &'a str) -> Result<u32, NoMemory>
         requires { length self.old < 2 ^ 32 - 1 }
         ensures added { OnOk result ((b : Bool) × Adds self.old self.new text.now b) }
@@ -67,7 +67,7 @@ impl<'a> TextIndex<'a> {
         Ok(number as u32)
     }
 
-    /// The number of a text, if it is there.
+    /// The number of a text; `None` if it is not in the list.
     pub fn number(&self, text: &str) -> Option<u32>
         ensures place { result ≡ place_in text.now self.now }
         ensures inside { IfSome result (λ number. number < length self.now) }

@@ -8,7 +8,7 @@ use plan_model::{Names, NoMemory, PlaceId, RunId};
 use std::alloc::Global;
 use std::marker::Model;
 
-/// The number of a name; none where it is not among the texts.
+/// The number of a name; `None` if it is not among the texts.
 fn number_of(texts: &TextIndex<'_>, name: &[u8]) -> Option<u32>
     ensures number { result ≡ number_of texts.now name.now }
     ensures there { IfSome result (λ number. number < length texts.now) }
@@ -20,14 +20,14 @@ fn number_of(texts: &TextIndex<'_>, name: &[u8]) -> Option<u32>
     }
 }
 
-/// The names of places and of runs, which stand elsewhere, each with its number there.
+/// The names of places and of runs, which are borrowed, each with its number.
 pub struct NameIndex<'a> {
     places: TextIndex<'a>,
     runs: TextIndex<'a>,
 }
 
 impl<'a> Drop for NameIndex<'a> {
-    /// Lets go of its parts here, so that a caller lets go of one value.
+    /// Drops its parts here, so that a caller drops one value.
     fn drop(self) {
         let NameIndex {
             places: _places,
@@ -54,7 +54,7 @@ impl<'a> NameIndex<'a> {
         Ok(NameIndex { places, runs })
     }
 
-    /// The place of a name; none where it is not among the names.
+    /// The place of a name; `None` if it is not among the names.
     pub fn place(&self, name: &[u8]) -> Option<PlaceId>
         ensures number { option_map (λ id. id.0) result ≡ number_of self.now.places name.now }
         ensures there { IfSome result (λ id. id.0 < length self.now.places) }
@@ -63,7 +63,7 @@ impl<'a> NameIndex<'a> {
         Some(PlaceId(number))
     }
 
-    /// The run of a name; none where it is not among the names.
+    /// The run of a name; `None` if it is not among the names.
     pub fn run(&self, name: &[u8]) -> Option<RunId>
         ensures { option_map (λ id. id.0) result ≡ number_of self.now.runs name.now }
     {
