@@ -13,7 +13,7 @@ use Rattle.plan_graph.specs.Follows.{IsSteady, Follows}
 use Rattle.value_laws.specs.Means.{mean_scoring, from_span}
 use Rattle.value_laws.specs.ScoreLaws.{Scoring}
 use Rattle.meat_scan.specs.Rules.{IsByRules}
-use Rattle.leg_extract.specs.Extracted.{HasArrivals, IsWhole}
+use Rattle.leg_extract.specs.Extracted.{HasArrivals, HasEachRide}
 use Rattle.decision_graph.specs.GraphValues.{IsBestBy, IsBest}
 
 -- no strategy is safe for the query
@@ -27,7 +27,7 @@ pub record IsExpandedBy {V : Type 0} (scoring : Scoring V) (network : NetworkMod
   pub by_rules : query.source.0 ≢ query.target.0 → IsByRules scoring network query (unfold_expanded graph network query) value
   pub ready : IsReady network query graph
   pub busy : IsBusy network query graph
-  pub whole : IsWhole network query graph
+  pub whole : HasEachRide network query graph
   pub arrivals : All (HasArrivals network query.target.0) graph.rides
 
 -- the graph follows a choice by place and arrival that is kept up to each leg's limit
@@ -43,5 +43,5 @@ pub record IsExpanded (network : NetworkModel) (query : Query) (graph : Expanded
       → IsByRules mean_scoring network query (unfold_expanded graph network query) (from_span bounds)
   pub ready : IsReady network query graph
   pub busy : IsBusy network query graph
-  pub whole : IsWhole network query graph
+  pub whole : HasEachRide network query graph
   pub arrivals : All (HasArrivals network query.target.0) graph.rides

@@ -17,10 +17,10 @@ use Rattle.plan_graph.specs.declared.GraphRow.{GraphRow}
 use Rattle.plan_graph.specs.declared.Ride.{Ride}
 use Rattle.plan_graph.specs.declared.PlaceTable.{PlaceTable}
 use Rattle.plan_graph.specs.Ready.{IsFirstInTime}
-use Rattle.leg_walk.specs.WalkTables.{leg_cmp, row_by}
+use Rattle.plan_graph.specs.WalkTables.{leg_cmp, row_by}
 use Rattle.plan_model.proofs.Lists.{Contains-nil, Contains-head, Contains-tail, Contains-cons_cases, All-from_contains, AllPairs-head, AllPairs-tail}
-use Rattle.leg_walk.proofs.Sets.{Contains-insert_key, Contains-inserted_key, IsStrictlySortedBy-insert_key}
-use Rattle.leg_walk.proofs.Orders.{leg_cmp-total, leg_cmp-exact}
+use Rattle.plan_graph.proofs.Sets.{Contains-insert_key, Contains-inserted_key, IsStrictlySortedBy-insert_key}
+use Rattle.plan_graph.proofs.Orders.{leg_cmp-total, leg_cmp-exact}
 use Rattle.graph_compact.specs.RowsByPlace.{row_cmp, put_rows, with_ride, gathered_rows, lists_of, rows_in, with_table}
 
 pub with_rows : (place : ℕ) (rows : List GraphRow) (more : List PlaceTable) → 0 < length rows → with_table place rows more ≡ record { place = record { 0 = place }; rows = rows } ∷ more

@@ -27,15 +27,15 @@ use Rattle.plan_graph.specs.Ready.{IsReadyRide, IsReadyRow, IsPruned, IsByLimits
 use Rattle.plan_graph.specs.Coherent.{IsCoherent, IsRowAt}
 use Rattle.plan_graph.specs.Tidy.{IsFit, IsFitRow, IsFitTable, IsFitStart, IsTidy, IsPickedIn}
 use Rattle.plan_graph.proofs.Searches.{precedes_itself}
-use Rattle.leg_walk.specs.Placed.{StandsSafely}
-use Rattle.leg_walk.specs.WalkTables.{row_by, leg_cmp}
+use Rattle.plan_graph.specs.Placed.{StandsSafely}
+use Rattle.plan_graph.specs.WalkTables.{row_by, leg_cmp}
 use Rattle.plan_model.proofs.Lists.{All-from_contains, AllPairs-nil}
-use Rattle.leg_walk.proofs.Orders.{nat_cmp-Less, ordering_then-Less, leg_cmp-Less}
-use Rattle.leg_walk.proofs.Together.{unfold_from-together}
-use Rattle.leg_walk.proofs.Places.{IsPlacedNext, next_after}
-use Rattle.leg_walk.proofs.Reaching.{start_placed}
-use Rattle.leg_walk.proofs.Tables.{first_pick, first_there, picked_first, one_found}
-use Rattle.leg_walk.proofs.Rides.{ride_there}
+use Rattle.plan_graph.proofs.Orders.{nat_cmp-Less, ordering_then-Less, leg_cmp-Less}
+use Rattle.plan_graph.proofs.Together.{unfold_from-together}
+use Rattle.plan_graph.proofs.Places.{IsPlacedNext, next_after}
+use Rattle.plan_graph.proofs.Reaching.{start_placed}
+use Rattle.plan_graph.proofs.Tables.{first_pick, first_there, picked_first, one_found}
+use Rattle.plan_graph.proofs.Rides.{ride_there}
 use Rattle.graph_compact.specs.RowsByPlace.{row_cmp, with_table, gathered_rows, tables_of}
 use Rattle.graph_compact.proofs.Lists.{IsOf, All-gathered_rows, Contains-gathered_rows, IsStrictlySortedBy-gathered_rows, some_first, first_least}
 

@@ -8,7 +8,7 @@ use Rattle.plan_model.specs.Unfold.{end_of}
 use Rattle.plan_graph.specs.declared.GraphRow.{GraphRow}
 use Rattle.plan_graph.specs.declared.Ride.{Ride}
 use Rattle.plan_graph.specs.declared.PlaceTable.{PlaceTable}
-use Rattle.leg_walk.specs.WalkTables.{leg_cmp}
+use Rattle.plan_graph.specs.WalkTables.{leg_cmp}
 
 -- by moment, and then by leg
 abbrev pub row_cmp : GraphRow → GraphRow → Ordering

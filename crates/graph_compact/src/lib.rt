@@ -1,4 +1,7 @@
 //! A graph by place from a graph by ride.
+//!
+//! A call that takes an allocator may answer that there is no memory, as `NoMemory` or as the variant
+//! of that name; then what it was lent is as it was, unless its own comment says otherwise.
 #![tactic(auto)]
 
 ghost use Rattle.std.specs.Prelude.{◌≡◌, ℕ, ◌<◌, length, IfOk, OnOk, All, [], ◌++◌, List as Sequence};
@@ -15,7 +18,7 @@ use plan_model::{List, Network, NoMemory, PlaceId, Query};
 use std::alloc::Global;
 use std::collections::BTreeSet;
 
-// Puts rows among those of a place, each once.
+// Adds rows to those of a place, each once.
 fn put_all(table: &mut BTreeSet<GraphRow>, rows: &[GraphRow]) -> Result<(), NoMemory>
     ensures { OnOk result (table.new.keys ≡ put_rows rows.now table.old.keys) }
 {
@@ -25,7 +28,7 @@ fn put_all(table: &mut BTreeSet<GraphRow>, rows: &[GraphRow]) -> Result<(), NoMe
     Ok(())
 }
 
-// As many tables as there are places.
+// An empty table for each place.
 fn no_tables(alloc: Global, network: &Network) -> Result<Vec<BTreeSet<GraphRow>>, NoMemory>
     ensures len { IfOk result (λ tables. length tables.items ≡ length network.now.change) }
     ensures empty { IfOk result (λ tables. (place : ℕ) → rows_in tables.items place ≡ []) }
@@ -100,7 +103,7 @@ fn full_tables(alloc: Global, tables: &[BTreeSet<GraphRow>]) -> Result<List<Plac
     Ok(full)
 }
 
-/// The same decisions by place: it gives the same tree, and each row is picked in it.
+/// The same decisions by place: it unfolds to the same tree, and each row is picked in it.
 pub fn compact(
     alloc: Global,
     graph: &ExpandedGraph,

@@ -14,7 +14,7 @@ use Rattle.plan_graph.specs.PickedRows.{pick_row}
 use Rattle.plan_graph.specs.Ready.{IsPruned, IsByLimits, IsPickedAfter}
 use Rattle.plan_graph.specs.Coherent.{IsCoherent, IsEarliest, IsRowAt}
 use Rattle.plan_graph.specs.Follows.{Follows, IsSteady}
-use Rattle.leg_walk.proofs.Tables.{first_pick, first_there, picked_there, one_found}
+use Rattle.plan_graph.proofs.Tables.{first_pick, first_there, picked_there, one_found}
 
 module _ (n : NetworkModel) (q : Query) (graph : ExpandedGraph) (at : ℕ → ℕ → Option Leg)
     (pruned : IsPruned n q graph) (steady : IsSteady n q.target.0 at) (follows : Follows n q.target.0 at graph) where

@@ -10,9 +10,9 @@ use Rattle.plan_model.specs.Ways.{limit_of}
 use Rattle.plan_graph.specs.declared.GraphRow.{GraphRow}
 use Rattle.plan_graph.specs.PickedRows.{pick_row}
 use Rattle.plan_graph.specs.Ready.{IsFirstInTime, MayPrecede, IsReadyRow, pick_in_time}
-use Rattle.leg_walk.specs.WalkTables.{row_by}
+use Rattle.plan_graph.specs.WalkTables.{row_by}
 use Rattle.plan_model.proofs.Lists.{Contains-nil, Contains-head, Contains-tail, Contains-cons_cases, AllPairs-nil, AllPairs-head, AllPairs-tail, AllPairs-with}
-use Rattle.leg_walk.proofs.Tables.{one_found, in_time_here, in_time_next}
+use Rattle.plan_graph.proofs.Tables.{one_found, in_time_here, in_time_next}
 use Rattle.graph_prune.specs.Limits.{is_last, by_limits}
 
 -- the row before, if any, is before the moment

@@ -18,15 +18,15 @@ use Rattle.plan_graph.specs.PickedRows.{pick_row, pick_after, Precedes}
 use Rattle.plan_graph.specs.Unfold.{unfold_expanded}
 use Rattle.plan_graph.specs.Ready.{IsReady, IsReadyRide, IsReadyRow, MayPrecede, IsBusy, IsPruned, IsByLimits, IsPickedAfter, IsFirstInTime, IsSafeForSome, Stands}
 use Rattle.plan_graph.specs.Follows.{Follows}
-use Rattle.leg_walk.specs.WalkTables.{row_by}
-use Rattle.leg_walk.specs.Walked.{IsWalked, HasRideOf}
+use Rattle.plan_graph.specs.WalkTables.{row_by}
+use Rattle.plan_graph.specs.Walked.{IsWalked, HasRideOf}
 use Rattle.plan_model.proofs.Lists.{Contains-map, All-from_contains, AllPairs-map}
-use Rattle.leg_walk.proofs.Tables.{first_pick, picked_there, one_found}
-use Rattle.leg_walk.proofs.Together.{IsSameNext, unfold_from-together}
-use Rattle.leg_walk.proofs.Graphs.{ready, busy, picks_taken}
+use Rattle.plan_graph.proofs.Tables.{first_pick, picked_there, one_found}
+use Rattle.plan_graph.proofs.Together.{IsSameNext, unfold_from-together}
+use Rattle.plan_graph.proofs.Graphs.{ready, busy, picks_taken}
 use Rattle.graph_prune.specs.Limits.{ride_by_limits}
 use Rattle.graph_prune.proofs.Limits.{first_by_limits, limit_member, limits_rise, in_time_by}
-use Rattle.leg_walk.proofs.Rides.{ride_there, rows_after-own}
+use Rattle.plan_graph.proofs.Rides.{ride_there, rows_after-own}
 use Rattle.graph_prune.proofs.Sources.{kept_after, start_can}
 
 module _ (n : NetworkModel) (valid : IsValid n) (q : Query) (source : ExpandedGraph) (source_ready : IsReady n q source) (start : Leg) (starts : source.start ≡ Some start) (rides : List Ride)

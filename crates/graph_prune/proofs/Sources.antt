@@ -11,8 +11,8 @@ use Rattle.plan_graph.specs.declared.Ride.{Ride}
 use Rattle.plan_graph.specs.declared.ExpandedGraph.{ExpandedGraph}
 use Rattle.plan_graph.specs.PickedRows.{pick_row, pick_after, HasRisingRides}
 use Rattle.plan_graph.specs.Ready.{IsReady, IsReadyRide, IsReadyRow, IsLegOf, pick_in_time}
-use Rattle.leg_walk.proofs.Rides.{ride_there}
-use Rattle.leg_walk.proofs.Graphs.{IsKeptAfter}
+use Rattle.plan_graph.proofs.Rides.{ride_there}
+use Rattle.plan_graph.proofs.Graphs.{IsKeptAfter}
 use Rattle.graph_prune.proofs.Limits.{in_time_kept}
 
 module _ (n : NetworkModel) (q : Query) (graph : ExpandedGraph) (ready : IsReady n q graph) where

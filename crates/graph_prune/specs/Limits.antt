@@ -6,7 +6,7 @@ use Rattle.plan_model.specs.Ways.{limit_of}
 use Rattle.plan_model.specs.Unfold.{end_of}
 use Rattle.plan_graph.specs.declared.GraphRow.{GraphRow}
 use Rattle.plan_graph.specs.declared.Ride.{Ride}
-use Rattle.leg_walk.specs.WalkTables.{row_by}
+use Rattle.plan_graph.specs.WalkTables.{row_by}
 
 -- the moment is that of the row before
 abbrev pub is_last : Option ℕ → ℕ → Bool

@@ -1,4 +1,7 @@
-//! A graph by ride without idle rows and rides, whose rows stand at their legs' limits.
+//! A graph by ride without idle rows and rides, each row at the limit of its leg.
+//!
+//! A call that takes an allocator may answer that there is no memory, as `NoMemory` or as the variant
+//! of that name; then what it was lent is as it was, unless its own comment says otherwise.
 #![tactic(auto)]
 
 ghost use Rattle.std.specs.Prelude.{◌≡◌, ℕ, ◌<◌, ◌++◌, length, map, All, IfOk, Option, List as Sequence};
@@ -14,8 +17,7 @@ ghost use Rattle.plan_graph.specs.Coherent.{IsCoherent};
 ghost use Rattle.plan_graph.specs.Follows.{Follows, IsSteady};
 ghost use Rattle.graph_prune.specs.Limits.{is_last, with_limit, by_limits, ride_by_limits};
 
-use leg_walk::{GraphChoice, walk};
-use plan_graph::{ExpandedGraph, GraphRow, Ride};
+use plan_graph::{ExpandedGraph, GraphChoice, GraphRow, Ride, walk};
 use plan_model::{Leg, List, Moment, Network, NoMemory, PlaceId, Query};
 use std::alloc::Global;
 
@@ -93,7 +95,7 @@ fn rides_by_limits(
     Ok(all)
 }
 
-/// The same decisions without idle rows and rides, each row by its leg's limit. It gives the same
+/// The same decisions without idle rows and rides, each row by its leg's limit. It unfolds to the same
 /// tree, and follows each choice at the places that the graph follows.
 pub fn prune(
     alloc: Global,
@@ -126,7 +128,7 @@ pub fn prune(
     }
 }
 
-/// A pruned graph that follows a steady choice at each place is coherent.
+/// A law, with no code: a pruned graph that follows a steady choice at each place is coherent.
 pub fn steady_is_coherent()
     ensures { (n : NetworkModel) (q : QueryParts) (graph : Graph) (choice : ℕ → ℕ → Option LegParts)
         → IsPruned n q graph → IsSteady n q.target.0 choice → Follows n q.target.0 choice graph

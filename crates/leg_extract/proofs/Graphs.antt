@@ -15,10 +15,10 @@ use Rattle.plan_graph.specs.declared.GraphRow.{GraphRow}
 use Rattle.plan_graph.specs.declared.Ride.{Ride}
 use Rattle.plan_graph.specs.Ready.{IsLegOf, Stands}
 use Rattle.plan_graph.specs.Follows.{Follows, IsSteady}
-use Rattle.leg_walk.specs.Walked.{IsWalked}
+use Rattle.plan_graph.specs.Walked.{IsWalked}
 use Rattle.plan_model.proofs.Lists.{All-from_contains}
-use Rattle.leg_walk.proofs.Tables.{table_away, table_there, by_for}
-use Rattle.leg_walk.proofs.Graphs.{IsKeptAfter, ready, busy, table_of_ride, picks_taken}
+use Rattle.plan_graph.proofs.Tables.{table_away, table_there, by_for}
+use Rattle.plan_graph.proofs.Graphs.{IsKeptAfter, ready, busy, table_of_ride, picks_taken}
 use Rattle.value_laws.specs.ScoreLaws.{Scoring}
 use Rattle.meat_scan.specs.ScanResult.{ScanResult, choice_of, leg_choice, chosen_by}
 use Rattle.meat_scan.specs.Solves.{HasAnswers, SolvesEach, IsStartAnswer, IsSafeAt}

@@ -9,7 +9,7 @@ use Rattle.plan_graph.specs.declared.ExpandedGraph.{ExpandedGraph}
 use Rattle.plan_graph.specs.Unfold.{unfold_expanded}
 use Rattle.plan_graph.specs.Ready.{IsReady, IsBusy, Stands}
 use Rattle.plan_graph.specs.Follows.{Follows, IsSteady}
-use Rattle.leg_walk.specs.Walked.{HasRideOf}
+use Rattle.plan_graph.specs.Walked.{HasRideOf}
 use Rattle.meat_scan.specs.ScanResult.{ScanResult, leg_choice, chosen_by}
 
 -- one row for each outcome, by its arrival; none at the target
@@ -19,8 +19,8 @@ HasArrivals network target r =
     ≡ (if end_of network r.leg == target then [] else map (λ o. arrival_of network r.leg o.delay) (outcomes_of network r.leg))
 
 -- each leg that stands in the unfolding has a ride, those that end at the target among them
-abbrev pub IsWhole : NetworkModel → Query → ExpandedGraph → Type 0
-IsWhole network query graph = (leg : Leg) → Stands leg (unfold_expanded graph network query) → HasRideOf graph.rides leg
+abbrev pub HasEachRide : NetworkModel → Query → ExpandedGraph → Type 0
+HasEachRide network query graph = (leg : Leg) → Stands leg (unfold_expanded graph network query) → HasRideOf graph.rides leg
 
 -- the graph has the rides that the scan's choices reach from a start leg on, each with a row for each outcome;
 -- it unfolds to the tree that they fix, and is ready to be pruned; what is chosen is kept up to its limit
@@ -29,7 +29,7 @@ pub record IsExtracted {V : Type 0} (network : NetworkModel) (query : Query) (fo
   pub unfolds : unfold_expanded graph network query ≡ chosen_by network query found start
   pub ready : IsReady network query graph
   pub busy : IsBusy network query graph
-  pub whole : IsWhole network query graph
+  pub whole : HasEachRide network query graph
   pub arrivals : All (HasArrivals network query.target.0) graph.rides
   pub follows : Follows network query.target.0 (leg_choice found) graph
   pub steady : IsSteady network query.target.0 (leg_choice found)

@@ -1,4 +1,7 @@
 //! The rides that a scan's choices reach, as a graph.
+//!
+//! A call that takes an allocator may answer that there is no memory, as `NoMemory` or as the variant
+//! of that name; then what it was lent is as it was, unless its own comment says otherwise.
 #![tactic(auto)]
 
 ghost use Rattle.std.specs.Prelude.{◌≡◌, MatchOption, None, Some, IfOk};
@@ -6,9 +9,8 @@ ghost use Rattle.plan_model.specs.declared.model.Leg.{Leg as LegParts};
 ghost use Rattle.meat_scan.specs.Solves.{Solves};
 ghost use Rattle.leg_extract.specs.Extracted.{IsExtracted};
 
-use leg_walk::{LegChoice, walk};
 use meat_scan::Scanned;
-use plan_graph::ExpandedGraph;
+use plan_graph::{ExpandedGraph, LegChoice, walk};
 use plan_model::{Leg, Moment, Network, NoMemory, Query};
 use std::alloc::Global;
 use value_laws::Score;
@@ -33,7 +35,7 @@ impl<'a, V: Score> LegChoice for ScanChoice<'a, V> {
 }
 
 /// The graph of the rides that the scan's choices reach from its start leg, with one row for each
-/// outcome of a ride away from the target. None where the scan has no start leg.
+/// outcome of a ride away from the target. `None` if the scan has no start leg.
 pub fn extract<V: Score>(
     alloc: Global,
     scanned: &Scanned<V>,

@@ -4,12 +4,14 @@ use Rattle.std.proofs.lemmas.Bool.{cases_lt, cases_eq}
 use Rattle.std.proofs.lemmas.Bool.Decides.{nat_tests}
 use Rattle.std.proofs.lemmas.List.Elements.{All-nil, All-tail}
 use Rattle.plan_model.specs.declared.model.Leg.{Leg}
+use Rattle.plan_model.specs.declared.model.Query.{Query}
 use Rattle.plan_model.specs.NetworkModel.{NetworkModel}
 use Rattle.plan_graph.specs.declared.GraphRow.{GraphRow}
 use Rattle.plan_graph.specs.declared.PlaceTable.{PlaceTable}
-use Rattle.plan_graph.specs.PickedRows.{pick_row, pick_at, rows_of_place, is_table_of}
+use Rattle.plan_graph.specs.declared.PlanGraph.{PlanGraph}
+use Rattle.plan_graph.specs.PickedRows.{pick_row, pick_at, rows_of_place, is_table_of, HasRisingTables}
 use Rattle.plan_graph.specs.Ready.{IsLegOf}
-use Rattle.plan_graph.specs.Tidy.{IsFitRow, IsFitTable}
+use Rattle.plan_graph.specs.Tidy.{IsFitRow, IsFitTable, IsFit}
 
 pub pick_here : (row : GraphRow) (rows : List GraphRow) (x : ℕ) → x ≤ row.by.0 → pick_row (row ∷ rows) x ≡ Some row.leg
 pick_here row rows x soon = let e : nat_le x row.by.0 ≡ true = grind (arith, nat_tests) in rw e refl
@@ -45,3 +47,11 @@ picked_leg n tables fit place x leg is =
     let rows = rows_of_place-by (λ at. All (IsFitRow n at)) tables place (All-nil (IsFitRow n place)) (λ k d within. (fit k d within).rows) in
     let found = row_of_pick (IsFitRow n place) (rows_of_place tables place) x leg rows is in
     subst (λ (l : Leg). IsLegOf n l) found.3 found.1.is_leg
+
+-- the tables of a graph that fits rise
+pub fit_rises : (n : NetworkModel) (q : Query) (graph : PlanGraph) → IsFit n q graph → HasRisingTables graph
+fit_rises n q graph fit = record {
+  places = fit.rising;
+  rows = λ k d within. (fit.tables k d within).rising;
+  some = λ k d within. (fit.tables k d within).some;
+}

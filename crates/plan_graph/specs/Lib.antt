@@ -4,3 +4,7 @@ pub mod Ready
 pub mod Coherent
 pub mod Tidy
 pub mod Follows
+pub mod WalkTables
+pub mod RisingRides
+pub mod Placed
+pub mod Walked

@@ -1,9 +1,10 @@
 -- The rows of a graph, and what they pick.
-use Rattle.std.specs.Prelude.{◌≡◌, ℕ, ◌<◌, ◌⊎◌, List, [], ◌∷◌, Option, Some, None, AllPairs, Bool, nat_le, nat_lt, ◌==◌, ◌&&◌, ◌||◌, if◌then◌else◌}
+use Rattle.std.specs.Prelude.{◌≡◌, ℕ, ◌<◌, ◌≤◌, ◌⊎◌, List, [], ◌∷◌, length, Option, Some, None, All, AllPairs, Bool, nat_le, nat_lt, ◌==◌, ◌&&◌, ◌||◌, if◌then◌else◌}
 use Rattle.plan_model.specs.declared.model.Leg.{Leg}
 use Rattle.plan_graph.specs.declared.GraphRow.{GraphRow}
 use Rattle.plan_graph.specs.declared.Ride.{Ride}
 use Rattle.plan_graph.specs.declared.PlaceTable.{PlaceTable}
+use Rattle.plan_graph.specs.declared.PlanGraph.{PlanGraph}
 
 -- the leg of the first row that is not before an arrival
 abbrev pub pick_row : List GraphRow → ℕ → Option Leg
@@ -47,3 +48,9 @@ leg_lt a b = nat_lt a.enter.0 b.enter.0 || ((a.enter.0 == b.enter.0) && nat_lt a
 -- the rides rise
 abbrev pub HasRisingRides : List Ride → Type 0
 HasRisingRides rides = AllPairs (λ a b. Precedes a.leg b.leg) rides
+
+-- the places and the rows of each table rise, and no table is empty
+pub record HasRisingTables (graph : PlanGraph) : Type 0 where
+  pub places : AllPairs (λ a b. a.place.0 < b.place.0) graph.tables
+  pub rows : All (λ table. AllPairs (λ a b. a.by.0 < b.by.0) table.rows) graph.tables
+  pub some : All (λ table. 1 ≤ length table.rows) graph.tables

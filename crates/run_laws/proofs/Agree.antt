@@ -10,7 +10,7 @@ use Rattle.plan_model.specs.Strategy.{IsSafe, IsSafeFromStart, AreSafe}
 use Rattle.plan_model.specs.Unfold.{end_of, arrival_of, outcomes_of, kids_after, ride_of, ride_or_stuck, unfold_after, unfold_from}
 use Rattle.plan_graph.specs.Ready.{Stands, StandsIn}
 use Rattle.plan_graph.proofs.Searches.{same_leg}
-use Rattle.leg_walk.proofs.Places.{safe_kid}
+use Rattle.plan_graph.proofs.Places.{safe_kid}
 use Rattle.plan_model.proofs.Lists.{Contains-nil, Contains-head, Contains-tail, Contains-cons_cases}
 
 abbrev first_tree : Tree → Kids → Tree

@@ -14,7 +14,7 @@ use Rattle.meat_scan.specs.Rules.{kept_after}
 use Rattle.meat_scan.specs.ScanResult.{ScanResult}
 use Rattle.departure_table.specs.declared.DepartureRow.{DepartureRow}
 use Rattle.departure_table.specs.Looked.{row_of_choice, row_found, AreLooked}
-use Rattle.leg_walk.proofs.Tables.{one_found}
+use Rattle.plan_graph.proofs.Tables.{one_found}
 use Rattle.journey_model.specs.declared.problem.Problem.{Problem}
 use Rattle.journey_report.specs.Findings.{Findings, departures_findings}
 use Rattle.journey_report.specs.DepartureTexts.{departures_text}

@@ -16,8 +16,8 @@ use Rattle.plan_graph.specs.Ready.{IsSafeForSome}
 use Rattle.plan_graph.specs.Tidy.{IsFitRow, IsFitTable, IsFitStart, IsPickedIn, IsTidy}
 use Rattle.plan_graph.specs.Unfold.{unfold_plan}
 use Rattle.plan_graph.proofs.Picked.{table_here, table_further, rows_of_place-by}
-use Rattle.leg_walk.specs.WalkTables.{row_by}
-use Rattle.leg_walk.proofs.Tables.{one_found, first_pick, picked_there}
+use Rattle.plan_graph.specs.WalkTables.{row_by}
+use Rattle.plan_graph.proofs.Tables.{one_found, first_pick, picked_there}
 use Rattle.plan_model.proofs.Lists.{Contains-nil, Contains-head, Contains-tail, Contains-cons_cases, AllPairs-head, AllPairs-tail}
 use Rattle.run_laws.proofs.Rising.{HasAll, one_rising}
 use Rattle.run_laws.proofs.Agree.{start_same, agree_from}

@@ -15,8 +15,8 @@ use Rattle.plan_graph.specs.PickedRows.{pick_row, pick_after, Precedes}
 use Rattle.plan_graph.specs.Ready.{IsLegOf, IsReadyRide, Stands}
 use Rattle.plan_graph.specs.Unfold.{unfold_expanded}
 use Rattle.plan_graph.proofs.Picked.{pick_here, pick_further}
-use Rattle.leg_walk.proofs.Tables.{one_found}
-use Rattle.leg_walk.proofs.Rides.{rows_after-own}
+use Rattle.plan_graph.proofs.Tables.{one_found}
+use Rattle.plan_graph.proofs.Rides.{rows_after-own}
 use Rattle.leg_extract.specs.Extracted.{HasArrivals}
 use Rattle.plan_model.proofs.Lists.{Contains-nil, Contains-cons_cases, Contains-map, Contains-from_map, AllPairs-head, AllPairs-tail}
 use Rattle.run_laws.specs.Wholes.{IsTold}

@@ -7,13 +7,13 @@ use Rattle.plan_graph.specs.declared.ExpandedGraph.{ExpandedGraph}
 use Rattle.plan_graph.specs.declared.PlanGraph.{PlanGraph}
 use Rattle.plan_graph.specs.Unfold.{unfold_expanded, unfold_plan}
 use Rattle.plan_graph.specs.Ready.{IsReady, IsBusy}
-use Rattle.leg_extract.specs.Extracted.{HasArrivals, IsWhole}
+use Rattle.leg_extract.specs.Extracted.{HasArrivals, HasEachRide}
 
 -- its rides are those that stand in its tree, each with a row for each outcome
 pub record IsTold (network : NetworkModel) (query : Query) (graph : ExpandedGraph) : Type 0 where
   pub ready : IsReady network query graph
   pub busy : IsBusy network query graph
-  pub whole : IsWhole network query graph
+  pub whole : HasEachRide network query graph
   pub arrivals : All (HasArrivals network query.target.0) graph.rides
 
 -- a graph by ride and one by place are of one strategy: they unfold to one tree, from one start leg, with the same bounds

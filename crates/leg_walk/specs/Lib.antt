@@ -1,4 +1,0 @@
-pub mod WalkTables
-pub mod RisingRides
-pub mod Placed
-pub mod Walked

@@ -1,0 +1,29 @@
+-- The order of legs.
+use Rattle.std.proofs.Common.{◌≡◌, ℕ, ◌<◌, ◌⊎◌, arith, refl, inl, inr, nat_cmp, Ordering, Less, Equal, Greater}
+use Rattle.std.proofs.lemmas.Grind.{common_steps}
+use Rattle.std.specs.Cmp.{IsTotalOrder, on_total, then_total}
+use Rattle.std.specs.Ordering.{ordering_then}
+use Rattle.std.proofs.lemmas.Bool.Decides.{nat_tests}
+use Rattle.std.proofs.lemmas.Cmp.{nat_cmp_total}
+use Rattle.std.proofs.lemmas.Map.Lookups.{CmpEqualImpliesEq}
+use Rattle.plan_model.specs.declared.model.Leg.{Leg}
+use Rattle.plan_graph.specs.PickedRows.{Precedes}
+use Rattle.plan_graph.specs.WalkTables.{leg_cmp}
+
+pub nat_cmp-Less : (x y : ℕ) → nat_cmp x y ≡ Less → x < y
+nat_cmp-Less x y is = grind (arith, nat_tests)
+
+pub ordering_then-Less : (x y : Ordering) → ordering_then x y ≡ Less → (x ≡ Less) ⊎ ((x ≡ Equal) × (y ≡ Less))
+ordering_then-Less Less y is = inl refl
+ordering_then-Less Equal y is = inr (refl, is)
+ordering_then-Less Greater y is = absurd (cc)
+
+pub leg_cmp-total : IsTotalOrder leg_cmp
+leg_cmp-total = then_total (on_total (λ (leg : Leg). leg.enter.0) nat_cmp_total) (on_total (λ (leg : Leg). leg.exit.0) nat_cmp_total)
+
+-- legs that compare as equal are the same
+pub leg_cmp-exact : CmpEqualImpliesEq leg_cmp
+leg_cmp-exact a b is = grind (arith, common_steps, nat_tests)
+
+pub leg_cmp-Less : (a b : Leg) → leg_cmp a b ≡ Less → Precedes a b
+leg_cmp-Less a b is = grind (arith, common_steps, nat_tests)

@@ -1,0 +1,14 @@
+use Rattle.std.proofs.Common.{◌<◌, List, AllPairs, arith, subst, sym, ◌∙◌, ap}
+use Rattle.plan_graph.specs.declared.GraphRow.{GraphRow}
+use Rattle.plan_graph.specs.declared.PlaceTable.{PlaceTable}
+use Rattle.plan_graph.specs.PickedRows.{rows_of_place}
+use Rattle.plan_graph.proofs.Picked.{rows_of_place-by}
+use Rattle.plan_graph.proofs.PlanGraph.pick_rising.Goals as goal
+
+pub leg_by-requires : goal.leg_by-requires
+leg_by-requires c =
+    let rises = rows_of_place-by (λ place (rows : List GraphRow). AllPairs
+    (λ (a b : GraphRow). a.by.0 < b.by.0) rows) c.args.self.now.tables c.args.place.0
+    (λ i j d less within. absurd (omega (arith, less, within))) c.requires.rows in
+    subst (λ (rows : List GraphRow). AllPairs (λ (a b : GraphRow). a.by.0 < b.by.0) rows)
+    (sym (c.rows_at.ensures ∙ ap (λ (tables : List PlaceTable). rows_of_place tables c.args.place.0) c.as_slice.ensures)) rises

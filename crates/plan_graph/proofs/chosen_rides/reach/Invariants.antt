@@ -1,0 +1,15 @@
+use Rattle.std.proofs.Common.{ℕ, Option, Some}
+use Rattle.std.specs.List.Sorted.{IsStrictlySortedBy}
+use Rattle.plan_model.specs.Unfold.{unfolding_of}
+use Rattle.plan_graph.specs.WalkTables.{leg_cmp}
+use Rattle.plan_graph.proofs.Reaching.{IsReaching}
+use Rattle.plan_graph.proofs.chosen_rides.reach.Given as goal
+
+abbrev pub invariant-loop : goal.invariant-loop
+invariant-loop g l =
+    let choice = g.C.LegChoice.chosen l.choice l.network in
+    record {
+      deadline : Option ℕ;
+      reaching : IsReaching l.network l.query.target.0 deadline choice (unfolding_of l.network l.query choice (Some l.fn.start)) l.fn.start l.todo.items l.seen.keys;
+      ordered : IsStrictlySortedBy leg_cmp l.seen.keys;
+    }

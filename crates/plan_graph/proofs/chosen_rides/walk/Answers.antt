@@ -1,0 +1,16 @@
+use Rattle.std.proofs.Common.{◌<◌}
+use Rattle.std.proofs.lemmas.List.Elements.{recursion_from_All}
+use Rattle.plan_model.specs.Network.{count}
+use Rattle.plan_model.specs.declared.model.Leg.{Leg}
+use Rattle.plan_model.proofs.Lists.{All-from_contains}
+use Rattle.plan_graph.proofs.Walks.{walked}
+use Rattle.plan_graph.proofs.chosen_rides.walk.Goals as goal
+
+pub rides_of-requires : goal.rides_of-requires
+rides_of-requires g c =
+    let inside = λ (leg : Leg). leg.exit.0 < count c.args.network.now in
+    recursion_from_All inside c.in_ok-seen.seen.keys (All-from_contains inside c.in_ok-seen.seen.keys (λ leg has. (c.in_ok-seen.ensures.placed leg has).is_leg.exit))
+
+pub returns-clause-walked : goal.returns-clause-walked
+returns-clause-walked g c =
+    rw c.in_ok-rides.ensures (walked c.args.network.now c.count-count.ensures.valid c.args.query.now _ c.args.start c.in_ok-seen.seen.keys c.in_ok-seen.ensures)
