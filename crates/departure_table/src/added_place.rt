@@ -1,4 +1,4 @@
-//! The network with a place more, from which one is at the source a second later.
+//! The network with one more place, from which one is at the source a second later.
 ghost use Rattle.std.specs.Prelude.{◌≡◌, ◌+◌, ◌^◌, ◌<◌, IfOk, length, map};
 ghost use Rattle.std.specs.List.{range_with_len};
 ghost use Rattle.plan_model.specs.View.{IsExtension, extended as with_added, links_from_added};
@@ -7,7 +7,7 @@ ghost use Rattle.departure_table.specs.Departures.{IsASecondAway};
 use plan_model::{List, Network, NoMemory, PlaceId, Way};
 use std::alloc::Global;
 
-/// The links into a place, and into the source one more from the place that is added.
+/// The links into a place; into the source there is one more, from the added place.
 fn links_to(
     alloc: Global,
     network: &Network,
@@ -27,7 +27,7 @@ fn links_to(
     Ok(List::from_vec(links))
 }
 
-/// The links into each place, with none into the place that is added.
+/// The links into each place, with none into the added place.
 fn links_with_added(
     alloc: Global,
     network: &Network,
@@ -44,10 +44,9 @@ fn links_with_added(
     Ok(List::from_vec(links))
 }
 
-/// The network with a place more, the last one, with a change time of one second and no connection.
-/// A link of one second leads from it to the source, and none to it; all else stays. So a leg can be
-/// boarded from there after an arrival exactly where it leaves the source a second later or after
-/// that. `NoMemory` comes where there is no memory for it.
+/// The network with one more place, the last one, with a change time of one second and no connection. A
+/// link of one second leads from it to the source, and none to it; all else stays. So after an arrival
+/// there a leg can be boarded if it leaves the source a second later or after that, and no other.
 pub fn extended(alloc: Global, network: &Network, source: PlaceId) -> Result<Network, NoMemory>
     requires source { source.0 < length network.now.change }
     requires room { length network.now.change + 1 < 2 ^ 32 }

@@ -7,14 +7,15 @@ ghost use Rattle.departure_table.specs.declared.DepartureRow.{DepartureRow as Ro
 ghost use Rattle.departure_table.specs.Departures.{SafeFrom, IsTable, IsGreatestMoment};
 ghost use Rattle.departure_table.specs.Latest.{IsOfLastRow, AgreesWithLeastWorst};
 
-/// No row is by a later moment than the greatest, and where the table goes on so far, one is by it.
+/// A law, with no code: no row is by a later moment than the greatest, and if the table goes on so far, one
+/// row is by it.
 pub fn greatest_moment_is_of_the_last_row()
     ensures { (m : NetworkModel) (source : ℕ) (q : Asked) (first last : ℕ) (rows : Rows Row) (greatest : When) → IsTable m (SafeFrom m source q) first last rows
         → IsGreatestMoment (SafeFrom m source q) first (Some greatest) → first ≤ last → IsOfLastRow last rows greatest }
 {}
 
-/// There is a greatest moment exactly where the least worst arrival is by the deadline, and it is the last from
-/// which that is so.
+/// A law, with no code: there is a greatest moment if the least worst arrival is by the deadline, and only
+/// then, and it is the last from which that is so.
 pub fn greatest_moment_agrees_with_the_least_worst()
     ensures { (m : NetworkModel) (source : ℕ) (q : Asked) (first : ℕ) → AgreesWithLeastWorst m source q first }
 {}

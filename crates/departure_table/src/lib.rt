@@ -1,7 +1,10 @@
 //! The departures from a place in a span of time, each with the best that can still be done by it,
 //! and the latest moment at which one can still set out. A scan answers whoever has arrived at a
 //! place, so the network is extended by a place from which one is at the source a second later:
-//! there the departures are legs after an arrival, and the rows of one scan tell them all.
+//! there the departures are legs after an arrival, and one scan has a row for each.
+//!
+//! A call that takes an allocator may answer that there is no memory, as `NoMemory` or as the variant
+//! of that name; then what it was lent is as it was, unless its own comment says otherwise.
 #![tactic(auto)]
 
 ghost use Rattle.std.specs.Prelude.{◌≡◌, ℕ, ◌+◌, ◌<◌, ◌≤◌, IfOk};
@@ -24,18 +27,18 @@ mod laws;
 pub use added_place::extended;
 pub use laws::{greatest_moment_agrees_with_the_least_worst, greatest_moment_is_of_the_last_row};
 
-/// What whoever sets out by a moment, and not by that of the row before, does best.
+/// A row of the table: what is best for whoever sets out by its moment, and too late for the row before.
 #[derive(Clone, Copy, Debug)]
 pub struct DepartureRow {
     /// The departure of the leg: the last moment by which one sets out for it.
     pub by: Moment,
-    /// Bounds on the least expected arrival of whoever sets out then, in nanoseconds.
+    /// Bounds on the least expected arrival of whoever sets out then, in nanoseconds since 1970-01-01.
     pub bounds: Span,
     /// The leg that is taken.
     pub leg: Leg,
 }
 
-/// The row for whoever sets out at this moment or later; none where nothing is safe any more.
+/// The row for whoever sets out at this moment or later; `None` if no strategy is safe any more.
 fn row_from(
     scanned: &Scanned<MeanSpan>,
     network: &Network,
@@ -60,8 +63,7 @@ fn row_from(
 
 /// The departures that are taken from the place to which the source of the query leads in a second,
 /// from the first moment to the last one: each row's leg is the best to take for whoever sets out by
-/// its moment and not by that of the row before. Only the last row may be by the last moment or
-/// later. `NoMemory` comes where there is no memory for the rows.
+/// its moment and too late for the row before. Only the last row may be by the last moment or later.
 pub fn table(
     alloc: Global,
     scanned: &Scanned<MeanSpan>,
@@ -91,8 +93,7 @@ pub fn table(
 }
 
 /// The latest moment from the first one on at which whoever sets out from the place to which the
-/// source of the query leads in a second is still safe. None exactly where nobody is from the first
-/// moment on.
+/// source of the query leads in a second is still safe; `None` if nobody is from the first moment on.
 pub fn greatest(
     scanned: &Scanned<MeanSpan>,
     network: &Network,
@@ -114,7 +115,8 @@ pub fn greatest(
     greatest
 }
 
-/// What the table and the greatest moment say of an extended network, they say of the network.
+/// A law, with no code: what the table and the greatest moment say of an extended network, they say of the
+/// network.
 pub fn says_of_source()
     ensures { (n : NetworkModel) (q : Asked) (m : NetworkModel) (source : ℕ) → IsExtendedFor n q m source → SaysOfSource n q m source }
 {}

@@ -8,25 +8,26 @@ ghost use Rattle.plan_model.specs.Network.{count};
 use plan_model::{BackwardOrder, ConnectionId, Moment, Network, NoMemory};
 use std::alloc::Global;
 
-/// As many connections as a network may have.
+/// The greatest number of connections that a network may have.
 const MOST_CONNECTIONS: u64 = 8_388_608;
 
-/// The scan order backwards, by a tournament over the runs: each run shows the key of the last of its connections that was
-/// not given yet, and the greatest key wins. A step plays the rounds above one run again, and takes no memory.
+/// The scan order backwards, by a tournament over the runs: each run enters with the key of the last of
+/// its connections that was not given yet, and the greatest key wins. A step plays the rounds above one
+/// run again, and takes no memory.
 #[derive(Drop)]
 pub struct MergedRuns {
-    /// Where the connections of each run begin, and after the last run their count.
+    /// The index at which the connections of each run begin, and after the last run their count.
     starts: Vec<u32>,
-    /// Up to where the connections of each run are not given yet.
+    /// The index up to which the connections of each run are not given yet.
     left: Vec<u32>,
-    /// The greatest key below each node, and 0 where nothing is left. A key rises with the departure of a connection, and at
-    /// equal departures with its number. Node 1 is the final, node k is between the nodes 2 k and 2 k + 1, and from the count
-    /// of runs on the nodes are the runs themselves.
+    /// The greatest key below each node, and 0 if nothing remains there. A key rises with the departure of
+    /// a connection, and at equal departures with its number. Node 1 is the final, node k is between the
+    /// nodes 2 k and 2 k + 1, and from the count of runs on the nodes are the runs themselves.
     keys: Vec<u64>,
     ghost size: { length keys.items ≡ 2 * length left.items },
 }
 
-/// Where the connections of each run begin, and after the last run their count.
+/// The index at which the connections of each run begin, and after the last run their count.
 fn starts_of(alloc: Global, network: &Network) -> Result<Vec<u32>, NoMemory>
     ensures { IfOk result (λ starts. AreStarts network.now starts.items) }
 {
@@ -40,7 +41,7 @@ fn starts_of(alloc: Global, network: &Network) -> Result<Vec<u32>, NoMemory>
     Ok(starts)
 }
 
-/// A tournament of so many runs that was not played yet.
+/// A tournament of this number of runs that was not played yet.
 fn unplayed(alloc: Global, runs: u32) -> Result<Vec<u64>, NoMemory>
     requires { runs ≤ most_connections }
     ensures { IfOk result (λ keys. length keys.items ≡ 2 * runs) }
@@ -49,7 +50,8 @@ fn unplayed(alloc: Global, runs: u32) -> Result<Vec<u64>, NoMemory>
     Ok(keys)
 }
 
-/// Up to where connections of one run depart by a moment. Mostly all do, and then the last one tells.
+/// The index up to which the connections of one run depart by a moment. Mostly all do, and then a look at
+/// the last one is enough.
 fn end_by(network: &Network, from: u32, to: u32, last: Moment) -> u32
     requires ordered { from ≤ to }
     requires within { to ≤ count network.now }
@@ -74,7 +76,8 @@ fn end_by(network: &Network, from: u32, to: u32, last: Moment) -> u32
 }
 
 impl MergedRuns {
-    /// The whole scan order of this network.
+    /// The whole scan order of this network. It takes memory for two numbers and two keys of each run, and
+    /// time in the connections and the runs.
     pub fn new(alloc: Global, network: &Network) -> Result<MergedRuns, NoMemory>
         ensures fits { IfOk result (λ order. ⟦<MergedRuns as BackwardOrder>⟧.fits order network.now) }
         ensures rest { IfOk result (λ order. IsScanOrder network.now (⟦<MergedRuns as BackwardOrder>⟧.rest order network.now)) }
@@ -87,7 +90,7 @@ impl MergedRuns {
         Ok(order)
     }
 
-    /// The key of the last connection that is left of a run, and 0 where none is left.
+    /// The key of the last connection of a run that was not given yet, and 0 if all were given.
     fn key(&self, network: &Network, run: usize) -> u64
         requires stretches { AreStretches network.now self.now.starts.items self.now.left.items }
         requires run { run < length self.now.left.items }
@@ -133,7 +136,7 @@ impl MergedRuns {
         }
     }
 
-    /// Takes the last connection that is left of a run, and plays the nodes above it again.
+    /// Gives the last connection of a run that was not given yet, and plays the nodes above it again.
     fn give(&mut self, network: &Network, run: usize)
         requires merge { IsMerge network.now self.old.starts.items self.old.left.items self.old.keys.items }
         requires run { run < length self.old.left.items }

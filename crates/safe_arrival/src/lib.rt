@@ -18,8 +18,8 @@ const LAST_MOMENT: Moment = Moment(13_601_174_400);
 
 const SECONDS_PER_HOUR: u64 = 3600;
 
-// The least worst arrival, where it is by the deadline of the query. The tables come back empty,
-// and the order is used up.
+// The least worst arrival, if it is by the deadline of the query. The tables come back empty, and the
+// order is used up.
 fn least_worst_by<B: BackwardOrder>(
     tables: ScanTables<WorstMoment>,
     network: &Network,
@@ -44,10 +44,10 @@ fn least_worst_by<B: BackwardOrder>(
     }
 }
 
-/// The least worst arrival at the target of all strategies that always reach it, from the source
-/// at the start. There is none where no strategy always reaches it. It is sought by the first two
-/// hours, by the first eight, and at last by the end of all time, since most connections leave too
-/// late to matter.
+/// The least worst arrival at the target of all strategies that always reach it, from the source at the
+/// start; `None` if no strategy always reaches it. It is searched for with a deadline of two hours, then
+/// of eight, and at last of all time, since most connections leave too late to matter. Whatever is
+/// answered, the order still fits the network.
 pub fn least_worst<B: BackwardOrder>(
     mut tables: ScanTables<WorstMoment>,
     network: &Network,
@@ -94,8 +94,8 @@ pub fn least_worst<B: BackwardOrder>(
     worst
 }
 
-/// The deadline at a percentage of the time that the least worst arrival needs, from 100 to 1,000,
-/// rounded down to a second.
+/// The deadline: the start, and `alpha` percent of the time from it to the least worst arrival, rounded
+/// down to a second. `alpha` is from 100 to 1,000.
 pub fn deadline(start: Moment, worst: Moment, alpha: u32) -> Moment
     requires order { start.0 ≤ worst.0 }
     requires early { worst.0 < end_of_time }
