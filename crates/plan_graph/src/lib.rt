@@ -93,7 +93,7 @@ fn table_of(tables: &[PlaceTable], place: PlaceId) -> Option<&PlaceTable>
     tables.iter().find(|table| table.place.0 == place.0)
 }
 
-/// Whether one leg stands before another: by entry, and then by exit.
+/// Whether one leg comes before another: by entry, and then by exit.
 fn precedes(a: Leg, b: Leg) -> bool
     ensures { result ≡ leg_lt a b }
 {
