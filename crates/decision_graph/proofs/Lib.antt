@@ -1,4 +1,4 @@
-pub mod Found
+pub mod BestStrategies
 pub mod AtOnce
 pub mod Tables
 pub mod Deadlines

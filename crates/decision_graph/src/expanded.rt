@@ -4,6 +4,7 @@ ghost use Rattle.plan_model.specs.Order.{IsScanOrder};
 ghost use Rattle.decision_graph.specs.Expanded.{IsNoneSafe, IsExpanded, IsExpandedBy, HasSteadyChoice};
 ghost use Rattle.interval_fixed.specs.Interval.{end_of_nanos};
 
+use crate::found::Found;
 use interval_fixed::Span;
 use leg_extract::extract;
 use meat_scan::{ScanTables, scan};
@@ -12,32 +13,14 @@ use plan_model::{BackwardOrder, List, Network, NoMemory, Query};
 use std::alloc::Global;
 use value_laws::{MeanSpan, Score};
 
-/// A decision graph ride by ride, with bounds on its expected arrival in nanoseconds.
-#[derive(Drop)]
-pub struct ExpandedPlan {
-    /// The graph.
-    pub graph: ExpandedGraph,
-    /// Bounds on the expected arrival of the graph and on the least of all safe strategies, in
-    /// nanoseconds.
-    pub bounds: Span,
-}
-
-/// A decision graph ride by ride, with a value that covers its own strategy and is below every safe
-/// one.
-#[derive(Drop)]
-pub(crate) struct Scored<V> {
-    pub(crate) graph: ExpandedGraph,
-    pub(crate) value: V,
-}
-
-/// The decision graph of a query, with this value where source and target are one place.
+/// The decision graph of a query, with this value if source and target are one place.
 pub(crate) fn expand_with<V: Score, B: BackwardOrder>(
     alloc: Global,
     order: &mut B,
     network: &Network,
     query: &Query,
     arrived: V,
-) -> Result<Option<Scored<V>>, NoMemory>
+) -> Result<Option<Found<ExpandedGraph, V>>, NoMemory>
     requires fits { B.fits order.old network.now }
     requires whole { IsScanOrder network.now (B.rest order.old network.now) }
     requires arrived { arrived ≡ V.scoring.arrived query.now.start.0 }
@@ -50,7 +33,7 @@ pub(crate) fn expand_with<V: Score, B: BackwardOrder>(
         if query.deadline.0 < query.start.0 {
             return Ok(None);
         }
-        return Ok(Some(Scored {
+        return Ok(Some(Found {
             graph: ExpandedGraph {
                 start: None,
                 rides: List::new(alloc),
@@ -65,24 +48,26 @@ pub(crate) fn expand_with<V: Score, B: BackwardOrder>(
     };
     match extract(alloc, &scanned, network, query)? {
         None => Ok(None),
-        Some(graph) => Ok(Some(Scored { graph, value })),
+        Some(graph) => Ok(Some(Found { graph, value })),
     }
 }
 
-/// The decision graph of a query ride by ride, by a scan in this order of the network's connections, with bounds that enclose the least expected arrival
-/// of all strategies that are safe for it. None exactly where no strategy is safe.
+/// The decision graph of a query ride by ride, by a scan in this order of the network's connections,
+/// with bounds on its expected arrival and on the least of all strategies that are safe for it, in
+/// nanoseconds since 1970-01-01. `None` if no strategy is safe. Whatever is answered, the order still
+/// fits the network.
 #[tactic(auto, using(crate::proofs::Means::expanded_means))]
 pub fn expand<B: BackwardOrder>(
     alloc: Global,
     order: &mut B,
     network: &Network,
     query: &Query,
-) -> Result<Option<ExpandedPlan>, NoMemory>
+) -> Result<Option<Found<ExpandedGraph, Span>>, NoMemory>
     requires fits { B.fits order.old network.now }
     requires whole { IsScanOrder network.now (B.rest order.old network.now) }
     requires start { query.now.start.0 < end_of_nanos }
     ensures plan { IfOk result (λ found. MatchOption found (IsNoneSafe network.now query.now)
-        (λ p. IsExpanded network.now query.now p.graph p.bounds)) }
+        (λ p. IsExpanded network.now query.now p.graph p.value)) }
     ensures fits { B.fits order.new network.now }
 {
     let at_once = MeanSpan(Span::exact(query.start));
@@ -91,7 +76,10 @@ pub fn expand<B: BackwardOrder>(
         Some(scored) => {
             let bounds = scored.value.0;
             let graph = scored.graph;
-            Ok(Some(ExpandedPlan { graph, bounds }))
+            Ok(Some(Found {
+                graph,
+                value: bounds,
+            }))
         }
     }
 }

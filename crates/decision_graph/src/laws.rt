@@ -9,15 +9,15 @@ ghost use Rattle.plan_graph.specs.declared.PlanGraph.{PlanGraph as Graph};
 ghost use Rattle.plan_graph.specs.Unfold.{unfold_plan};
 ghost use Rattle.decision_graph.specs.Planned.{IsPlanned};
 
-/// A plan whose deadline is the least worst arrival arrives by then at worst, and no sooner.
+/// A law, with no code: a plan whose deadline is the least worst arrival arrives by then at worst, and no sooner.
 pub fn least_worst_is_kept()
     ensures { (n : NetworkModel) (q : Asked) (graph : Graph) (bounds : Interval) → IsPlanned n q graph bounds
         → IsLeastWorst n q.source.0 q.target.0 q.start.0 (Some q.deadline)
         → worst (unfold_plan graph n q) ≡ q.deadline.0 }
 {}
 
-/// With a later deadline nothing is lost: what the later plan says no strategy is better than is at most
-/// what the sooner one says that its own strategy is no worse than.
+/// A law, with no code: with a later deadline nothing is lost. The lower bound of the plan with the later
+/// deadline is at most the upper bound of the other plan.
 pub fn a_later_deadline_is_no_worse()
     ensures { (n : NetworkModel) (q r : Asked) (graph other : Graph) (bounds later : Interval) → IsPlanned n q graph bounds
         → IsPlanned n r other later → r.source.0 ≡ q.source.0 → r.target.0 ≡ q.target.0 → r.start.0 ≡ q.start.0

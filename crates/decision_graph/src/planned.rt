@@ -7,6 +7,7 @@ ghost use Rattle.decision_graph.specs.Planned.{IsPlanned, IsPlannedBy};
 ghost use Rattle.interval_fixed.specs.Interval.{end_of_nanos};
 
 use crate::expanded::expand_with;
+use crate::found::Found;
 use graph_compact::compact;
 use graph_prune::{prune, steady_is_coherent};
 use interval_fixed::Span;
@@ -15,34 +16,14 @@ use plan_model::{BackwardOrder, Network, NoMemory, Query};
 use std::alloc::Global;
 use value_laws::{MeanSpan, Score};
 
-/// A decision graph with one table for each place, and bounds on its expected arrival in nanoseconds.
-#[derive(Drop)]
-pub struct CompactPlan {
-    /// The graph.
-    pub graph: PlanGraph,
-    /// Bounds on the expected arrival of the graph and on the least of all safe strategies, in
-    /// nanoseconds.
-    pub bounds: Span,
-}
-
-/// A decision graph with one table for each place, with a value that covers its own strategy and is
-/// below every safe one.
-#[derive(Drop)]
-pub struct ScoredPlan<V> {
-    /// The graph.
-    pub graph: PlanGraph,
-    /// The value of the graph.
-    pub value: V,
-}
-
-/// The decision graph of a query, with this value where source and target are one place.
+/// The decision graph of a query, with this value if source and target are one place.
 fn plan_with<V: Score, B: BackwardOrder>(
     alloc: Global,
     order: &mut B,
     network: &Network,
     query: &Query,
     arrived: V,
-) -> Result<Option<ScoredPlan<V>>, NoMemory>
+) -> Result<Option<Found<PlanGraph, V>>, NoMemory>
     requires fits { B.fits order.old network.now }
     requires whole { IsScanOrder network.now (B.rest order.old network.now) }
     requires arrived { arrived ≡ V.scoring.arrived query.now.start.0 }
@@ -56,21 +37,21 @@ fn plan_with<V: Score, B: BackwardOrder>(
     let pruned = prune(alloc, &expanded.graph, network, query)?;
     steady_is_coherent();
     let graph = compact(alloc, &pruned, network, query)?;
-    Ok(Some(ScoredPlan {
+    Ok(Some(Found {
         graph,
         value: expanded.value,
     }))
 }
 
 /// The decision graph of a query with one table for each place, by a scan in this order of the
-/// network's connections, with a value that covers its own strategy and is below every safe one. None
-/// exactly where no strategy is safe.
+/// network's connections, with a value that covers its own strategy and is below every safe one.
+/// `None` if no strategy is safe. Whatever is answered, the order still fits the network.
 pub fn plan_by<V: Score, B: BackwardOrder>(
     alloc: Global,
     order: &mut B,
     network: &Network,
     query: &Query,
-) -> Result<Option<ScoredPlan<V>>, NoMemory>
+) -> Result<Option<Found<PlanGraph, V>>, NoMemory>
     requires fits { B.fits order.old network.now }
     requires whole { IsScanOrder network.now (B.rest order.old network.now) }
     requires start { query.now.start.0 < end_of_time }
@@ -82,20 +63,21 @@ pub fn plan_by<V: Score, B: BackwardOrder>(
 }
 
 /// The decision graph of a query with one table for each place, by a scan in this order of the
-/// network's connections, and bounds that enclose the least
-/// expected arrival of all strategies that are safe for it. None exactly where no strategy is safe.
+/// network's connections, with bounds on its expected arrival and on the least of all strategies that
+/// are safe for it, in nanoseconds since 1970-01-01. `None` if no strategy is safe. Whatever is
+/// answered, the order still fits the network.
 #[tactic(auto, using(crate::proofs::Means::planned_means))]
 pub fn plan<B: BackwardOrder>(
     alloc: Global,
     order: &mut B,
     network: &Network,
     query: &Query,
-) -> Result<Option<CompactPlan>, NoMemory>
+) -> Result<Option<Found<PlanGraph, Span>>, NoMemory>
     requires fits { B.fits order.old network.now }
     requires whole { IsScanOrder network.now (B.rest order.old network.now) }
     requires start { query.now.start.0 < end_of_nanos }
     ensures plan { IfOk result (λ found. MatchOption found (IsNoneSafe network.now query.now)
-        (λ p. IsPlanned network.now query.now p.graph p.bounds)) }
+        (λ p. IsPlanned network.now query.now p.graph p.value)) }
     ensures fits { B.fits order.new network.now }
 {
     let at_once = MeanSpan(Span::exact(query.start));
@@ -104,7 +86,10 @@ pub fn plan<B: BackwardOrder>(
         Some(scored) => {
             let bounds = scored.value.0;
             let graph = scored.graph;
-            Ok(Some(CompactPlan { graph, bounds }))
+            Ok(Some(Found {
+                graph,
+                value: bounds,
+            }))
         }
     }
 }

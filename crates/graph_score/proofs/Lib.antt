@@ -1,4 +1,3 @@
-mod Picks
 mod GraphLegs
 mod Failures
 mod Trees

@@ -12,10 +12,11 @@ use Rattle.plan_graph.specs.Tidy.{IsFitStart}
 use Rattle.plan_graph.specs.Unfold.{unfold_plan}
 use Rattle.interval_fixed.specs.Interval.{Interval}
 use Rattle.graph_score.specs.declared.outlooks.Failure.{Failure}
+use Rattle.graph_score.specs.declared.outlooks.Outlook.{Outlook}
 use Rattle.graph_score.specs.declared.outlooks.Outlook.TheVariants.{Safe, Failing}
 use Rattle.graph_score.specs.Legs.{IsFitLeg, legs_of}
 use Rattle.graph_score.specs.Failures.{Fails}
-use Rattle.graph_score.specs.Scores.{IsScored, IsUnsafe}
+use Rattle.graph_score.specs.Scores.{IsScored, IsUnsafe, IsScoreOf}
 use Rattle.graph_score.specs.Spans.{span_of}
 use Rattle.graph_score.specs.Steps.{IsOutlook, ride_by_rows}
 use Rattle.graph_score.proofs.GraphLegs.{rows_fit, start_fits}
@@ -62,3 +63,7 @@ module _ (n : NetworkModel) (valid : IsValid n) (q : Query) (graph : PlanGraph) 
       by_start : q.source.0 ≢ q.target.0 → (start : Option Leg) → graph.start ≡ start → IsScored n q (unfold_plan graph n q) span
       by_start away None is = absurd (told.0 q.source.0 q.start.0 (subst (λ t. Fails q t q.source.0 q.start.0) (sym (unfold-none n q graph away is)) (refl, refl)))
       by_start away (Some leg) is = as_told (ride_by_rows n q graph.tables (count n - 1) leg) (ride_scored leg (start_fits n q graph leg fit is)) (unfold-start n q graph leg away is) span told
+
+  pub score_told : (outlook : Outlook) → IsOutlook n q outlook (unfold_plan graph n q) → IsScoreOf n q (unfold_plan graph n q) outlook
+  score_told (Safe span) is = safe_told span is
+  score_told (Failing f) is = failing_told n q (unfold_plan graph n q) f is

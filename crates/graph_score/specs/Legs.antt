@@ -10,12 +10,6 @@ use Rattle.plan_graph.specs.Tidy.{IsFitStart, IsFitRow}
 use Rattle.graph_score.specs.declared.legs.GraphLeg.{GraphLeg}
 use Rattle.graph_score.specs.declared.legs.GraphLeg.TheVariants.{Start, Row}
 
--- the places and the rows of each table rise, and no table is empty
-pub record HasRisingTables (graph : PlanGraph) : Type 0 where
-  pub places : AllPairs (λ a b. a.place.0 < b.place.0) graph.tables
-  pub rows : All (λ table. AllPairs (λ a b. a.by.0 < b.by.0) table.rows) graph.tables
-  pub some : All (λ table. 1 ≤ length table.rows) graph.tables
-
 -- the start leg, where there is one
 abbrev pub start_leg : Option Leg → List GraphLeg
 start_leg None = []

@@ -11,6 +11,8 @@ use Rattle.plan_graph.specs.Unfold.{unfold_plan}
 use Rattle.interval_fixed.specs.Interval.{Interval}
 use Rattle.graph_score.specs.declared.ScoreFault.{ScoreFault}
 use Rattle.graph_score.specs.declared.ScoreFault.TheVariants.{NoSuchLeg, Unsafe, NoMemory}
+use Rattle.graph_score.specs.declared.outlooks.Outlook.{Outlook}
+use Rattle.graph_score.specs.declared.outlooks.Outlook.TheVariants.{Safe, Failing}
 use Rattle.graph_score.specs.Legs.{legs_of, IsFitLeg, IsFirstWrong}
 use Rattle.graph_score.specs.Failures.{Fails, IsFirstFailure}
 use Rattle.graph_score.specs.Spans.{span_of}
@@ -26,6 +28,11 @@ pub record IsScored (network : NetworkModel) (query : Query) (tree : Tree) (boun
 pub record IsUnsafe (network : NetworkModel) (query : Query) (tree : Tree) (p x : ℕ) : Type 0 where
   pub unsafe : IsSafeFor network query tree → ⊥
   pub first : IsFirstFailure (Fails query tree) p x
+
+-- the bounds of a tree that is safe, or where and when the traveller may fail first
+abbrev pub IsScoreOf : NetworkModel → Query → Tree → Outlook → Type 0
+IsScoreOf network query tree (Safe bounds) = IsScored network query tree bounds
+IsScoreOf network query tree (Failing f) = IsUnsafe network query tree f.place.0 f.moment.0
 
 -- the bounds of the graph's tree; or why it has none
 abbrev pub IsScore : NetworkModel → Query → PlanGraph → Result Interval ScoreFault → Type 0

@@ -17,7 +17,7 @@ pub enum GraphLeg {
     Row(PlaceId, GraphRow),
 }
 
-/// Puts the legs of a table on the list.
+/// Adds the legs of a table to the list.
 fn push_rows(legs: &mut Vec<GraphLeg>, place: PlaceId, rows: &[GraphRow]) -> Result<(), NoMemory>
     ensures { OnOk result (legs.new.items ≡ legs.old.items ++ map (λ row. GraphLeg.Row place row) rows.now) }
 {
@@ -90,7 +90,7 @@ fn fits(network: &Network, query: &Query, leg: &GraphLeg) -> bool
     }
 }
 
-/// The place in the list of the first leg that does not fit.
+/// The index of the first leg that does not fit; `None` if all do.
 pub fn first_wrong(network: &Network, query: &Query, legs: &[GraphLeg]) -> Option<usize>
     ensures wrong { IfSome result (λ at. IsFirstWrong network.now query.now legs.now (at + 1)) }
     ensures none { IfNone result (All (IsFitLeg network.now query.now) legs.now) }

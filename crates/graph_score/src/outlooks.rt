@@ -1,36 +1,37 @@
 //! What comes of leaving by each connection, the last ones first.
-ghost use Rattle.std.specs.Prelude.{◌≡◌, ◌+◌, ◌<◌, length, slice_index_or, IfOk, AllPairs, Some, None, Option as Maybe};
+ghost use Rattle.std.specs.Prelude.{◌≡◌, ◌+◌, ◌<◌, length, slice_index_or, IfOk, Some, None, Option as Maybe};
 ghost use Rattle.plan_model.specs.Bounds.{end_of_time};
 ghost use Rattle.plan_model.specs.Network.{count};
 ghost use Rattle.plan_model.specs.Order.{IsScanOrder};
 ghost use Rattle.plan_model.specs.DelayRows.{IsValidRow};
 ghost use Rattle.interval_fixed.specs.Means.{mean_of};
-ghost use Rattle.plan_graph.specs.PickedRows.{pick_row, rows_of_place};
-ghost use Rattle.graph_score.specs.Legs.{HasRisingTables};
+ghost use Rattle.plan_graph.specs.PickedRows.{HasRisingTables};
 ghost use Rattle.graph_score.specs.Steps.{no_outlook, is_sooner, sooner_failure, first_failure_of, spans_in, blend_of, arrived_outlook, outlook_at, outlook_of, AreFitRows, AreOutlooks};
 ghost use Rattle.interval_fixed.specs.Interval.{end_of_nanos};
 
 use arrayvec::ArrayVec;
 use interval_fixed::Span;
-use plan_graph::{GraphRow, PlaceTable, PlanGraph};
-use plan_model::{
-    BackwardOrder, ConnectionId, Leg, Moment, Network, NoMemory, Outcome, PlaceId, Query,
-};
+use plan_graph::PlanGraph;
+use plan_model::{BackwardOrder, ConnectionId, Moment, Network, NoMemory, Outcome, PlaceId, Query};
 use std::alloc::Global;
 
-/// Where a traveller is stuck, or too late, and when.
+/// A place where a traveller is stuck or too late, and since when.
 #[derive(Clone, Copy)]
 pub struct Failure {
+    /// The arrival at the place.
     pub moment: Moment,
+    /// The place.
     pub place: PlaceId,
 }
 
 /// What comes of what a traveller does.
 #[derive(Clone, Copy)]
 pub enum Outlook {
-    /// The target in time, whatever the delays, with bounds on the expected arrival.
+    /// The traveller reaches the target in time, whatever the delays, with these bounds on the expected
+    /// arrival, in nanoseconds since 1970-01-01.
     Safe(Span),
-    /// A failure that may come: the first of them.
+    /// The traveller may fail, and this is the first failure that may come: the one at the least moment,
+    /// and of these the one at the least place.
     Failing(Failure),
 }
 
@@ -52,34 +53,6 @@ pub struct RisingGraph<'a> {
     pub ghost rising: { HasRisingTables graph.now },
 }
 
-/// The rows of a place; none where it has no table.
-fn rows_at(tables: &[PlaceTable], place: PlaceId) -> &[GraphRow]
-    requires { AllPairs (λ a b. a.place.0 < b.place.0) tables.now }
-    ensures { result.now ≡ rows_of_place tables.now place.0 }
-{
-    let at = tables.partition_point(|table| table.place.0 < place.0);
-    if at == tables.len() {
-        return &[];
-    }
-    let table = &tables[at];
-    if table.place.0 != place.0 {
-        return &[];
-    }
-    table.rows.as_slice()
-}
-
-/// The leg of the first row that is not before the arrival.
-fn leg_at(rows: &[GraphRow], arrival: Moment) -> Option<Leg>
-    requires { AllPairs (λ a b. a.by.0 < b.by.0) rows.now }
-    ensures { result ≡ pick_row rows.now arrival.0 }
-{
-    let at = rows.partition_point(|row| row.by.0 < arrival.0);
-    if at == rows.len() {
-        return None;
-    }
-    Some(rows[at].leg)
-}
-
 /// Whether one failure is before another: by moment, and then by place.
 fn is_sooner(a: Failure, b: Failure) -> bool
     ensures { result ≡ is_sooner a b }
@@ -98,12 +71,12 @@ fn sooner(a: Option<Failure>, b: Failure) -> Failure
 }
 
 /// The first of the failures that may come.
-fn first_failure(kids: &[Outlook]) -> Option<Failure>
-    ensures { result ≡ first_failure_of Maybe.None kids.now }
+fn first_failure(children: &[Outlook]) -> Option<Failure>
+    ensures { result ≡ first_failure_of Maybe.None children.now }
 {
     let mut first = None;
-    for kid in kids {
-        if let Outlook::Failing(failure) = kid {
+    for child in children {
+        if let Outlook::Failing(failure) = child {
             first = Some(sooner(first, *failure));
         }
     }
@@ -111,14 +84,14 @@ fn first_failure(kids: &[Outlook]) -> Option<Failure>
 }
 
 /// The mean of the bounds after the outcomes, rounded outward.
-fn mean(row: &[Outcome], kids: &[Outlook]) -> Span
+fn mean(row: &[Outcome], children: &[Outlook]) -> Span
     requires row { IsValidRow row.now }
-    requires as_many { length row.now ≡ length (spans_in kids.now) }
-    ensures { result ≡ mean_of row.now (spans_in kids.now) }
+    requires as_many { length row.now ≡ length (spans_in children.now) }
+    ensures { result ≡ mean_of row.now (spans_in children.now) }
 {
     let mut spans: ArrayVec<Span, 64> = ArrayVec::new();
-    for kid in kids {
-        if let Outlook::Safe(span) = kid {
+    for child in children {
+        if let Outlook::Safe(span) = child {
             spans.push(*span);
         }
     }
@@ -126,14 +99,14 @@ fn mean(row: &[Outcome], kids: &[Outlook]) -> Span
 }
 
 /// What comes of a ride, by what comes after each of its outcomes.
-fn blend(row: &[Outcome], kids: &[Outlook]) -> Outlook
+fn blend(row: &[Outcome], children: &[Outlook]) -> Outlook
     requires row { IsValidRow row.now }
-    requires as_many { length row.now ≡ length kids.now }
-    ensures { result ≡ blend_of row.now kids.now }
+    requires as_many { length row.now ≡ length children.now }
+    ensures { result ≡ blend_of row.now children.now }
 {
-    match first_failure(kids) {
+    match first_failure(children) {
         Some(failure) => Outlook::Failing(failure),
-        None => Outlook::Safe(mean(row, kids)),
+        None => Outlook::Safe(mean(row, children)),
     }
 }
 
@@ -149,7 +122,7 @@ pub fn arrived(deadline: Moment, place: PlaceId, moment: Moment) -> Outlook
     }
 }
 
-/// What comes of leaving by a connection, where that is told.
+/// What comes of leaving by a connection, if that is known.
 pub fn told(outlooks: &[Outlook], exit: ConnectionId) -> Outlook
     ensures { result ≡ slice_index_or outlooks.now exit.0 no_outlook }
 {
@@ -173,7 +146,7 @@ fn outlook_at(
     if place.0 == query.target.0 {
         return arrived(query.deadline, place, moment);
     }
-    match leg_at(rows_at(rising.graph.tables.as_slice(), place), moment) {
+    match rising.graph.pick_rising(place, moment) {
         None => Outlook::Failing(Failure { moment, place }),
         Some(leg) => told(outlooks, leg.exit),
     }
@@ -192,15 +165,15 @@ fn outlook_of(
 {
     let exit = network.get(id);
     let row = network.row(exit.class);
-    let mut kids: ArrayVec<Outlook, 64> = ArrayVec::new();
+    let mut children: ArrayVec<Outlook, 64> = ArrayVec::new();
     for outcome in row {
         let moment = Moment(exit.arr.0 + u64::from(outcome.delay));
-        kids.push(outlook_at(rising, query, outlooks, exit.to, moment));
+        children.push(outlook_at(rising, query, outlooks, exit.to, moment));
     }
-    blend(row, &kids)
+    blend(row, &children)
 }
 
-/// What comes of leaving by each connection, told in the scan order, the last one first.
+/// What comes of leaving by each connection, found in the scan order, the last one first.
 pub fn outlooks_of<B: BackwardOrder>(
     alloc: Global,
     order: &mut B,

@@ -5,3 +5,4 @@ pub mod Rounded
 pub mod Punctual
 pub mod Shifts
 pub mod Spelled
+mod LeastChances

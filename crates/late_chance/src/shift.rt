@@ -10,10 +10,10 @@ use plan_graph::{GraphRow, PlaceTable, PlanGraph};
 use plan_model::{Connection, ConnectionId, List, Moment, Network, NoMemory, Query};
 use std::alloc::Global;
 
-/// How long before a promise the moment is from which a network is seen for it, in seconds: a week.
+/// A week in seconds. A network is shifted so that the promised moment is a week after the first of all time.
 pub const SECONDS_PER_WEEK: u64 = 604_800;
 
-/// The rows by so many seconds later.
+/// The rows by this number of seconds later.
 fn later_rows(alloc: Global, rows: &[GraphRow], seconds: u64) -> Result<List<GraphRow>, NoMemory>
     requires { All (λ row. row.by.0 + seconds < 2 ^ 64) rows.now }
     ensures { IfOk result (λ later. later ≡ map (later_row seconds) rows.now) }
@@ -28,8 +28,7 @@ fn later_rows(alloc: Global, rows: &[GraphRow], seconds: u64) -> Result<List<Gra
     Ok(List::from_vec(later))
 }
 
-/// The graph with all moments so many seconds later. `NoMemory` comes where there is no memory for
-/// it.
+/// The graph with all moments this number of seconds later.
 pub fn unshifted(alloc: Global, graph: &PlanGraph, seconds: u64) -> Result<PlanGraph, NoMemory>
     requires { All (λ table. All (λ row. row.by.0 + seconds < 2 ^ 64) table.rows) graph.now.tables }
     ensures { IfOk result (λ later. later ≡ later_graph seconds graph.now) }
@@ -46,7 +45,7 @@ pub fn unshifted(alloc: Global, graph: &PlanGraph, seconds: u64) -> Result<PlanG
     })
 }
 
-/// The query with its start and its deadline so many seconds sooner, and 0 where they would be before
+/// The query with its start and its deadline this number of seconds sooner, and 0 if they would be before
 /// all time.
 pub fn sooner(query: &Query, seconds: u64) -> Query
     ensures { result ≡ sooner_query seconds query.now }
@@ -59,7 +58,7 @@ pub fn sooner(query: &Query, seconds: u64) -> Query
     }
 }
 
-/// A moment so many seconds sooner, and the first of all time where it would be before that.
+/// A moment this number of seconds sooner, and the first of all time if it would be before that.
 fn moment_before(moment: Moment, seconds: u64) -> Moment
     ensures { result ≡ record { 0 = moment.0 - seconds } }
 {
@@ -96,10 +95,9 @@ fn seen_connections(
     Ok(List::from_vec(seen))
 }
 
-/// The network as it is seen from the start on: no connection before the start can be boarded, and
-/// all moments are less by so many seconds that the promised one is 1970-01-08T00:00:00, or 0 where
-/// they would be before all time; for a promise before that they stay. Places, delays and links stay. `NoMemory` comes where there is no
-/// memory for it.
+/// The network as it is seen from the start on: no connection before the start can be boarded, and all
+/// moments are sooner by the time from 1970-01-08T00:00:00 to the promised one, or 0 if they would be before
+/// all time; for a promise before 1970-01-08T00:00:00 they stay. Places, delays and links stay.
 pub fn shifted(
     alloc: Global,
     network: &Network,

@@ -3,7 +3,7 @@ ghost use Rattle.std.specs.Prelude.{◌≡◌, ◌≤◌};
 ghost use Rattle.plan_model.specs.Bounds.{certainty};
 ghost use Rattle.late_chance.specs.ChanceTexts.{chance_text};
 
-/// The text of a chance in units of 10 to the -18: a digit, a point and 18 digits.
+/// The text of a chance that is given in units of 10 to the -18: a digit, a point and 18 digits.
 pub fn write_chance(chance: u64) -> [u8; 20]
     requires { chance ≤ certainty }
     ensures { result ≡ chance_text chance }

@@ -8,7 +8,7 @@ use Rattle.plan_model.specs.Unfold.{outcomes_of, kids_after, unfold_after}
 use Rattle.plan_graph.specs.Ready.{IsLegOf}
 use Rattle.trip_replay.specs.declared.Ridden.{Ridden}
 use Rattle.trip_replay.specs.Positions.{has_delay, delayed_arrival, tree_at}
-use Rattle.trip_replay.specs.Rides.{IsRide, arrival_after, place_after}
+use Rattle.trip_replay.specs.Rides.{IsRidden, arrival_after, place_after}
 use Rattle.std.proofs.lemmas.Bool.{cases_eq}
 use Rattle.std.proofs.lemmas.List.{drop_more}
 use Rattle.plan_model.specs.declared.model.Outcome.{Outcome}
@@ -31,7 +31,7 @@ delay_some n leg delay x true is some = (is, (cc))
 delay_some n leg delay x false is some = absurd (cc)
 
 -- the ride of a leg with a delay that it can have
-pub is_ride : (n : NetworkModel) (leg : Leg) (delay x : ℕ) → IsLegOf n leg → delayed_arrival n leg delay ≡ Some x → IsRide n (record { leg = leg; delay = delay; arrival = record { 0 = x } })
+pub is_ride : (n : NetworkModel) (leg : Leg) (delay x : ℕ) → IsLegOf n leg → delayed_arrival n leg delay ≡ Some x → IsRidden n (record { leg = leg; delay = delay; arrival = record { 0 = x } })
 is_ride n leg delay x is some =
     let both = delay_some n leg delay x (has_delay (outcomes_of n leg) delay) refl some in
     record { is_leg = is; is_delay = both.0; late = (cc) }
@@ -63,11 +63,11 @@ module _ (n : NetworkModel) (target : ℕ) (choice : Leg → ℕ → Option Leg)
   rides_on : (leg : Leg) (d : ℕ) → s.place.0 ≢ target → s.next ≡ Some leg → i < length delays
       → walk n (tree_at n target choice s) (drop i delays) behind ≡
       (if has_delay (outcomes_of n leg) (slice_index_or delays i d) then walk n
-      (unfold_after n target choice s.left leg (arr_of n leg.exit.0 + slice_index_or delays i d)) (drop (i + 1) delays)
+      (unfold_after n target choice s.remaining leg (arr_of n leg.exit.0 + slice_index_or delays i d)) (drop (i + 1) delays)
       (behind ++ ride_with_delay n leg.enter.0 leg.exit.0 (slice_index_or delays i d) ∷ []) else Err (fault.NotADelay (length behind + 1)))
   rides_on leg d away is within =
       rw (ne_eqb s.place.0 target away, is, drop_more delays i d within)
-      (kid_walk n (unfold_after n target choice s.left leg) (arr_of n leg.exit.0) (outcomes_of n leg) leg.enter.0 leg.exit.0 (slice_index_or delays i d)
+      (kid_walk n (unfold_after n target choice s.remaining leg) (arr_of n leg.exit.0) (outcomes_of n leg) leg.enter.0 leg.exit.0 (slice_index_or delays i d)
       (drop (i + 1) delays) behind)
 
   delay_none : (leg : Leg) (delay : ℕ) (test : Bool) → has_delay (outcomes_of n leg) delay ≡ test
@@ -82,12 +82,12 @@ module _ (n : NetworkModel) (target : ℕ) (choice : Leg → ℕ → Option Leg)
 
   -- after a ride
   pub after_ride : (leg : Leg) (d x : ℕ) → s.place.0 ≢ target → s.next ≡ Some leg → i < length delays → delayed_arrival n leg (slice_index_or delays i d) ≡ Some x
-      → walk n (tree_at n target choice s) (drop i delays) behind ≡ walk n (unfold_after n target choice s.left leg x) (drop (i + 1) delays)
+      → walk n (tree_at n target choice s) (drop i delays) behind ≡ walk n (unfold_after n target choice s.remaining leg x) (drop (i + 1) delays)
       (behind ++ (record { leg = leg; delay = slice_index_or delays i d; arrival = record { 0 = x } }) ∷ [])
   after_ride leg d x away is within some =
       let both = delay_some n leg (slice_index_or delays i d) x (has_delay (outcomes_of n leg) (slice_index_or delays i d)) refl some in
       rides_on leg d away is within
-      ∙ rw both.0 (ap (λ (y : ℕ). walk n (unfold_after n target choice s.left leg y) (drop (i + 1) delays)
+      ∙ rw both.0 (ap (λ (y : ℕ). walk n (unfold_after n target choice s.remaining leg y) (drop (i + 1) delays)
       (behind ++ (record { leg = leg; delay = slice_index_or delays i d; arrival = record { 0 = y } }) ∷ [])) both.1)
 
 -- a safe tree ends no walk as stuck, nor too late
@@ -126,13 +126,13 @@ safe_answer n q tree delays (Ok trace) is safe = subst (λ (r : Result Trace Rep
 safe_answer n q tree delays (Err (fault.Stuck place moment)) is safe = subst (λ (r : Result Trace ReplayFault). IsSafeAnswer q.deadline.0 r) is (safe_start n q tree delays safe)
 safe_answer n q tree delays (Err e) is safe = tt
 
-pub next_leg : (n : NetworkModel) (tables : List PlaceTable) → All (IsFitTable n) tables → (place x left : ℕ) (found : Option Leg)
-    → found ≡ pick_at tables place x → 0 < left → IfSome found (λ next. IsLegOf n next × (left - 1 < left))
-next_leg n tables fit place x left None is some = tt
-next_leg n tables fit place x left (Some leg) is some = (picked_leg n tables fit place x leg (sym is), omega (arith, some))
+pub next_leg : (n : NetworkModel) (tables : List PlaceTable) → All (IsFitTable n) tables → (place x remaining : ℕ) (found : Option Leg)
+    → found ≡ pick_at tables place x → 0 < remaining → IfSome found (λ next. IsLegOf n next × (remaining - 1 < remaining))
+next_leg n tables fit place x remaining None is some = tt
+next_leg n tables fit place x remaining (Some leg) is some = (picked_leg n tables fit place x leg (sym is), omega (arith, some))
 
 -- a leg that is next leaves fewer rides
-pub next_step : (n : NetworkModel) (most before left new_left : ℕ) (next : Option Leg) → IfSome next (λ leg. IsLegOf n leg × (new_left < left))
-    → before + left < most → IfSome next (λ leg. IsLegOf n leg × (before + 1 + new_left < most))
-next_step n most before left new_left None said few = tt
-next_step n most before left new_left (Some leg) said few = (said.0, omega (arith, said.1, few))
+pub next_step : (n : NetworkModel) (most before remaining new_left : ℕ) (next : Option Leg) → IfSome next (λ leg. IsLegOf n leg × (new_left < remaining))
+    → before + remaining < most → IfSome next (λ leg. IsLegOf n leg × (before + 1 + new_left < most))
+next_step n most before remaining new_left None said few = tt
+next_step n most before remaining new_left (Some leg) said few = (said.0, omega (arith, said.1, few))

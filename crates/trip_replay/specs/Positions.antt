@@ -22,4 +22,4 @@ abbrev pub tree_at : NetworkModel → ℕ → (Leg → ℕ → Option Leg) → P
 tree_at network target choice s =
     if s.place.0 == target
     then Done s.moment.0
-    else ride_or_stuck network (unfold_after network target choice s.left) s.next s.place.0 s.moment.0
+    else ride_or_stuck network (unfold_after network target choice s.remaining) s.next s.place.0 s.moment.0

@@ -11,7 +11,7 @@ use Rattle.trip_replay.specs.declared.ReplayFault.TheVariants.{NotADelay, TooFew
 use Rattle.trip_replay.specs.Positions.{has_delay}
 
 -- a leg of the network, with a delay that it can have and the arrival that follows from it
-pub record IsRide (network : NetworkModel) (r : Ridden) : Type 0 where
+pub record IsRidden (network : NetworkModel) (r : Ridden) : Type 0 where
   pub is_leg : IsLegOf network r.leg
   pub is_delay : has_delay (outcomes_of network r.leg) r.delay ≡ true
   pub late : r.arrival.0 ≡ arr_of network r.leg.exit.0 + r.delay
@@ -29,7 +29,7 @@ place_after network source (r ∷ rides) = place_after network (to_of network r.
 -- a traveller is stuck where some rides end, when they do
 abbrev pub IsStuckAfter : NetworkModel → Query → ReplayFault → Type 0
 IsStuckAfter network query (Stuck place moment) =
-    (rides : List Ridden) × All (IsRide network) rides × (place.0 ≡ place_after network query.source.0 rides) × (moment.0 ≡ arrival_after query.start.0 rides)
+    (rides : List Ridden) × All (IsRidden network) rides × (place.0 ≡ place_after network query.source.0 rides) × (moment.0 ≡ arrival_after query.start.0 rides)
 IsStuckAfter network query (NotADelay number) = Unit {0}
 IsStuckAfter network query (TooFew ridden) = Unit {0}
 IsStuckAfter network query (TooMany ridden) = Unit {0}

@@ -1,4 +1,7 @@
-//! A trip by a graph, as the delays come.
+//! A trip by a graph, with the delay of each ride given.
+//!
+//! A call that takes an allocator may answer that there is no memory, as `NoMemory` or as the variant
+//! of that name; then what it was lent is as it was, unless its own comment says otherwise.
 #![tactic(auto)]
 
 ghost use Rattle.std.specs.Prelude.{◌≡◌, ◌+◌, ◌-◌, ◌<◌, ◌≤◌, [], All, IfSome, IfOk, IfErr};
@@ -12,7 +15,7 @@ ghost use Rattle.plan_graph.specs.Tidy.{IsFit};
 ghost use Rattle.plan_graph.specs.Unfold.{unfold_plan};
 ghost use Rattle.trip_replay.specs.Walk.{walk, IsAnswer, IsSafeAnswer};
 ghost use Rattle.trip_replay.specs.Positions.{delayed_arrival, tree_at};
-ghost use Rattle.trip_replay.specs.Rides.{IsRide, arrival_after, IsStuckAfter};
+ghost use Rattle.trip_replay.specs.Rides.{IsRidden, arrival_after, IsStuckAfter};
 
 mod laws;
 
@@ -28,14 +31,14 @@ pub struct Ridden {
     pub leg: Leg,
     /// Its delay in seconds.
     pub delay: u32,
-    /// When it came in: at the scheduled arrival of its exit and the delay.
+    /// The arrival: the scheduled one of its exit, and the delay.
     pub arrival: Moment,
 }
 
 /// The rides of a trip, and its arrival at the target.
 #[derive(Drop)]
 pub struct Trace {
-    /// The rides, one after the other. None where source and target are one place.
+    /// The rides, one after the other; there are none if source and target are one place.
     pub rides: List<Ridden>,
     /// When the traveller is at the target: the arrival of the last ride, or the start if there is
     /// no ride.
@@ -45,16 +48,16 @@ pub struct Trace {
 /// Why there is no trip with these delays.
 #[derive(Clone, Copy, Debug, PartialEq, Eq)]
 pub enum ReplayFault {
-    /// The delay of this number, where the first one is 1, is none of its leg's.
+    /// The delay with this number, from 1 on, is none of its leg's.
     NotADelay(u32),
-    /// After so many rides another leg is taken, and no delay is left.
+    /// After this number of rides another leg is taken, and no delay remains.
     TooFew(u32),
-    /// After so many rides the traveller is at the target, and delays are left.
+    /// After this number of rides the traveller is at the target, and delays remain.
     TooMany(u32),
     /// At the place, with an arrival at the moment, no leg is taken: its table has no row for the
     /// arrival, or it has no table.
     Stuck(PlaceId, Moment),
-    /// There was no memory.
+    /// Memory ran out.
     NoMemory,
 }
 
@@ -68,16 +71,17 @@ impl From<NoMemory> for ReplayFault {
     }
 }
 
-/// Where the traveller is, since when, which leg is taken next, and how many rides may follow it.
+/// The place where a traveller is, the arrival there, the leg that is taken next, and the number of rides
+/// that may follow it.
 #[derive(Clone, Copy)]
 struct Position {
     place: PlaceId,
     moment: Moment,
     next: Option<Leg>,
-    left: u32,
+    remaining: u32,
 }
 
-/// The arrival of a leg with a delay, where it can have that delay.
+/// The arrival of a leg with a delay; `None` if it cannot have that delay.
 fn arrival_of(network: &Network, leg: Leg, delay: u32) -> Option<Moment>
     requires { leg.exit.0 < count network.now }
     ensures { option_map (λ moment. moment.0) result ≡ delayed_arrival network.now leg delay }
@@ -91,40 +95,40 @@ fn arrival_of(network: &Network, leg: Leg, delay: u32) -> Option<Moment>
     None
 }
 
-/// Where the traveller stands after a leg.
+/// The position of the traveller after a leg.
 fn position_after(
     graph: &PlanGraph,
     network: &Network,
     query: &Query,
     leg: Leg,
     arrival: Moment,
-    left: u32,
+    remaining: u32,
 ) -> Position
     requires fit { IsFit network.now query.now graph.now }
     requires leg { IsLegOf network.now leg }
     ensures tree { tree_at network.now query.now.target.0
         (by_place network.now (pick_at graph.now.tables)) result
         ≡ unfold_after network.now query.now.target.0
-        (by_place network.now (pick_at graph.now.tables)) left leg arrival.0 }
-    ensures next { IfSome result.next (λ next. IsLegOf network.now next × (result.left < left)) }
-    ensures left { result.left ≤ left }
+        (by_place network.now (pick_at graph.now.tables)) remaining leg arrival.0 }
+    ensures next { IfSome result.next (λ next. IsLegOf network.now next × (result.remaining < remaining)) }
+    ensures remaining { result.remaining ≤ remaining }
     ensures place { result.place.0 ≡ to_of network.now leg.exit.0 }
     ensures moment { result.moment ≡ arrival }
 {
     let place = network.get(leg.exit).to;
-    if left == 0 {
+    if remaining == 0 {
         return Position {
             place,
             moment: arrival,
             next: None,
-            left: 0,
+            remaining: 0,
         };
     }
     Position {
         place,
         moment: arrival,
-        next: graph.pick(place, arrival),
-        left: left - 1,
+        next: graph.pick_rising(place, arrival),
+        remaining: remaining - 1,
     }
 }
 
@@ -139,7 +143,7 @@ fn follow(
     requires { IsFit network.now query.now graph.now }
     ensures walk { IsAnswer result (walk network.now
         (unfold_plan graph.now network.now query.now) delays.now []) }
-    ensures rides { IfOk result (λ trace. All (IsRide network.now) trace.rides) }
+    ensures rides { IfOk result (λ trace. All (IsRidden network.now) trace.rides) }
     ensures arrival { IfOk result (λ trace.
         trace.arrival.0 ≡ arrival_after query.now.start.0 trace.rides) }
     ensures stuck { IfErr result (IsStuckAfter network.now query.now) }
@@ -149,7 +153,7 @@ fn follow(
         place: query.source,
         moment: query.start,
         next: graph.start,
-        left: network.count().saturating_sub(1),
+        remaining: network.count().saturating_sub(1),
     };
     for delay in delays {
         if position.place == query.target {
@@ -167,7 +171,7 @@ fn follow(
             arrival,
         };
         rides.push(ridden)?;
-        position = position_after(graph, network, query, leg, arrival, position.left);
+        position = position_after(graph, network, query, leg, arrival, position.remaining);
     }
     if position.place == query.target {
         return Ok(Trace {
@@ -181,8 +185,9 @@ fn follow(
     }
 }
 
-/// The trip by the graph with these delays, leg by leg. Where the graph's tree is safe for the
-/// query, the traveller is never stuck and arrives by the deadline.
+/// The trip by the graph with these delays, leg by leg. A fault is that of the first ride at which the walk
+/// cannot go on, as `ReplayFault` says. If the graph's tree is safe for the query, the traveller is never
+/// stuck and arrives by the deadline.
 pub fn replay(
     alloc: Global,
     graph: &PlanGraph,
@@ -195,7 +200,7 @@ pub fn replay(
         (unfold_plan graph.now network.now query.now) delays.now []) }
     ensures safe { IsSafeFor network.now query.now (unfold_plan graph.now network.now query.now)
         → IsSafeAnswer query.now.deadline.0 result }
-    ensures rides { IfOk result (λ trace. All (IsRide network.now) trace.rides) }
+    ensures rides { IfOk result (λ trace. All (IsRidden network.now) trace.rides) }
     ensures arrival { IfOk result (λ trace.
         trace.arrival.0 ≡ arrival_after query.now.start.0 trace.rides) }
     ensures stuck { IfErr result (IsStuckAfter network.now query.now) }

@@ -11,7 +11,7 @@ use Rattle.plan_graph.specs.Ready.{IsLegOf}
 use Rattle.trip_replay.specs.declared.Ridden.{Ridden}
 use Rattle.trip_replay.specs.declared.ReplayFault.TheVariants as fault
 use Rattle.trip_replay.specs.Walk.{walk}
-use Rattle.trip_replay.specs.Rides.{IsRide, arrival_after, place_after}
+use Rattle.trip_replay.specs.Rides.{IsRidden, arrival_after, place_after}
 use Rattle.trip_replay.proofs.Walks.{is_ride, arrival_after-push, place_after-push, too_many, not_a_delay, after_ride, next_step}
 use Rattle.trip_replay.proofs.follow.Goals as goal
 
@@ -54,13 +54,13 @@ loop-delay-preserved c =
       walk = c.loop-delay.invariant.walk
           ∙ after_ride n target choice s behind c.args.delays.now c.loop-delay.delay-index c.in-Some.leg 0 c.in-Some-arrival_of.arrival.0
           (eqb-false s.place.0 target (sym c.eq.ensures ∙ c.if-eq.false)) c.in-Some.is c.loop-delay-test.true some
-          ∙ ap (λ (list : List Ridden). walk n (unfold_after n target choice s.left c.in-Some.leg c.in-Some-arrival_of.arrival.0) rest list) (sym pushed)
+          ∙ ap (λ (list : List Ridden). walk n (unfold_after n target choice s.remaining c.in-Some.leg c.in-Some-arrival_of.arrival.0) rest list) (sym pushed)
           ∙ ap (λ (tree : Tree). walk n tree rest c.push.new.self) (sym c.position_after-position.ensures.tree);
-      next = subst (λ (k : ℕ). IfSome c.position_after-position.result.next (λ leg. IsLegOf n leg × (k + c.position_after-position.result.left < count n))) (sym more)
-          (next_step n (count n) (length behind) s.left c.position_after-position.result.left c.position_after-position.result.next c.position_after-position.ensures.next few);
-      few = omega (arith, more, few, c.position_after-position.ensures.left);
-      rides = subst (All (IsRide n)) (sym pushed)
-          (All-push (IsRide n) behind _ c.loop-delay.invariant.rides
+      next = subst (λ (k : ℕ). IfSome c.position_after-position.result.next (λ leg. IsLegOf n leg × (k + c.position_after-position.result.remaining < count n))) (sym more)
+          (next_step n (count n) (length behind) s.remaining c.position_after-position.result.remaining c.position_after-position.result.next c.position_after-position.ensures.next few);
+      few = omega (arith, more, few, c.position_after-position.ensures.remaining);
+      rides = subst (All (IsRidden n)) (sym pushed)
+          (All-push (IsRidden n) behind _ c.loop-delay.invariant.rides
           (is_ride n c.in-Some.leg _ c.in-Some-arrival_of.arrival.0 is_leg some));
       place = c.position_after-position.ensures.place
           ∙ sym (ap (λ (list : List Ridden). place_after n c.args.query.now.source.0 list) pushed ∙ place_after-push n c.args.query.now.source.0 behind _);

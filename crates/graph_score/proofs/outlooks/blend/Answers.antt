@@ -3,4 +3,4 @@ use Rattle.graph_score.proofs.Failures.{length_spans}
 use Rattle.graph_score.proofs.outlooks.blend.Goals as goal
 
 pub mean-requires-clause-as_many : goal.mean-requires-clause-as_many
-mean-requires-clause-as_many c = c.requires.as_many ∙ sym (length_spans c.args.kids.now (sym c.first_failure.ensures ∙ c.in-None.is))
+mean-requires-clause-as_many c = c.requires.as_many ∙ sym (length_spans c.args.children.now (sym c.first_failure.ensures ∙ c.in-None.is))

@@ -3,5 +3,5 @@ use Rattle.graph_score.specs.Steps.{first_failure_of}
 use Rattle.graph_score.proofs.outlooks.first_failure.Given as goal
 
 -- the first so far, and those that are left
-abbrev pub invariant-loop-kid : goal.invariant-loop-kid
-invariant-loop-kid l = first_failure_of l.first (drop l.kid-index l.kids) ≡ first_failure_of None l.kids
+abbrev pub invariant-loop-child : goal.invariant-loop-child
+invariant-loop-child l = first_failure_of l.first (drop l.child-index l.children) ≡ first_failure_of None l.children

@@ -4,8 +4,8 @@ use Rattle.graph_score.specs.Steps.{spans_in}
 use Rattle.graph_score.proofs.outlooks.mean.Given as goal
 
 -- the bounds so far, and those that are left
-abbrev pub invariant-loop-kid : goal.invariant-loop-kid
-invariant-loop-kid l = record {
-  copied : l.spans.items ++ spans_in (drop l.kid-index l.kids) ≡ spans_in l.kids;
-  count : array_vec_len l.spans + length (spans_in (drop l.kid-index l.kids)) ≡ length l.row;
+abbrev pub invariant-loop-child : goal.invariant-loop-child
+invariant-loop-child l = record {
+  copied : l.spans.items ++ spans_in (drop l.child-index l.children) ≡ spans_in l.children;
+  count : array_vec_len l.spans + length (spans_in (drop l.child-index l.children)) ≡ length l.row;
 }

@@ -2,7 +2,7 @@ use Rattle.std.proofs.Common.{subst, sym}
 use Rattle.graph_score.specs.Steps.{IsOutlook}
 use Rattle.graph_score.proofs.GraphLegs.{rows_fit, start_fits}
 use Rattle.graph_score.proofs.Trees.{unfold-start}
-use Rattle.graph_score.proofs.outlook.Goals as goal
+use Rattle.graph_score.proofs.outlook_by_legs.Goals as goal
 
 pub outlooks_of-requires-clause-fit : goal.outlooks_of-requires-clause-fit
 outlooks_of-requires-clause-fit c = rows_fit c.args.network.now c.args.query.now c.args.rising.now.graph.now c.requires.fit
