@@ -238,10 +238,15 @@ pub(crate) fn named_trip(known: &KnownTrip) -> Option<NamedTrip<'_>>
     }
 }
 
-/// Keeps this trip, where it is not the one that is known. Its id is copied, since the fields of a record are let go.
-pub(crate) fn keep_trip(known: &mut KnownTrip, id: &[u8], trip: u32) -> Result<(), NoMemory>
-    ensures { OnOk result ((trips : List (List ℕ)) → IsTripOf trips id.now trip → IsKnownIn trips known.old
-        → IsKnownIn trips known.new) }
+/// Keeps the trip of a row, if it is not the one that is known. Its id is copied, since the next record replaces the fields.
+pub(crate) fn keep_trip(
+    known: &mut KnownTrip,
+    row: &Record,
+    columns: TimeColumns,
+    trip: u32,
+) -> Result<(), NoMemory>
+    ensures { OnOk result ((trips : List (List ℕ)) → IsTripOf trips (field_of row.now columns.trip) trip
+        → IsKnownIn trips known.old → IsKnownIn trips known.new) }
 {
     if let Some(last) = known.trip {
         if last == trip {
@@ -249,13 +254,9 @@ pub(crate) fn keep_trip(known: &mut KnownTrip, id: &[u8], trip: u32) -> Result<(
         }
     }
     known.id.clear();
-    match known.id.extend_from_slice(id) {
-        Ok(()) => {
-            known.trip = Some(trip);
-            Ok(())
-        }
-        Err(_) => Err(NoMemory),
-    }
+    known.id.extend_from_slice(row.field_at(columns.trip))?;
+    known.trip = Some(trip);
+    Ok(())
 }
 
 /// The row of a record, or the first field that is not of its form or names nothing.

@@ -48,14 +48,9 @@ fn take_row(
     if let Some(visit) = taken.visit {
         order.keep(visit.stop);
     }
-    match keep_trip(known, row.field_at(columns.trip), taken.trip) {
-        Ok(()) => {}
-        Err(_) => return Err(FeedFault::NoMemory),
-    }
-    match timed.push(StoredRow::of(taken)) {
-        Ok(()) => Ok(()),
-        Err(_) => Err(FeedFault::NoMemory),
-    }
+    keep_trip(known, row, columns, taken.trip)?;
+    timed.push(StoredRow::of(taken))?;
+    Ok(())
 }
 
 /// The fault of a table that has this one, where so many rows stand before the records that are left: where there are too

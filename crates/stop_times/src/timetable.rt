@@ -44,19 +44,14 @@ fn in_order(alloc: Global, rows: &[StoredRow], trips: u32) -> Result<StopTimes, 
         → length (slice_index_or visits trip []) ≤ most_stop_times) }
     ensures tells { TellsFirst StopTimesTable (order_fault rows.now) result }
 {
-    let keys = match sorted_keys(alloc, rows) {
-        Ok(keys) => keys,
-        Err(_) => return Err(FeedFault::NoMemory),
-    };
+    let keys = sorted_keys(alloc, rows)?;
     check_once(rows, keys.as_slice())?;
     let keys = kept_keys(rows, keys);
     if let Some(fault) = first_backward(rows, keys.as_slice()) {
         return Err(fault);
     }
-    match visits_of(alloc, rows, keys.as_slice(), trips) {
-        Ok(visits) => Ok(visits),
-        Err(_) => Err(FeedFault::NoMemory),
-    }
+    let visits = visits_of(alloc, rows, keys.as_slice(), trips)?;
+    Ok(visits)
 }
 
 /// The rows of the stop times with this text, or the first of its faults, as `read_timed_rows` tells them. The indexes of the

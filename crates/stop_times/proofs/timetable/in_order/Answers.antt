@@ -7,7 +7,7 @@ use Rattle.stop_times.proofs.BackLemmas.{backward_is}
 use Rattle.stop_times.proofs.timetable.in_order.Goals as goal
 
 pub returns-in_err-check_once-clause-tells : goal.returns-in_err-check_once-clause-tells
-returns-in_err-check_once-clause-tells c = match_raised _ _ c.from_residual.result c.from_residual.ensures (fault-first _ _ _ c.in_err-check_once.ensures)
+returns-in_err-check_once-clause-tells c = match_raised _ _ c.from_residual-in_err-check_once.result c.from_residual-in_err-check_once.ensures (fault-first _ _ _ c.in_err-check_once.ensures)
 
 pub returns-in-Some-clause-tells : goal.returns-in-Some-clause-tells
 returns-in-Some-clause-tells c =
@@ -16,5 +16,5 @@ returns-in-Some-clause-tells c =
     let w = backward_is c.args.rows.now c.in-Some.fault back in
     record { why = λ free. or_then _ _ _ none back; content = ap unread_of w.1; own = subst (IsFaultOf StopTimes) (sym w.1) refl }
 
-pub returns-in-Ok-visits_of-clause-tells : goal.returns-in-Ok-visits_of-clause-tells
-returns-in-Ok-visits_of-clause-tells c = or_then _ _ _ c.in_ok-check_once.ensures (c.first_backward.ensures c.in_ok-check_once.ensures ∙ c.in_default.is)
+pub returns-clause-tells : goal.returns-clause-tells
+returns-clause-tells c = or_then _ _ _ c.in_ok-check_once.ensures (c.first_backward.ensures c.in_ok-check_once.ensures ∙ c.in_default.is)
