@@ -17,8 +17,8 @@ use Rattle.journey_model.specs.declared.faults.Fault.TheVariants.{GraphFile, NoM
 use Rattle.journey_model.specs.Faults.{unread_of}
 use Rattle.journey_model.specs.Stages.{IsOfInput}
 use Rattle.journey_model.specs.declared.problem.Problem.{Problem}
-use Rattle.graph_answers.specs.Trips.{IsTripFault}
-use Rattle.graph_answers.specs.Scores.{IsUnsafeGraph}
+use Rattle.journey_answers.specs.Trips.{IsTripFault}
+use Rattle.journey_answers.specs.Scores.{IsUnsafeGraph}
 use Rattle.input_files.specs.Files.{bytes_of}
 
 -- a fault of a graph's text as one of the run

@@ -13,7 +13,7 @@ use Rattle.journey_model.specs.declared.faults.Fault.TheVariants.{ProofFile}
 use Rattle.journey_model.specs.Faults.{unread_of}
 use Rattle.journey_model.specs.Stages.{IsOfInput}
 use Rattle.journey_model.specs.declared.problem.Problem.{Problem}
-use Rattle.graph_answers.specs.Checks.{IsBroken}
+use Rattle.journey_answers.specs.Checks.{IsBroken}
 use Rattle.input_files.specs.Files.{bytes_of}
 
 -- a text tells this query and this certificate, of the problem's source and target and from a start on

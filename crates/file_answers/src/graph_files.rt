@@ -13,14 +13,14 @@ ghost use Rattle.file_answers.specs.Paths.{graph_path};
 ghost use Rattle.journey_model.specs.Known.{parts_of};
 ghost use Rattle.journey_report.specs.Findings.{findings_of};
 ghost use Rattle.file_answers.specs.GraphFiles.{graph_as, graph_in, InGraphFile, FailsReplay, FailsScore};
-ghost use Rattle.graph_answers.specs.Trips.{IsTripTold};
-ghost use Rattle.graph_answers.specs.Scores.{IsEnclosed};
+ghost use Rattle.journey_answers.specs.Trips.{IsTripTold};
+ghost use Rattle.journey_answers.specs.Scores.{IsEnclosed};
 
 use csv_rows::Limits;
 use file_ports::Files;
-use graph_answers::{ReadGraph, score_over, trip_over};
 use graph_text::{Head, TextFault, read, read_fits};
 use input_files::load_bytes;
+use journey_answers::{ReadGraph, score_over, trip_over};
 use journey_model::{Fault, Input, Problem, Start};
 use journey_report::Answer;
 use plan_graph::PlanGraph;

@@ -7,13 +7,13 @@ ghost use Rattle.input_files.specs.Files.{HasCauses};
 ghost use Rattle.file_answers.specs.Paths.{proof_path};
 ghost use Rattle.journey_model.specs.Known.{parts_of};
 ghost use Rattle.file_answers.specs.ProofFiles.{TellsProof, FailsText, IsProofFile, InProofFile, FailsProof, FailsCheck};
-ghost use Rattle.graph_answers.specs.Checks.{IsHeld};
+ghost use Rattle.journey_answers.specs.Checks.{IsHeld};
 ghost use Rattle.journey_report.specs.Findings.{findings_of};
 
 use csv_rows::Limits;
 use file_ports::Files;
-use graph_answers::{ReadProof, check_over};
 use input_files::load_bytes;
+use journey_answers::{ReadProof, check_over};
 use journey_model::{Fault, Input, Problem, Start};
 use journey_report::Answer;
 use lower_proof::{LowerBounds, ProofFault, read_text};

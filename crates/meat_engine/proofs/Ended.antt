@@ -18,7 +18,7 @@ use Rattle.journey_problem.specs.Problems.{IsProblem, IsProblemFault}
 use Rattle.input_files.specs.Files.{bytes_of}
 use Rattle.journey_problem.proofs.OneProblem.{one_problem}
 use Rattle.journey_problem.proofs.NoFaults.{none_unread}
-use Rattle.plan_answers.specs.Answers.{IsQueryOf, IsNoSafe}
+use Rattle.journey_answers.specs.Answers.{IsQueryOf, IsNoSafe}
 use Rattle.meat_engine.specs.Asks.{AnswersAsk, FailsAsk, EndsAsk, FailsJourney}
 use Rattle.file_answers.specs.ProofFiles.{FailsFile, FailsCheck}
 use Rattle.meat_engine.specs.Ends.{HasSafe, EndsBySafety, EndsByGraphFile, EndsByProofFile, EndsByScore}

@@ -10,17 +10,17 @@ use Rattle.input_files.specs.Files.{OwnPaths}
 use Rattle.journey_problem.specs.Problems.{FailsBeforeSearch, InProblem}
 use Rattle.journey_report.specs.Findings.{Findings}
 use Rattle.journey_model.specs.Known.{parts_of}
-use Rattle.plan_answers.specs.Answers.{InQuery, TellsWorst, TellsExpanded, TellsPlanned, IsNoSafe}
-use Rattle.plan_answers.specs.Punctual.{TellsPunctual}
+use Rattle.journey_answers.specs.Answers.{InQuery, TellsWorst, TellsExpanded, TellsPlanned, IsNoSafe}
+use Rattle.journey_answers.specs.Punctual.{TellsPunctual}
 use Rattle.file_answers.specs.Paths.{graph_path, proof_path}
 use Rattle.file_answers.specs.GraphFiles.{InGraphFile, FailsReplay, FailsScore}
-use Rattle.graph_answers.specs.Trips.{IsTripTold}
-use Rattle.graph_answers.specs.Scores.{IsEnclosed}
+use Rattle.journey_answers.specs.Trips.{IsTripTold}
+use Rattle.journey_answers.specs.Scores.{IsEnclosed}
 use Rattle.meat_engine.specs.Ends.{EndsByScore, EndsBySafety, EndsByGraphFile, EndsByProofFile, EndsByDepartures, EndsByLatest}
-use Rattle.plan_answers.specs.Certified.{TellsCertificate}
+use Rattle.journey_answers.specs.Certified.{TellsCertificate}
 use Rattle.file_answers.specs.ProofFiles.{InProofFile, FailsCheck}
-use Rattle.graph_answers.specs.Checks.{IsHeld}
-use Rattle.departure_answers.specs.Departures.{query_until, TellsDepartures, TellsLatest, FailsDepartures, FailsLatest}
+use Rattle.journey_answers.specs.Checks.{IsHeld}
+use Rattle.journey_answers.specs.Departures.{query_until, TellsDepartures, TellsLatest, FailsDepartures, FailsLatest}
 
 -- no file is read beside those of the journey
 abbrev pub no_path : OwnPaths

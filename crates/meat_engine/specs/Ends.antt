@@ -19,8 +19,8 @@ use Rattle.journey_model.specs.Faults.{status_of}
 use Rattle.journey_model.specs.declared.problem.Problem.{Problem}
 use Rattle.input_files.specs.Files.{bytes_of}
 use Rattle.file_answers.specs.GraphFiles.{graph_in}
-use Rattle.graph_answers.specs.Trips.{trip_by}
-use Rattle.departure_answers.specs.Departures.{SafeOf, HasSafeFor}
+use Rattle.journey_answers.specs.Trips.{trip_by}
+use Rattle.journey_answers.specs.Departures.{SafeOf, HasSafeFor}
 use Rattle.file_answers.specs.ProofFiles.{IsProofFile, FailsFile}
 
 -- some strategy always reaches the target

@@ -15,7 +15,7 @@ use Rattle.journey_model.specs.Faults.{unread_of}
 use Rattle.journey_model.specs.Sites.{NamedParts}
 use Rattle.journey_model.specs.declared.problem.Problem.{Problem}
 use Rattle.journey_problem.specs.Problems.{InProblem}
-use Rattle.plan_answers.specs.Answers.{InQuery}
+use Rattle.journey_answers.specs.Answers.{InQuery}
 use Rattle.meat_engine.specs.Asks.{FailsJourney}
 use Rattle.journey_report.specs.Findings.{Findings, sample_findings}
 use Rattle.journey_report.specs.AnswerTexts.{leg_count, sample_text}

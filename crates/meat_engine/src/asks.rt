@@ -13,13 +13,14 @@ ghost use Rattle.meat_engine.specs.Refusals.{IsRefusalBy, by_fault};
 use crate::refusal::Refusal;
 use command_line::{Ask, Journey};
 use csv_rows::Limits;
-use departure_answers::{departures_over, latest_over};
 use file_answers::{check_graph_over, check_proof_over, replay_over};
 use file_ports::Files;
+use journey_answers::{
+    certify_over, departures_over, expand_over, latest_over, plan_over, punctual_over, safe_over,
+};
 use journey_model::{Fault, Percent, Problem, Start};
 use journey_problem::problem_of;
 use journey_report::Answer;
-use plan_answers::{certify_over, expand_over, plan_over, punctual_over, safe_over};
 use std::alloc::Global;
 
 /// What is asked about a problem, from a start on.

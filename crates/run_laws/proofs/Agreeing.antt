@@ -29,10 +29,10 @@ use Rattle.std.proofs.lemmas.Bool.Decides.{nat_tests}
 use Rattle.input_files.specs.Files.{bytes_of}
 use Rattle.plan_model.specs.Results.{and_then}
 use Rattle.file_answers.specs.GraphFiles.{graph_in, graph_as, FailsScore}
-use Rattle.graph_answers.specs.Trips.{trip_by}
-use Rattle.plan_answers.specs.Answers.{TellsPlanned, head_of}
-use Rattle.plan_answers.specs.Certified.{TellsCertificate}
-use Rattle.departure_answers.specs.Departures.{query_until}
+use Rattle.journey_answers.specs.Trips.{trip_by}
+use Rattle.journey_answers.specs.Answers.{TellsPlanned, head_of}
+use Rattle.journey_answers.specs.Certified.{TellsCertificate}
+use Rattle.journey_answers.specs.Departures.{query_until}
 use Rattle.meat_engine.specs.Asks.{AnswersAsk, EndsAsk, FailsJourney}
 use Rattle.meat_engine.specs.Ends.{EndsByGraphFile, EndsByWalk}
 use Rattle.meat_engine.specs.Received.{AnswersJob, Outcome}

@@ -26,12 +26,12 @@ use Rattle.journey_model.specs.declared.problem.Problem.{Problem}
 use Rattle.journey_report.specs.Findings.{Findings}
 use Rattle.journey_problem.proofs.NoFaults.{none_unread}
 use Rattle.input_files.specs.Files.{bytes_of}
-use Rattle.graph_answers.specs.Trips.{IsTripTold, IsTripFault, trip_by}
-use Rattle.graph_answers.specs.Scores.{IsEnclosed, IsUnsafeGraph}
-use Rattle.graph_answers.specs.Checks.{IsHeld, IsBroken}
+use Rattle.journey_answers.specs.Trips.{IsTripTold, IsTripFault, trip_by}
+use Rattle.journey_answers.specs.Scores.{IsEnclosed, IsUnsafeGraph}
+use Rattle.journey_answers.specs.Checks.{IsHeld, IsBroken}
 use Rattle.file_answers.specs.GraphFiles.{graph_in, InGraphFile, FailsGraph, FailsReplay, FailsScore}
 use Rattle.file_answers.specs.ProofFiles.{FailsText, FailsFile, FailsCheck, FailsProof, InProofFile}
-use Rattle.plan_answers.specs.Answers.{IsNoSafe}
+use Rattle.journey_answers.specs.Answers.{IsNoSafe}
 use Rattle.meat_engine.specs.Asks.{AnswersAsk, FailsAsk}
 use Rattle.run_laws.proofs.FirstFaults.{NotRead}
 use Rattle.run_laws.proofs.OneFile.{one_err, never_both, read_graph, in_graph, read_bytes, Reads, in_proof}

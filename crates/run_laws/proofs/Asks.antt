@@ -16,7 +16,7 @@ use Rattle.journey_problem.proofs.SameFiles.{same_feed_problem}
 use Rattle.journey_report.specs.Findings.{Findings, findings_of, sample_findings}
 use Rattle.journey_report.specs.AnswerTexts.{leg_count, sample_text}
 use Rattle.journey_report.specs.declared.report.Report.{Report}
-use Rattle.departure_answers.specs.Departures.{query_until}
+use Rattle.journey_answers.specs.Departures.{query_until}
 use Rattle.meat_engine.specs.Asks.{AnswersAsk}
 use Rattle.meat_engine.specs.Received.{AnswersJob, AnswersWords, HasAnswer, Outcome}
 use Rattle.meat_engine.specs.Samples.{sample_journey, sample_alpha, TellsSampled, IsSampled}

@@ -12,10 +12,10 @@ use Rattle.printed_rows.specs.Writers.{place_name}
 use Rattle.journey_model.specs.declared.problem.Problem.{Problem}
 use Rattle.journey_report.specs.Findings.{Findings, certify_findings, check_findings}
 use Rattle.journey_report.specs.AnswerTexts.{holds_text}
-use Rattle.graph_answers.specs.Checks.{IsHeld}
+use Rattle.journey_answers.specs.Checks.{IsHeld}
 use Rattle.file_answers.specs.ProofFiles.{InProofFile}
-use Rattle.plan_answers.specs.Answers.{InQuery}
-use Rattle.plan_answers.specs.Certified.{TellsCertificate}
+use Rattle.journey_answers.specs.Answers.{InQuery}
+use Rattle.journey_answers.specs.Certified.{TellsCertificate}
 use Rattle.run_laws.specs.OneAnswer.{IsOneAnswer}
 use Rattle.run_laws.proofs.Queries.{in_one_query}
 use Rattle.run_laws.proofs.OneFile.{in_proof}

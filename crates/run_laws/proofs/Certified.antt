@@ -24,8 +24,8 @@ use Rattle.journey_model.specs.declared.problem.Problem.{Problem}
 use Rattle.journey_report.specs.Findings.{Findings}
 use Rattle.input_files.specs.Files.{bytes_of}
 use Rattle.file_answers.specs.ProofFiles.{FailsFile, TellsProof}
-use Rattle.plan_answers.specs.Answers.{InQuery}
-use Rattle.plan_answers.specs.Certified.{TellsCertificate}
+use Rattle.journey_answers.specs.Answers.{InQuery}
+use Rattle.journey_answers.specs.Certified.{TellsCertificate}
 use Rattle.meat_engine.specs.Ends.{EndsByProofFile, EndsByVerdict}
 
 -- the bytes of a file that is there and short enough

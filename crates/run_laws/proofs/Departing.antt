@@ -5,7 +5,7 @@ use Rattle.plan_model.specs.declared.model.Query.{Query}
 use Rattle.plan_model.specs.Strategy.{IsLeastWorst}
 use Rattle.plan_model.proofs.Laws.{reaches_from_safe, safe_exists}
 use Rattle.departure_table.proofs.Latest.{safe_sooner}
-use Rattle.departure_answers.specs.Departures.{query_until, HasSafeFor}
+use Rattle.journey_answers.specs.Departures.{query_until, HasSafeFor}
 use Rattle.journey_model.specs.declared.problem.Problem.{Problem}
 use Rattle.meat_engine.specs.Ends.{EndsByDepartures, EndsByLatest, HasLater}
 

@@ -18,8 +18,8 @@ use Rattle.plan_graph.proofs.Tables.{one_found}
 use Rattle.journey_model.specs.declared.problem.Problem.{Problem}
 use Rattle.journey_report.specs.Findings.{Findings, departures_findings}
 use Rattle.journey_report.specs.DepartureTexts.{departures_text}
-use Rattle.departure_answers.specs.ByRules.{IsRuled, AreByRules, added_query}
-use Rattle.departure_answers.specs.Departures.{AreDepartures, TellsDepartures}
+use Rattle.journey_answers.specs.ByRules.{IsRuled, AreByRules, added_query}
+use Rattle.journey_answers.specs.Departures.{AreDepartures, TellsDepartures}
 use Rattle.run_laws.proofs.OneOrder.{one_order}
 use Rattle.run_laws.specs.OneAnswer.{IsOneAnswer}
 

@@ -17,7 +17,7 @@ use Rattle.journey_problem.specs.OneProblem.{HasOneProblem}
 use Rattle.journey_problem.proofs.NoFaults.{no_fault}
 use Rattle.journey_problem.proofs.OneProblem.{one_problem}
 use Rattle.journey_problem.proofs.SameFiles.{same_feed_problem}
-use Rattle.plan_answers.specs.Answers.{IsNoSafe}
+use Rattle.journey_answers.specs.Answers.{IsNoSafe}
 use Rattle.journey_report.specs.Findings.{Findings, findings_of, no_findings}
 use Rattle.journey_report.specs.declared.report.Report.{Report}
 use Rattle.meat_engine.specs.Asks.{FailsAsk, FailsJourney}

@@ -14,10 +14,10 @@ use Rattle.journey_model.specs.declared.problem.Problem.{Problem}
 use Rattle.journey_report.specs.Findings.{Findings, replay_findings, score_findings, latest_findings}
 use Rattle.journey_report.specs.AnswerTexts.{trace_text, encloses_text}
 use Rattle.journey_report.specs.DepartureTexts.{latest_text}
-use Rattle.graph_answers.specs.Trips.{IsTripTold}
-use Rattle.graph_answers.specs.Scores.{IsEnclosed}
+use Rattle.journey_answers.specs.Trips.{IsTripTold}
+use Rattle.journey_answers.specs.Scores.{IsEnclosed}
 use Rattle.file_answers.specs.GraphFiles.{InGraphFile}
-use Rattle.departure_answers.specs.Departures.{SafeOf, TellsLatest}
+use Rattle.journey_answers.specs.Departures.{SafeOf, TellsLatest}
 use Rattle.run_laws.specs.OneAnswer.{IsOneAnswer}
 use Rattle.run_laws.proofs.OneFile.{in_graph}
 

@@ -14,12 +14,12 @@ use Rattle.journey_model.specs.declared.faults.Fault.{Fault}
 use Rattle.journey_model.specs.declared.problem.Problem.{Problem}
 use Rattle.journey_report.specs.Findings.{Findings}
 use Rattle.file_answers.specs.GraphFiles.{graph_in, InGraphFile}
-use Rattle.graph_answers.specs.Scores.{IsEnclosed}
-use Rattle.plan_answers.specs.Answers.{InQuery, TellsPlanned, head_of}
-use Rattle.plan_answers.proofs.Bounds.{bounds_of_graph}
+use Rattle.journey_answers.specs.Scores.{IsEnclosed}
+use Rattle.journey_answers.specs.Answers.{InQuery, TellsPlanned, head_of}
+use Rattle.journey_answers.proofs.Bounds.{bounds_of_graph}
 use Rattle.meat_engine.specs.Ends.{EndsByScore, EndsByGraphFile}
 use Rattle.run_laws.specs.Printed.{ArrivesByFile, KeepsUpperBound}
-use Rattle.graph_answers.specs.Trips.{trip_by}
+use Rattle.journey_answers.specs.Trips.{trip_by}
 use Rattle.trip_replay.specs.declared.Trace.{Trace}
 use Rattle.trip_replay.specs.declared.ReplayFault.{ReplayFault}
 use Rattle.trip_replay.specs.declared.ReplayFault.TheVariants as stop

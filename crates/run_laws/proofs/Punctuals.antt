@@ -14,8 +14,8 @@ use Rattle.late_chance.specs.Punctual.{seen_for, asked_for, shift_for}
 use Rattle.journey_model.specs.declared.problem.Problem.{Problem}
 use Rattle.journey_report.specs.Findings.{Findings, punctual_findings}
 use Rattle.journey_report.specs.AnswerTexts.{punctual_row}
-use Rattle.plan_answers.specs.Answers.{InQuery, head_of}
-use Rattle.plan_answers.specs.Punctual.{IsLeastChance, IsSeenLater, TellsPunctual}
+use Rattle.journey_answers.specs.Answers.{InQuery, head_of}
+use Rattle.journey_answers.specs.Punctual.{IsLeastChance, IsSeenLater, TellsPunctual}
 use Rattle.run_laws.proofs.OneStrategy.{IsThe, only_one}
 use Rattle.run_laws.proofs.PlaceTables.{one_tidy}
 use Rattle.run_laws.specs.OneAnswer.{IsOneAnswer}

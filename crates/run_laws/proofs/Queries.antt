@@ -6,7 +6,7 @@ use Rattle.plan_model.specs.Strategy.{IsLeastWorst, Reaches, deadline_of}
 use Rattle.plan_model.specs.Tree.{Tree, worst}
 use Rattle.plan_model.proofs.Laws.{IsLeast-unique}
 use Rattle.journey_model.specs.declared.problem.Problem.{Problem}
-use Rattle.plan_answers.specs.Answers.{IsQueryOf, HasNoSafe}
+use Rattle.journey_answers.specs.Answers.{IsQueryOf, HasNoSafe}
 
 abbrev query_of : (source target start deadline : ℕ) → Query
 query_of source target start deadline = record { source = record { 0 = source }; target = record { 0 = target }; start = record { 0 = start }; deadline = record { 0 = deadline } }

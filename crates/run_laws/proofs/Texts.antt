@@ -8,7 +8,7 @@ use Rattle.plan_graph.specs.declared.PlanGraph.{PlanGraph}
 use Rattle.graph_text.specs.GraphTexts.{expanded_text, graph_text}
 use Rattle.journey_model.specs.declared.problem.Problem.{Problem}
 use Rattle.journey_report.specs.Findings.{Findings, expand_findings, plan_findings}
-use Rattle.plan_answers.specs.Answers.{InQuery, TellsWorst, TellsExpanded, TellsPlanned, head_of}
+use Rattle.journey_answers.specs.Answers.{InQuery, TellsWorst, TellsExpanded, TellsPlanned, head_of}
 use Rattle.run_laws.proofs.Plans.{one_planned, one_expanded}
 use Rattle.run_laws.specs.OneAnswer.{IsOneAnswer}
 use Rattle.run_laws.proofs.Queries.{in_one_query}

@@ -4,8 +4,8 @@ ghost use Rattle.plan_model.specs.declared.model.Moment.{Moment as Instant};
 ghost use Rattle.plan_model.specs.declared.model.Query.{Query as QueryParts};
 ghost use Rattle.journey_model.specs.declared.problem.Problem.{Problem as ProblemParts};
 ghost use Rattle.journey_report.specs.Findings.{Findings};
-ghost use Rattle.plan_answers.specs.Answers.{IsQueryOf, InQuery, HasNoSafe, TellsWorst, TellsPlanned, TellsExpanded};
-ghost use Rattle.plan_answers.specs.Punctual.{TellsPunctual};
+ghost use Rattle.journey_answers.specs.Answers.{IsQueryOf, InQuery, HasNoSafe, TellsWorst, TellsPlanned, TellsExpanded};
+ghost use Rattle.journey_answers.specs.Punctual.{TellsPunctual};
 ghost use Rattle.run_laws.specs.OneAnswer.{IsOneAnswer};
 
 /// Two answers of `safe` over one problem are one.

@@ -1,3 +1,0 @@
-pub mod TripFaults
-pub mod Unsafe
-pub mod Ends

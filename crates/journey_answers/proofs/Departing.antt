@@ -1,0 +1,93 @@
+-- When one can leave: the latest moment, and that some strategy is safe.
+use Rattle.std.proofs.Common.{◌≡◌, ℕ, zero, ◌<◌, ◌≤◌, List, [], ◌∷◌, length, Option, Some, true, refl, subst, arith, ◌≢◌, MatchOption, All, nat_le}
+use Rattle.std.proofs.lemmas.List.Elements.{All-nil}
+use Rattle.std.proofs.lemmas.Bool.Decides.{nat_tests}
+use Rattle.plan_model.specs.declared.model.Moment.{Moment}
+use Rattle.plan_model.specs.declared.model.PlaceId.{PlaceId}
+use Rattle.plan_model.specs.NetworkModel.{NetworkModel}
+use Rattle.plan_model.specs.Network.{IsValid}
+use Rattle.plan_model.specs.Tree.{Tree, Done, Ride, Stuck}
+use Rattle.plan_model.specs.Strategy.{IsSafeFromStart}
+use Rattle.departure_table.specs.declared.DepartureRow.{DepartureRow}
+use Rattle.departure_table.specs.Departures.{IsNoneSafeFrom, SafeFrom, IsBestFrom, IsDepartureRow, IsGreatestMoment, IsTable, first_row_by}
+use Rattle.journey_model.specs.Sites.{last_printable}
+use Rattle.journey_model.specs.declared.problem.Problem.{Problem}
+use Rattle.plan_model.specs.declared.model.Query.{Query}
+use Rattle.journey_answers.specs.ByRules.{AreByRules}
+use Rattle.journey_answers.specs.Departures.{SafeOf, AreDepartures, HasSafeFor, HasNoneFor}
+
+module _ (n : NetworkModel) (source target deadline : ℕ) where
+  -- whoever is at the target has arrived
+  pub arrived : source ≡ target → (tree : Tree) (moment : ℕ) → IsSafeFromStart n target (Some deadline) tree source moment → moment ≤ deadline
+  arrived same (Done a) moment (is, there, early) = early
+  arrived same (Ride i j kids) moment safe = absurd (safe.0 same)
+  arrived same (Stuck place x) moment safe = absurd safe
+
+  -- who is safe from a moment on leaves by a connection or has arrived by then, so the moment has a text
+  pub leaves_early : IsValid n → deadline ≤ last_printable → (tree : Tree) (moment : ℕ) → IsSafeFromStart n target (Some deadline) tree source moment → moment ≤ last_printable
+  leaves_early valid small (Done a) moment (is, there, early) = omega (arith, early, small)
+  leaves_early valid small (Ride i j kids) moment (away, leg, board, all) =
+      let c = valid.connections i leg.enter in
+      omega (arith, board.1, c.forward, c.early)
+  leaves_early valid small (Stuck place x) moment safe = absurd safe
+
+module _ (p : Problem) (q : Query) where
+  -- at the target one is safe up to the deadline
+  pub latest_at_once : q.source.0 ≡ q.target.0 → q.start.0 ≤ q.deadline.0 → IsGreatestMoment (SafeOf p q) q.start.0 (Some q.deadline)
+  latest_at_once same early = (early, (Done q.deadline.0, (refl, same, omega arith)), too_late)
+    where
+      too_late : (moment : ℕ) → q.deadline.0 < moment → (tree : Tree) → SafeOf p q moment tree → ⊥
+      too_late moment later tree safe =
+          let by = arrived p.timetable.network q.source.0 q.target.0 q.deadline.0 same tree moment safe in
+          omega (arith, later, by)
+
+  -- and the way to do it is to be there
+  pub safe_at_once : q.source.0 ≡ q.target.0 → q.start.0 ≤ q.deadline.0 → HasSafeFor p q
+  safe_at_once same early = (Done q.start.0, (refl, same, early))
+
+  -- the latest moment has a text
+  pub latest_early : q.deadline.0 ≤ last_printable → (moment : Moment) → IsGreatestMoment (SafeOf p q) q.start.0 (Some moment) → moment.0 ≤ last_printable
+  latest_early small moment is =
+      leaves_early p.timetable.network q.source.0 q.target.0 q.deadline.0 p.timetable.valid small is.1.0 moment.0 is.1.1
+
+  -- where no departure is found nothing is safe
+  pub none_leaves : (last : ℕ) (rows : List DepartureRow) → q.start.0 ≤ last → IsTable p.timetable.network (SafeOf p q) q.start.0 last rows → length rows ≡ 0 → HasNoneFor p q
+  none_leaves last [] early is none = is.answers q.start.0 (omega arith) early
+  none_leaves last (row ∷ rows) early is none = absurd (omega (arith, none))
+
+  -- and where one is something is
+  pub some_leaves : (last : ℕ) (rows : List DepartureRow) → q.start.0 ≤ last → IsTable p.timetable.network (SafeOf p q) q.start.0 last rows → length rows ≢ 0 → HasSafeFor p q
+  some_leaves last [] early is some = absurd (some refl)
+  some_leaves last (row ∷ rows) early is some =
+      let by = is.from_first zero row (omega arith) in
+      let test : nat_le q.start.0 row.by.0 ≡ true = grind (arith, nat_tests) in
+      let found : first_row_by q.start.0 (row ∷ rows) ≡ Some row = rw test refl in
+      let best = subst (λ (o : Option DepartureRow). MatchOption o (IsNoneSafeFrom (SafeOf p q) q.start.0) (IsBestFrom p.timetable.network (SafeOf p q) q.start.0))
+      found (is.answers q.start.0 (omega arith) early) in
+      (best.covers_one.0, best.covers_one.1)
+
+  module _ (own : Query) (target : own.target ≡ q.target) (deadline : own.deadline ≡ q.deadline) where
+    -- what is said of a query with this target and this deadline is said of the query
+    pub same_table : (first last : ℕ) (rows : List DepartureRow) → IsTable p.timetable.network (SafeFrom p.timetable.network q.source.0 own) first last rows → IsTable p.timetable.network (SafeOf p q) first last rows
+    same_table first last rows is =
+        subst (λ (t : PlaceId). IsTable p.timetable.network (λ moment tree. IsSafeFromStart p.timetable.network t.0 (Some q.deadline.0) tree q.source.0 moment) first last rows) target
+        (subst (λ (d : Moment). IsTable p.timetable.network (λ moment tree. IsSafeFromStart p.timetable.network own.target.0 (Some d.0) tree q.source.0 moment) first last rows) deadline is)
+
+    pub same_greatest : (first : ℕ) (result : Option Moment) → IsGreatestMoment (SafeFrom p.timetable.network q.source.0 own) first result → IsGreatestMoment (SafeOf p q) first result
+    same_greatest first result is =
+        subst (λ (t : PlaceId). IsGreatestMoment (λ moment tree. IsSafeFromStart p.timetable.network t.0 (Some q.deadline.0) tree q.source.0 moment) first result) target
+        (subst (λ (d : Moment). IsGreatestMoment (λ moment tree. IsSafeFromStart p.timetable.network own.target.0 (Some d.0) tree q.source.0 moment) first result) deadline is)
+
+  -- departures between two places
+  pub departures_away : (last : ℕ) (rows : List DepartureRow) → q.source.0 ≢ q.target.0 → IsTable p.timetable.network (SafeOf p q) q.start.0 last rows
+      → AreByRules p q last rows → AreDepartures p q last rows
+  departures_away last rows differ is ruled = record { at_once = λ same. absurd (differ same); table = λ other. is; by_rules = λ other. ruled }
+
+  -- and from a place to itself
+  pub departures_at_once : (last : ℕ) (rows : List DepartureRow) → rows ≡ [] → q.source.0 ≡ q.target.0 → AreDepartures p q last rows
+  departures_at_once last rows none same = record { at_once = λ other. none; table = λ differ. absurd (differ same); by_rules = λ differ. absurd (differ same) }
+
+  -- the rows have texts
+  pub rows_depart : (last : ℕ) (rows : List DepartureRow) → AreDepartures p q last rows → All (IsDepartureRow p.timetable.network) rows
+  rows_depart last [] are = All-nil (IsDepartureRow p.timetable.network)
+  rows_depart last (row ∷ rows) are = (are.table (λ same. let none = are.at_once same in absurd (cc))).departures

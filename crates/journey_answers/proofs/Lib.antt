@@ -1,0 +1,8 @@
+pub mod Sought
+pub mod Chances
+pub mod Bounds
+pub mod Departing
+pub mod Ruled
+pub mod TripFaults
+pub mod Unsafe
+pub mod Ends

@@ -1,0 +1,18 @@
+-- A search that has a least worst arrival has a safe strategy.
+use Rattle.std.proofs.Common.{◌≡◌, Option, Some, None, ◌≤◌, MatchOption}
+use Rattle.plan_model.specs.declared.model.Moment.{Moment}
+use Rattle.plan_model.specs.declared.model.Query.{Query}
+use Rattle.plan_model.specs.NetworkModel.{NetworkModel}
+use Rattle.plan_model.proofs.Laws.{safe_exists}
+use Rattle.decision_graph.specs.Expanded.{IsNoneSafe}
+use Rattle.journey_answers.specs.Answers.{IsWorst}
+
+-- where the deadline is not before the least worst arrival, some strategy is safe
+pub none_is_safe : (n : NetworkModel) (q : Query) (worst : Moment) → IsWorst n q worst → worst.0 ≤ q.deadline.0 → IsNoneSafe n q → ⊥
+none_is_safe n q worst least late none =
+    let safe = safe_exists n q.source.0 q.target.0 q.start.0 q.deadline.0 worst least late in
+    none safe.0 safe.1
+
+pub match_none : {A : Type 0} (o : Option A) (N : Type 0) (P : A → Type 0) → o ≡ None → MatchOption o N P → N
+match_none None N P is n = n
+match_none (Some a) N P is p = absurd (cc)

@@ -1,0 +1,59 @@
+-- The fault of a trip, and where it is.
+use Rattle.std.proofs.Common.{◌≡◌, ℕ, List, None, Some, Result, Err, sym, subst, arith, refl, ◌≢◌, ◌<◌, ◌≤◌, length}
+use Rattle.plan_model.specs.declared.model.Query.{Query}
+use Rattle.plan_graph.specs.declared.PlanGraph.{PlanGraph}
+use Rattle.graph_text.specs.declared.Head.{Head}
+use Rattle.trip_replay.specs.declared.ReplayFault.{ReplayFault}
+use Rattle.trip_replay.specs.declared.ReplayFault.TheVariants as replay
+use Rattle.trip_replay.specs.declared.Trace.{Trace}
+use Rattle.trip_replay.specs.Rides.{IsStuckAfter}
+use Rattle.trip_replay.specs.Walk.{IsAnswer}
+use Rattle.journey_model.specs.declared.faults.Fault.TheVariants.{Replay, NoMemory}
+use Rattle.journey_model.specs.Faults.{unread_of}
+use Rattle.journey_model.specs.Sites.{last_printable, IsTellable}
+use Rattle.journey_model.specs.declared.problem.Problem.{Problem}
+use Rattle.journey_model.specs.Known.{parts_of}
+use Rattle.plan_model.specs.Bounds.{last_start}
+use Rattle.journey_report.proofs.TextLemmas.{arrivals, places}
+use Rattle.journey_answers.specs.Trips.{replay_as, IsSafeTrip, trip_by, IsTripFault}
+
+-- a trip is stuck at a place with a name, at a moment that has a text
+pub stuck_tellable : (p : Problem) (q : Query) → q.source.0 < length p.timetable.network.change → q.start.0 ≤ last_start
+    → (fault : ReplayFault) → IsStuckAfter p.timetable.network q fault → IsTellable (Some (parts_of p)) (replay_as fault)
+stuck_tellable p q source early (replay.Stuck place moment) (rides, all, at, since) =
+    let few : q.start.0 ≤ last_printable = omega (arith, early) in
+    let inside : place.0 < length p.timetable.network.change = subst (λ (k : ℕ). k < length p.timetable.network.change) (sym at) (places p.timetable.network p.timetable.valid q.source.0 rides source all) in (
+      subst (λ (k : ℕ). place.0 < k) (sym p.timetable.fit.places) inside,
+      subst (λ (k : ℕ). k ≤ last_printable) (sym since) (arrivals p.timetable.network p.timetable.valid q.start.0 rides few all),
+    )
+stuck_tellable p q source early (replay.NotADelay number) stuck = tt
+stuck_tellable p q source early (replay.TooFew ridden) stuck = tt
+stuck_tellable p q source early (replay.TooMany ridden) stuck = tt
+stuck_tellable p q source early replay.NoMemory stuck = tt
+
+answer_is : (fault : ReplayFault) (trip : Result Trace ReplayFault) → fault ≢ replay.NoMemory → IsAnswer (Err fault) trip → trip ≡ Err fault
+answer_is replay.NoMemory trip other is = absurd (other refl)
+answer_is _ trip other is = is
+
+module _ (p : Problem) (head : Head) (graph : PlanGraph) (late : List ℕ) where
+  trip_stop : (fault : ReplayFault) → fault ≢ replay.NoMemory → IsAnswer (Err fault) (trip_by p head graph late) → IsSafeTrip p head graph (Err fault)
+      → IsTripFault p late (Replay fault) head graph
+  trip_stop fault other is safe =
+      record { stop = fault; fault_is = refl; trip = answer_is fault (trip_by p head graph late) other is; safe = safe }
+
+  -- the fault of a trip
+  pub trip_fault : (fault : ReplayFault) → IsAnswer (Err fault) (trip_by p head graph late) → IsSafeTrip p head graph (Err fault)
+      → replay_as fault ≢ NoMemory → IsTripFault p late (replay_as fault) head graph
+  trip_fault replay.NoMemory is safe other = absurd (other refl)
+  trip_fault (replay.NotADelay number) is safe other = trip_stop (replay.NotADelay number) (λ same. absurd (cc)) is safe
+  trip_fault (replay.TooFew ridden) is safe other = trip_stop (replay.TooFew ridden) (λ same. absurd (cc)) is safe
+  trip_fault (replay.TooMany ridden) is safe other = trip_stop (replay.TooMany ridden) (λ same. absurd (cc)) is safe
+  trip_fault (replay.Stuck place moment) is safe other = trip_stop (replay.Stuck place moment) (λ same. absurd (cc)) is safe
+
+-- a fault of a trip is not that a file cannot be read
+pub replay_unread : (fault : ReplayFault) → unread_of (replay_as fault) ≡ None
+replay_unread replay.NoMemory = refl
+replay_unread (replay.NotADelay number) = refl
+replay_unread (replay.TooFew ridden) = refl
+replay_unread (replay.TooMany ridden) = refl
+replay_unread (replay.Stuck place moment) = refl

@@ -1,0 +1,34 @@
+use Rattle.std.proofs.Common.{◌≡◌, ℕ, List, Some, None, Err, ◌≤◌, ◌∙◌, sym, subst, arith, ◌≢◌}
+use Rattle.trip_replay.specs.Walk.{IsAnswer}
+use Rattle.journey_model.specs.declared.faults.Fault.{Fault}
+use Rattle.journey_model.specs.declared.faults.Fault.TheVariants.{NoMemory}
+use Rattle.journey_model.specs.Faults.{unread_of}
+use Rattle.journey_model.specs.Sites.{last_printable, IsTellable}
+use Rattle.journey_model.specs.Known.{parts_of}
+use Rattle.command_line.specs.Jobs.{late_in}
+use Rattle.journey_answers.specs.Trips.{replay_as, trip_by, IsTripFault}
+use Rattle.journey_report.proofs.TextLemmas.{arrivals}
+use Rattle.journey_answers.proofs.TripFaults.{stuck_tellable, trip_fault, replay_unread}
+use Rattle.journey_answers.proofs.trips.trip_over.Goals as goal
+
+pub returns-in-Err : goal.returns-in-Err
+returns-in-Err c =
+    let p = c.args.read.problem.now in
+    let late : List ℕ = late_in c.args.late.now in
+    let fault = c.in-Err.fault in
+    let is : IsAnswer (Err fault) (trip_by p c.args.read.head c.args.read.graph late) =
+    subst (λ (delays : List ℕ). IsAnswer (Err fault) (trip_by p c.args.read.head c.args.read.graph delays)) (c.as_slice.ensures.value ∙ c.in_ok-delays.ensures) c.in-Err.ensures.walk in
+    let named : replay_as fault ≡ c.fault_of.result = sym c.fault_of.ensures in
+    record {
+      told = tt;
+      fault = subst (λ (f : Fault). f ≢ NoMemory → IsTripFault p late f c.args.read.head c.args.read.graph) named (trip_fault p c.args.read.head c.args.read.graph late fault is c.in-Err.ensures.safe);
+      tellable = subst (IsTellable (Some (parts_of p))) named
+          (stuck_tellable p c.args.read.head.query c.args.read.source_in c.args.read.start fault c.in-Err.ensures.stuck);
+      read = subst (λ (f : Fault). unread_of f ≡ None) named (replay_unread fault);
+    }
+
+pub trip_answer-requires-clause-arrival : goal.trip_answer-requires-clause-arrival
+trip_answer-requires-clause-arrival c =
+    subst (λ (k : ℕ). k ≤ last_printable) (sym c.in-Ok.ensures.arrival)
+    (arrivals c.args.read.problem.now.timetable.network c.args.read.problem.now.timetable.valid c.args.read.head.query.start.0 c.in-Ok.trace.rides
+    (omega (arith, c.args.read.start)) c.in-Ok.ensures.rides)

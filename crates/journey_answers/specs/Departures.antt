@@ -1,0 +1,64 @@
+-- What is told of the departures of a journey, and of the latest moment at which one can leave.
+use Rattle.std.specs.Prelude.{◌≡◌, ◌≢◌, ℕ, ◌<◌, ◌≤◌, List, [], None, Some, length}
+use Rattle.plan_model.specs.declared.model.Moment.{Moment}
+use Rattle.plan_model.specs.declared.model.Query.{Query}
+use Rattle.plan_model.specs.Tree.{Tree}
+use Rattle.plan_model.specs.Strategy.{IsSafeFor}
+use Rattle.departure_table.specs.declared.DepartureRow.{DepartureRow}
+use Rattle.departure_table.specs.Departures.{SafeFrom, IsTable, IsGreatestMoment}
+use Rattle.journey_answers.specs.ByRules.{AreByRules}
+use Rattle.printed_rows.specs.Writers.{place_name}
+use Rattle.journey_model.specs.declared.faults.Fault.{Fault}
+use Rattle.journey_model.specs.declared.faults.Fault.TheVariants.{NoSafe}
+use Rattle.journey_model.specs.declared.problem.Problem.{Problem}
+use Rattle.journey_report.specs.DepartureTexts.{departures_text, latest_text}
+use Rattle.journey_report.specs.Findings.{Findings, departures_findings, latest_findings}
+
+-- the query of a journey that starts then, with a deadline of its own
+abbrev pub query_until : Problem → (start until : ℕ) → Query
+query_until p start until = record { source = p.source; target = p.target; start = record { 0 = start }; deadline = record { 0 = until } }
+
+-- the trees that are safe for a query, but that it starts at another moment
+abbrev pub SafeOf : Problem → Query → ℕ → Tree → Type 0
+SafeOf p query = SafeFrom p.timetable.network query.source.0 query
+
+-- some tree is safe for the query
+abbrev pub HasSafeFor : Problem → Query → Type 0
+HasSafeFor p query = (tree : Tree) × IsSafeFor p.timetable.network query tree
+
+-- none is
+abbrev pub HasNoneFor : Problem → Query → Type 0
+HasNoneFor p query = (tree : Tree) → IsSafeFor p.timetable.network query tree → ⊥
+
+-- the departures from the start of the query to a last moment, as the rules of the scan give them; none where source and target are one place
+pub record AreDepartures (p : Problem) (query : Query) (last : ℕ) (rows : List DepartureRow) : Type 0 where
+  pub at_once : query.source.0 ≡ query.target.0 → rows ≡ []
+  pub table : query.source.0 ≢ query.target.0 → IsTable p.timetable.network (SafeOf p query) query.start.0 last rows
+  pub by_rules : query.source.0 ≢ query.target.0 → AreByRules p query last rows
+
+-- the departures are told; some tree is safe from the first moment
+abbrev pub TellsDepartures : Problem → Query → ℕ → Findings → List ℕ → Type 0
+TellsDepartures p query last found text =
+    (rows : List DepartureRow) × (found ≡ departures_findings query rows) × AreDepartures p query last rows × HasSafeFor p query
+    × (text ≡ departures_text p.timetable.network p.timetable.names query last rows)
+
+-- the latest moment is told from which a tree is safe
+abbrev pub TellsLatest : Problem → Query → Findings → List ℕ → Type 0
+TellsLatest p query found text =
+    (moment : Moment) × (found ≡ latest_findings query moment) × IsGreatestMoment (SafeOf p query) query.start.0 (Some moment)
+    × (text ≡ latest_text (place_name p.timetable.names query.source.0) (place_name p.timetable.names query.target.0) query moment)
+
+-- why departures are not told: no tree is safe from the first moment
+abbrev pub FailsDepartures : Problem → Query → Fault → Type 0
+FailsDepartures p query fault = (fault ≡ NoSafe) × HasNoneFor p query
+
+-- why no latest moment is told: no tree is safe from any moment on
+abbrev pub FailsLatest : Problem → Query → Fault → Type 0
+FailsLatest p query fault = (fault ≡ NoSafe) × IsGreatestMoment (SafeOf p query) query.start.0 None
+
+-- its places are the network's, and its moments have texts
+pub record IsUntil (p : Problem) (query : Query) : Type 0 where
+  pub source : query.source.0 < length p.timetable.network.change
+  pub target : query.target.0 < length p.timetable.network.change
+  pub first : 1 ≤ query.start.0
+  pub order : query.start.0 ≤ query.deadline.0

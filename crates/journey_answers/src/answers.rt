@@ -1,0 +1,275 @@
+//! What is told of the strategies of a journey.
+ghost use Rattle.std.specs.Prelude.{◌≡◌, ◌<◌, ◌≤◌, Some, None, IfOk, IfErr, IfSome};
+ghost use Rattle.plan_model.specs.Order.{IsScanOrder};
+ghost use Rattle.plan_model.specs.Strategy.{IsLeastWorst};
+ghost use Rattle.decision_graph.specs.Planned.{IsPlanned};
+ghost use Rattle.decision_graph.specs.Expanded.{IsExpanded};
+ghost use Rattle.journey_answers.specs.Answers.{IsWorst, IsQueryOf, InQuery, IsPrintable, TellsWorst, TellsExpanded, TellsPlanned, FailsIn};
+ghost use Rattle.journey_report.specs.Findings.{findings_of};
+ghost use Rattle.plan_model.specs.Bounds.{end_of_time};
+
+use decision_graph::{CompactPlan, ExpandedPlan, expand, plan};
+use graph_text::{Head, fit_is_printable, ready_is_printable, write, write_expanded};
+use journey_model::{Fault, Percent, Problem, Start};
+use journey_report::{Answer, Report, ToldQuery, safe_text};
+use meat_scan::ScanTables;
+use merged_runs::MergedRuns;
+use plan_model::{BackwardOrder, Moment, NoMemory, Query};
+use safe_arrival::{deadline, least_worst};
+use std::alloc::Global;
+use value_laws::WorstMoment;
+
+/// A query of a problem, and the least worst arrival that its deadline follows from.
+#[derive(Clone, Copy)]
+pub struct Asked<'a> {
+    /// The problem.
+    pub problem: &'a Problem,
+    /// The query, with its deadline.
+    pub query: Query,
+    /// Its least worst arrival.
+    pub worst: Moment,
+    /// That its places are the network's, and its moments have texts.
+    pub ghost printable: { IsPrintable problem.now.timetable.network query worst },
+}
+
+/// The least worst arrival of a journey from a start on.
+fn worst_of<B: BackwardOrder>(
+    alloc: Global,
+    order: &mut B,
+    problem: &Problem,
+    start: Start,
+) -> Result<Option<Moment>, NoMemory>
+    requires fits { B.fits order.old problem.now.timetable.network }
+    requires whole { IsScanOrder problem.now.timetable.network
+        (B.rest order.old problem.now.timetable.network) }
+    ensures least { IfOk result (IsLeastWorst problem.now.timetable.network
+        problem.now.source.0 problem.now.target.0 start.moment.0) }
+    ensures order { IfOk result (λ worst. IfSome worst (λ w. start.moment.0 ≤ w.0)) }
+    ensures early { IfOk result (λ worst. IfSome worst (λ w. w.0 < end_of_time)) }
+    ensures fits { IfOk result (λ worst. B.fits order.new problem.now.timetable.network) }
+{
+    let network = &problem.timetable.network;
+    let tables: ScanTables<WorstMoment> = ScanTables::reserve(alloc, network)?;
+    let worst = least_worst(
+        tables,
+        network,
+        order,
+        problem.source,
+        problem.target,
+        start.moment,
+    );
+    Ok(worst)
+}
+
+/// The query of a journey from a start on, by a percentage for the deadline, with its least worst
+/// arrival, and an order for the scan that finds its graph.
+pub fn asked_of(
+    alloc: Global,
+    problem: &Problem,
+    start: Start,
+    alpha: Percent,
+) -> Result<(Query, Moment, MergedRuns), Fault>
+    ensures asked { IfOk result (λ found.
+        IsQueryOf problem.now start.moment.0 alpha.value found.0 found.1) }
+    ensures printable { IfOk result (λ found.
+        IsPrintable problem.now.timetable.network found.0 found.1) }
+    ensures fits { IfOk result (λ found.
+        ⟦<MergedRuns as BackwardOrder>⟧.fits found.2 problem.now.timetable.network) }
+    ensures fault { IfErr result (FailsIn problem.now start.moment.0) }
+{
+    let mut order = MergedRuns::new(alloc, &problem.timetable.network)?;
+    let Some(worst) = worst_of(alloc, &mut order, problem, start)? else {
+        return Err(Fault::NoSafe);
+    };
+    let query = Query {
+        source: problem.source,
+        target: problem.target,
+        start: start.moment,
+        deadline: deadline(start.moment, worst, alpha.value),
+    };
+    Ok((query, worst, order))
+}
+
+/// The answer that tells the least worst arrival and the deadline.
+fn worst_answer(alloc: Global, asked: &Asked) -> Result<Answer, NoMemory>
+    ensures { IfOk result (λ a. TellsWorst asked.now.problem.now (findings_of a.report) a.text.items
+        asked.now.query asked.now.worst) }
+{
+    let names = &asked.problem.timetable.names;
+    let source = names.place_name(asked.query.source);
+    let target = names.place_name(asked.query.target);
+    let told = ToldQuery {
+        source,
+        target,
+        query: asked.query,
+    };
+    let text = safe_text(alloc, &told, asked.worst)?;
+    let report = Report {
+        query: Some(asked.query),
+        worst: Some(asked.worst),
+        ..Report::empty()
+    };
+    Ok(Answer { report, text })
+}
+
+/// The decision graph ride by ride of a query that some strategy is safe for.
+fn expanded_of<B: BackwardOrder>(
+    alloc: Global,
+    order: &mut B,
+    asked: &Asked,
+) -> Result<ExpandedPlan, NoMemory>
+    requires fits { B.fits order.old asked.now.problem.now.timetable.network }
+    requires least { IsWorst asked.now.problem.now.timetable.network asked.now.query asked.now.worst }
+    ensures { IfOk result (λ found. IsExpanded asked.now.problem.now.timetable.network
+        asked.now.query found.graph found.bounds) }
+{
+    let network = &asked.problem.timetable.network;
+    order.rewind(network);
+    match expand(alloc, order, network, &asked.query)? {
+        None => unreachable!(),
+        Some(found) => Ok(found),
+    }
+}
+
+/// The decision graph with one table for each place of a query that some strategy is safe for.
+pub fn planned_of<B: BackwardOrder>(
+    alloc: Global,
+    order: &mut B,
+    asked: &Asked,
+) -> Result<CompactPlan, NoMemory>
+    requires fits { B.fits order.old asked.now.problem.now.timetable.network }
+    requires least { IsWorst asked.now.problem.now.timetable.network asked.now.query asked.now.worst }
+    ensures planned { IfOk result (λ found. IsPlanned asked.now.problem.now.timetable.network
+        asked.now.query found.graph found.bounds) }
+    ensures fits { B.fits order.new asked.now.problem.now.timetable.network }
+{
+    let network = &asked.problem.timetable.network;
+    order.rewind(network);
+    match plan(alloc, order, network, &asked.query)? {
+        None => unreachable!(),
+        Some(found) => Ok(found),
+    }
+}
+
+/// The answer of a decision graph ride by ride.
+fn expanded_answer(alloc: Global, asked: &Asked, found: ExpandedPlan) -> Result<Answer, NoMemory>
+    requires { IsExpanded asked.now.problem.now.timetable.network asked.now.query found.graph found.bounds }
+    ensures { IfOk result (λ a. TellsExpanded asked.now.problem.now (findings_of a.report) a.text.items
+        asked.now.query asked.now.worst) }
+{
+    let head = Head {
+        query: asked.query,
+        bounds: found.bounds,
+    };
+    let timetable = &asked.problem.timetable;
+    ready_is_printable();
+    let text = write_expanded(
+        alloc,
+        &found.graph,
+        &head,
+        &timetable.network,
+        &timetable.names,
+    )?;
+    let report = Report {
+        query: Some(asked.query),
+        worst: Some(asked.worst),
+        expanded: Some(found.graph),
+        bounds: Some(head.bounds),
+        ..Report::empty()
+    };
+    Ok(Answer { report, text })
+}
+
+/// The answer of a decision graph with one table for each place.
+fn planned_answer(alloc: Global, asked: &Asked, found: CompactPlan) -> Result<Answer, NoMemory>
+    requires { IsPlanned asked.now.problem.now.timetable.network asked.now.query found.graph found.bounds }
+    ensures { IfOk result (λ a. TellsPlanned asked.now.problem.now (findings_of a.report) a.text.items
+        asked.now.query asked.now.worst) }
+{
+    let head = Head {
+        query: asked.query,
+        bounds: found.bounds,
+    };
+    let timetable = &asked.problem.timetable;
+    fit_is_printable();
+    let text = write(
+        alloc,
+        &found.graph,
+        &head,
+        &timetable.network,
+        &timetable.names,
+    )?;
+    let report = Report {
+        query: Some(asked.query),
+        worst: Some(asked.worst),
+        graph: Some(found.graph),
+        bounds: Some(head.bounds),
+        ..Report::empty()
+    };
+    Ok(Answer { report, text })
+}
+
+/// The least worst arrival of a journey and its deadline.
+pub fn safe_over(
+    alloc: Global,
+    problem: &Problem,
+    start: Start,
+    alpha: Percent,
+) -> Result<Answer, Fault>
+    ensures answer { IfOk result (λ a. InQuery problem.now start.moment.0 alpha.value
+        (TellsWorst problem.now (findings_of a.report) a.text.items)) }
+    ensures fault { IfErr result (FailsIn problem.now start.moment.0) }
+{
+    let (query, worst, _) = asked_of(alloc, problem, start, alpha)?;
+    let asked = Asked {
+        problem,
+        query,
+        worst,
+    };
+    let answer = worst_answer(alloc, &asked)?;
+    Ok(answer)
+}
+
+/// The decision graph of a journey, ride by ride.
+pub fn expand_over(
+    alloc: Global,
+    problem: &Problem,
+    start: Start,
+    alpha: Percent,
+) -> Result<Answer, Fault>
+    ensures answer { IfOk result (λ a. InQuery problem.now start.moment.0 alpha.value
+        (TellsExpanded problem.now (findings_of a.report) a.text.items)) }
+    ensures fault { IfErr result (FailsIn problem.now start.moment.0) }
+{
+    let (query, worst, mut order) = asked_of(alloc, problem, start, alpha)?;
+    let asked = Asked {
+        problem,
+        query,
+        worst,
+    };
+    let found = expanded_of(alloc, &mut order, &asked)?;
+    let answer = expanded_answer(alloc, &asked, found)?;
+    Ok(answer)
+}
+
+/// The decision graph of a journey, with one table for each place.
+pub fn plan_over(
+    alloc: Global,
+    problem: &Problem,
+    start: Start,
+    alpha: Percent,
+) -> Result<Answer, Fault>
+    ensures answer { IfOk result (λ a. InQuery problem.now start.moment.0 alpha.value
+        (TellsPlanned problem.now (findings_of a.report) a.text.items)) }
+    ensures fault { IfErr result (FailsIn problem.now start.moment.0) }
+{
+    let (query, worst, mut order) = asked_of(alloc, problem, start, alpha)?;
+    let asked = Asked {
+        problem,
+        query,
+        worst,
+    };
+    let found = planned_of(alloc, &mut order, &asked)?;
+    let answer = planned_answer(alloc, &asked, found)?;
+    Ok(answer)
+}

@@ -1,0 +1,86 @@
+//! Whether a certificate holds.
+ghost use Rattle.std.specs.Prelude.{◌≡◌, ◌≢◌, ◌≤◌, length, Some, None, IfOk, IfErr};
+ghost use Rattle.plan_model.specs.Network.{count};
+ghost use Rattle.journey_model.specs.Faults.{unread_of};
+ghost use Rattle.journey_model.specs.Sites.{last_printable, IsTellable};
+ghost use Rattle.journey_model.specs.Known.{parts_of};
+ghost use Rattle.journey_report.specs.Findings.{findings_of, check_findings};
+ghost use Rattle.journey_report.specs.AnswerTexts.{holds_text};
+ghost use Rattle.printed_rows.specs.Writers.{place_name};
+ghost use Rattle.plan_model.specs.Bounds.{last_start};
+ghost use Rattle.journey_answers.specs.Checks.{IsHeld, IsBroken};
+
+use journey_model::{Fault, Problem};
+use journey_report::{Answer, Report, ToldQuery, holds_text};
+use lower_proof::{LowerBounds, Verdict, check, least};
+use plan_model::{NoMemory, Query};
+use std::alloc::Global;
+
+/// A certificate of a problem that was read: it has a value for each connection, and the moments of its
+/// query have texts.
+#[derive(Drop)]
+pub struct ReadProof<'a> {
+    /// The problem.
+    pub problem: &'a Problem,
+    /// The query that it is for.
+    pub query: Query,
+    /// Its values.
+    pub proof: LowerBounds,
+    /// That it has a value for each connection.
+    pub ghost as_many: { length proof.values ≡ count problem.now.timetable.network },
+    /// That the query does not start after the last start.
+    pub ghost start: { query.start.0 ≤ last_start },
+    /// That the deadline has a text.
+    pub ghost deadline: { query.deadline.0 ≤ last_printable },
+}
+
+/// The answer that tells that a certificate holds, with its least value at the start.
+fn held_answer(alloc: Global, read: ReadProof, least: Option<u64>) -> Result<Answer, NoMemory>
+    ensures found { IfOk result (λ a. findings_of a.report
+        ≡ check_findings read.entry.query read.entry.proof least) }
+    ensures text { IfOk result (λ a. a.text.items ≡ holds_text
+        (place_name read.entry.problem.now.timetable.names read.entry.problem.now.source.0)
+        (place_name read.entry.problem.now.timetable.names read.entry.problem.now.target.0)
+        read.entry.query least) }
+{
+    let ReadProof {
+        problem,
+        query,
+        proof,
+    } = read;
+    let source = problem.timetable.names.place_name(problem.source);
+    let target = problem.timetable.names.place_name(problem.target);
+    let told = ToldQuery {
+        source,
+        target,
+        query,
+    };
+    let text = holds_text(alloc, &told, least)?;
+    let report = Report {
+        query: Some(query),
+        proof: Some(proof),
+        least,
+        ..Report::empty()
+    };
+    Ok(Answer { report, text })
+}
+
+/// Whether a certificate holds for its query.
+pub fn check_over(alloc: Global, read: ReadProof) -> Result<Answer, Fault>
+    ensures told { IfOk result (λ a. IsHeld read.entry.problem.now (findings_of a.report)
+        a.text.items read.entry.query read.entry.proof) }
+    ensures fault { IfErr result (λ fault. fault ≢ Fault.NoMemory
+        → IsBroken read.entry.problem.now fault read.entry.query read.entry.proof) }
+    ensures tellable { IfErr result (IsTellable (Some (parts_of read.entry.problem.now))) }
+    ensures read { IfErr result (λ fault. unread_of fault ≡ None) }
+{
+    let network = &read.problem.timetable.network;
+    match check(alloc, &read.proof, network, &read.query)? {
+        Verdict::Fails(id) => Err(Fault::ProofFails(id)),
+        Verdict::Holds => {
+            let least = least(&read.proof, network, &read.query);
+            let answer = held_answer(alloc, read, least)?;
+            Ok(answer)
+        }
+    }
+}

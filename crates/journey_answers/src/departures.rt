@@ -1,0 +1,255 @@
+//! The departures of a journey, and the latest moment at which one can leave.
+ghost use Rattle.std.specs.Prelude.{◌≡◌, ◌≢◌, ◌<◌, ◌≤◌, length, Some, IfOk, IfErr, MatchOption};
+ghost use Rattle.command_line.specs.Ranges.{IsLater};
+ghost use Rattle.departure_table.specs.Departures.{IsExtendedFor, IsGreatestMoment, IsTable};
+ghost use Rattle.meat_scan.specs.Solves.{Solves};
+ghost use Rattle.value_laws.specs.Means.{mean_scoring};
+ghost use Rattle.command_line.specs.Values.{last_until};
+ghost use Rattle.journey_model.specs.Wants.{OrNoMemory};
+ghost use Rattle.plan_model.specs.View.{extended as with_added};
+ghost use Rattle.journey_answers.specs.ByRules.{IsRuled, AreByRules, added_query};
+ghost use Rattle.journey_answers.specs.Departures.{query_until, SafeOf, AreDepartures, HasSafeFor, HasNoneFor, IsUntil, TellsDepartures, TellsLatest, FailsDepartures, FailsLatest};
+ghost use Rattle.journey_report.specs.Findings.{findings_of};
+
+use departure_table::{DepartureRow, extended, greatest, says_of_source, table};
+use journey_model::{Fault, Problem, Start};
+use journey_report::{Answer, Report, ToldQuery, departures_text, latest_text};
+use meat_scan::{ScanTables, Scanned, scan};
+use merged_runs::MergedRuns;
+use plan_model::{BackwardOrder, List, Moment, Network, NoMemory, PlaceId, Query};
+use std::alloc::Global;
+use value_laws::MeanSpan;
+
+/// What a scan finds from a place that is added to a network, from which one is at the source a second
+/// later.
+#[derive(Drop)]
+struct FromAdded {
+    network: Network,
+    query: Query,
+    scanned: Scanned<MeanSpan>,
+}
+
+/// A query of a problem with a deadline of its own, which is not before its start.
+#[derive(Clone, Copy)]
+struct QueryUntil<'a> {
+    problem: &'a Problem,
+    query: Query,
+    ghost until: { IsUntil problem.now query },
+    ghost deadline: { query.deadline.0 ≤ last_until },
+}
+
+/// The query of a problem, from a start on, with a deadline of its own.
+fn query_until(problem: &Problem, start: Start, until: Moment) -> Query
+    ensures { result ≡ query_until problem.now start.moment.0 until.0 }
+{
+    Query {
+        source: problem.source,
+        target: problem.target,
+        start: start.moment,
+        deadline: until,
+    }
+}
+
+/// What a scan of a network finds for a query.
+fn scan_of(alloc: Global, network: &Network, query: &Query) -> Result<Scanned<MeanSpan>, NoMemory>
+    requires source { query.now.source.0 < length network.now.change }
+    requires target { query.now.target.0 < length network.now.change }
+    requires differ { query.now.source.0 ≢ query.now.target.0 }
+    ensures solves { IfOk result (λ scanned. Solves mean_scoring
+        scanned network.now query.now) }
+    ensures ruled { IfOk result (IsRuled network.now query.now) }
+{
+    let mut order = MergedRuns::new(alloc, network)?;
+    let tables: ScanTables<MeanSpan> = ScanTables::reserve(alloc, network)?;
+    Ok(scan(tables, network, &mut order, query))
+}
+
+/// Scans the network of a problem from a place more, which leads to the source of the query. A network
+/// with so many places that none can be added is told as want of memory.
+fn scan_from_added(alloc: Global, asked: &QueryUntil) -> Result<FromAdded, NoMemory>
+    requires { asked.now.query.source.0 ≢ asked.now.query.target.0 }
+    ensures extended { IfOk result (λ found. IsExtendedFor found.network found.query
+        asked.now.problem.now.timetable.network asked.now.query.source.0) }
+    ensures target { IfOk result (λ found. found.query.target ≡ asked.now.query.target) }
+    ensures deadline { IfOk result (λ found. found.query.deadline ≡ asked.now.query.deadline) }
+    ensures solves { IfOk result (λ found. Solves mean_scoring
+        found.scanned found.network found.query) }
+    ensures ruled { IfOk result (λ found. IsRuled found.network found.query found.scanned) }
+    ensures network { IfOk result (λ found. found.network
+        ≡ with_added asked.now.problem.now.timetable.network asked.now.query.source.0) }
+    ensures query { IfOk result (λ found. found.query
+        ≡ added_query asked.now.problem.now.timetable.network asked.now.query) }
+{
+    let before = &asked.problem.timetable.network;
+    let places = before.places();
+    if places == u32::MAX {
+        return Err(NoMemory);
+    }
+    let network = extended(alloc, before, asked.query.source)?;
+    let query = Query {
+        source: PlaceId(places),
+        ..asked.query
+    };
+    let scanned = scan_of(alloc, &network, &query)?;
+    Ok(FromAdded {
+        network,
+        query,
+        scanned,
+    })
+}
+
+/// The departures of a query between two places, up to a last moment; no row where nobody who sets out
+/// at the start is safe.
+fn rows_of(alloc: Global, asked: &QueryUntil, last: Moment) -> Result<List<DepartureRow>, NoMemory>
+    requires { asked.now.query.source.0 ≢ asked.now.query.target.0 }
+    ensures table { IfOk result (IsTable asked.now.problem.now.timetable.network
+        (SafeOf asked.now.problem.now asked.now.query) asked.now.query.start.0 last.0) }
+    ensures by_rules { IfOk result (AreByRules asked.now.problem.now asked.now.query last.0) }
+{
+    let found = scan_from_added(alloc, asked)?;
+    says_of_source();
+    let rows = table(
+        alloc,
+        &found.scanned,
+        &found.network,
+        &found.query,
+        asked.query.start,
+        last,
+    )?;
+    Ok(rows)
+}
+
+/// The departures of a query, up to a last moment; none where nobody who sets out at the start is safe.
+fn departures_of(
+    alloc: Global,
+    asked: &QueryUntil,
+    last: Moment,
+) -> Result<Option<List<DepartureRow>>, NoMemory>
+    requires { asked.now.query.start.0 ≤ last.0 }
+    ensures { IfOk result (λ found. MatchOption found
+        (HasNoneFor asked.now.problem.now asked.now.query)
+        (λ rows. AreDepartures asked.now.problem.now asked.now.query last.0 rows
+        × HasSafeFor asked.now.problem.now asked.now.query)) }
+{
+    if asked.query.source.0 == asked.query.target.0 {
+        return Ok(Some(List::new(alloc)));
+    }
+    let rows = rows_of(alloc, asked, last)?;
+    if rows.len() == 0 {
+        return Ok(None);
+    }
+    Ok(Some(rows))
+}
+
+/// The latest moment from the start of a query on at which one can leave and be safe.
+fn latest_of(alloc: Global, asked: &QueryUntil) -> Result<Option<Moment>, NoMemory>
+    ensures { IfOk result (IsGreatestMoment (SafeOf asked.now.problem.now asked.now.query)
+        asked.now.query.start.0) }
+{
+    let query = &asked.query;
+    if query.source.0 == query.target.0 {
+        return Ok(Some(query.deadline));
+    }
+    let found = scan_from_added(alloc, asked)?;
+    says_of_source();
+    Ok(greatest(&found.scanned, &found.network, &found.query, query.start))
+}
+
+/// The answer of departures.
+fn departures_answer(
+    alloc: Global,
+    asked: &QueryUntil,
+    last: Moment,
+    departures: List<DepartureRow>,
+) -> Result<Answer, NoMemory>
+    requires last { IsLater asked.now.query.start.0 last.0 }
+    requires departures { AreDepartures asked.now.problem.now asked.now.query last.0 departures }
+    requires safe { HasSafeFor asked.now.problem.now asked.now.query }
+    ensures { IfOk result (λ a. TellsDepartures asked.now.problem.now asked.now.query last.0
+        (findings_of a.report) a.text.items) }
+{
+    let rows = departures.as_slice();
+    let text = departures_text(alloc, &asked.problem.timetable, &asked.query, last, rows)?;
+    let report = Report {
+        query: Some(asked.query),
+        departures: Some(departures),
+        ..Report::empty()
+    };
+    Ok(Answer { report, text })
+}
+
+/// The answer of the latest moment at which one can leave.
+fn latest_answer(alloc: Global, asked: &QueryUntil, moment: Moment) -> Result<Answer, NoMemory>
+    requires { IsGreatestMoment (SafeOf asked.now.problem.now asked.now.query)
+        asked.now.query.start.0 (Some moment) }
+    ensures { IfOk result (λ a. TellsLatest asked.now.problem.now asked.now.query
+        (findings_of a.report) a.text.items) }
+{
+    let names = &asked.problem.timetable.names;
+    let source = names.place_name(asked.query.source);
+    let target = names.place_name(asked.query.target);
+    let told = ToldQuery {
+        source,
+        target,
+        query: asked.query,
+    };
+    let text = latest_text(alloc, &told, moment)?;
+    let report = Report {
+        query: Some(asked.query),
+        latest: Some(moment),
+        ..Report::empty()
+    };
+    Ok(Answer { report, text })
+}
+
+/// The departures of a journey, up to a last moment. `NoSafe` comes exactly where nobody who sets out at
+/// the start is safe.
+pub fn departures_over(
+    alloc: Global,
+    problem: &Problem,
+    start: Start,
+    until: Moment,
+    last: Moment,
+) -> Result<Answer, Fault>
+    requires until { IsLater start.moment.0 until.0 }
+    requires last { IsLater start.moment.0 last.0 }
+    ensures answer { IfOk result (λ a. TellsDepartures problem.now
+        (query_until problem.now start.moment.0 until.0) last.0 (findings_of a.report) a.text.items) }
+    ensures fault { IfErr result (OrNoMemory (FailsDepartures problem.now
+        (query_until problem.now start.moment.0 until.0))) }
+{
+    let asked = QueryUntil {
+        problem,
+        query: query_until(problem, start, until),
+    };
+    let Some(departures) = departures_of(alloc, &asked, last)? else {
+        return Err(Fault::NoSafe);
+    };
+    let answer = departures_answer(alloc, &asked, last, departures)?;
+    Ok(answer)
+}
+
+/// The latest moment at which one can leave on a journey and be sure to arrive by the deadline. `NoSafe`
+/// comes exactly where there is none.
+pub fn latest_over(
+    alloc: Global,
+    problem: &Problem,
+    start: Start,
+    until: Moment,
+) -> Result<Answer, Fault>
+    requires { IsLater start.moment.0 until.0 }
+    ensures answer { IfOk result (λ a. TellsLatest problem.now
+        (query_until problem.now start.moment.0 until.0) (findings_of a.report) a.text.items) }
+    ensures fault { IfErr result (OrNoMemory (FailsLatest problem.now
+        (query_until problem.now start.moment.0 until.0))) }
+{
+    let asked = QueryUntil {
+        problem,
+        query: query_until(problem, start, until),
+    };
+    let Some(moment) = latest_of(alloc, &asked)? else {
+        return Err(Fault::NoSafe);
+    };
+    let answer = latest_answer(alloc, &asked, moment)?;
+    Ok(answer)
+}

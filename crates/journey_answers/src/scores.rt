@@ -1,0 +1,72 @@
+//! Bounds on the expected arrival of a graph.
+ghost use Rattle.std.specs.Prelude.{◌≡◌, ◌≢◌, Some, None, IfOk, IfErr};
+ghost use Rattle.plan_graph.specs.Tidy.{IsFit};
+ghost use Rattle.journey_model.specs.Faults.{unread_of};
+ghost use Rattle.journey_model.specs.Sites.{IsTellable};
+ghost use Rattle.journey_model.specs.Known.{parts_of};
+ghost use Rattle.journey_report.specs.Findings.{findings_of, score_findings};
+ghost use Rattle.journey_report.specs.AnswerTexts.{encloses_text};
+ghost use Rattle.printed_rows.specs.Writers.{place_name};
+ghost use Rattle.journey_answers.specs.Scores.{IsEnclosed, IsUnsafeGraph};
+
+use crate::read_graph::ReadGraph;
+use graph_score::{ScoreFault, fit_is_scored, score};
+use interval_fixed::Span;
+use journey_model::Fault;
+use journey_report::{Answer, Report, ToldQuery, encloses_text};
+use plan_model::NoMemory;
+use std::alloc::Global;
+
+/// The answer that tells the bounds of a graph.
+fn enclosed_answer(alloc: Global, read: ReadGraph, bounds: Span) -> Result<Answer, NoMemory>
+    ensures found { IfOk result (λ a. findings_of a.report
+        ≡ score_findings read.entry.head.query read.entry.graph bounds) }
+    ensures text { IfOk result (λ a. a.text.items ≡ encloses_text
+        (place_name read.entry.problem.now.timetable.names read.entry.problem.now.source.0)
+        (place_name read.entry.problem.now.timetable.names read.entry.problem.now.target.0)
+        read.entry.head.query bounds) }
+{
+    let ReadGraph {
+        problem,
+        head,
+        graph,
+    } = read;
+    let source = problem.timetable.names.place_name(problem.source);
+    let target = problem.timetable.names.place_name(problem.target);
+    let told = ToldQuery {
+        source,
+        target,
+        query: head.query,
+    };
+    let text = encloses_text(alloc, &told, bounds)?;
+    let report = Report {
+        query: Some(head.query),
+        graph: Some(graph),
+        bounds: Some(bounds),
+        ..Report::empty()
+    };
+    Ok(Answer { report, text })
+}
+
+/// Bounds on the expected arrival of a graph that fits, or where it is not safe.
+pub fn score_over(alloc: Global, read: ReadGraph) -> Result<Answer, Fault>
+    requires { IsFit read.problem.now.timetable.network read.head.query read.graph }
+    ensures told { IfOk result (λ a. IsEnclosed read.entry.problem.now (findings_of a.report)
+        a.text.items read.entry.head read.entry.graph) }
+    ensures fault { IfErr result (λ fault. fault ≢ Fault.NoMemory
+        → IsUnsafeGraph read.entry.problem.now fault read.entry.head read.entry.graph) }
+    ensures tellable { IfErr result (IsTellable (Some (parts_of read.entry.problem.now))) }
+    ensures read { IfErr result (λ fault. unread_of fault ≡ None) }
+{
+    fit_is_scored();
+    let network = &read.problem.timetable.network;
+    match score(alloc, &read.graph, network, &read.head.query) {
+        Ok(bounds) => {
+            let answer = enclosed_answer(alloc, read, bounds)?;
+            Ok(answer)
+        }
+        Err(ScoreFault::Unsafe(place, moment)) => Err(Fault::Unsafe(place, moment)),
+        Err(ScoreFault::NoMemory) => Err(Fault::NoMemory),
+        Err(ScoreFault::NoSuchLeg(_)) => unreachable!(),
+    }
+}
