@@ -17,8 +17,8 @@ use Rattle.journey_model.specs.declared.faults.Fault.{Fault}
 use Rattle.journey_model.specs.declared.faults.Fault.TheVariants.{NoMemory}
 use Rattle.journey_model.specs.Faults.{IsFirst, MayBeUnread, unread_of}
 use Rattle.journey_model.specs.declared.problem.Problem.{Problem}
-use Rattle.input_files.specs.Files.{Records}
-use Rattle.input_files.specs.InputTables.{HasCut, cut_fault, cut_records, delay_fault, IsCutOfSome, AreDelaysOf}
+use Rattle.journey_problem.specs.Files.{Records}
+use Rattle.journey_problem.specs.InputTables.{HasCut, cut_fault, cut_records, delay_fault, IsCutOfSome, AreDelaysOf}
 use Rattle.journey_problem.specs.CutProblems.{places_in, stop_fault, cut_problem_fault, IsNamed, IsCutProblem, HasCutTimetable}
 
 -- what holds of a network and its names, holds of the problem of them

@@ -12,7 +12,7 @@ use Rattle.journey_model.specs.declared.faults.Fault.{Fault}
 use Rattle.journey_model.specs.declared.faults.Fault.TheVariants.{NoMemory}
 use Rattle.journey_model.specs.declared.problem.Problem.{Problem}
 use Rattle.journey_model.specs.Faults.{MayBeUnread, unread_of}
-use Rattle.input_files.specs.InputTables.{AreDelaysOf, delay_fault}
+use Rattle.journey_problem.specs.InputTables.{AreDelaysOf, delay_fault}
 use Rattle.journey_problem.specs.FeedProblems.{GtfsFolder, IsFolder, IsSoundFolder, IsWindowFault, IsFaultAfterFolder, IsFeedProblem, HasFeedTimetable, window_fault_of}
 
 -- what holds of a told folder before and after a step that leaves it the same

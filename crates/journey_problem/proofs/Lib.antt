@@ -1,3 +1,9 @@
+pub mod Causes
+pub mod Loads
+pub mod FactsBeforeSearch
+pub mod TableSteps
+pub mod GraphFiles
+pub mod CertificateFiles
 pub mod StopNames
 pub mod FeedSteps
 pub mod OneOrder

@@ -18,7 +18,7 @@ use Rattle.journey_model.specs.declared.faults.Fault.{Fault}
 use Rattle.journey_model.specs.declared.faults.Fault.TheVariants.{Read, NoMemory}
 use Rattle.journey_model.specs.Faults.{unread_of}
 use Rattle.journey_problem.specs.CutProblems.{cut_problem_fault}
-use Rattle.input_files.specs.InputTables.{delay_fault}
+use Rattle.journey_problem.specs.InputTables.{delay_fault}
 use Rattle.journey_problem.specs.FeedProblems.{feed_as, GtfsFolder, IsFolder, IsFolderFault, IsLaterTableFault, IsFaultAfterFolder, IsWindowFault, IsFeedProblem, IsFeedProblemFault}
 use Rattle.journey_problem.specs.FeedProblems.{feed_stop_fault, window_fault_of}
 use Rattle.journey_problem.specs.Problems.{IsProblem, IsProblemOver, IsProblemFault, IsProblemFaultOver}

@@ -9,8 +9,8 @@ use Rattle.cut_file.specs.CutNetwork.{IsCutNetwork}
 use Rattle.cut_file.proofs.Distinct.{one_number}
 use Rattle.command_line.specs.Jobs.{JourneyModel}
 use Rattle.journey_model.specs.declared.problem.Problem.{Problem}
-use Rattle.input_files.specs.Files.{Records}
-use Rattle.input_files.specs.InputTables.{AreDelaysOf}
+use Rattle.journey_problem.specs.Files.{Records}
+use Rattle.journey_problem.specs.InputTables.{AreDelaysOf}
 use Rattle.journey_problem.specs.CutProblems.{IsCutProblem}
 use Rattle.journey_problem.proofs.OneCutNetwork.{one_network, same_names, runs_apart, places_apart}
 use Rattle.journey_problem.proofs.SameProblem.{same_problem}

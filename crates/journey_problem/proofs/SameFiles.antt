@@ -12,7 +12,7 @@ use Rattle.service_days.specs.Calendars.{calendars_in, calendars_from, calendar_
 use Rattle.change_times.specs.Changes.{AreToldChanges, transfers_from}
 use Rattle.command_line.specs.Jobs.{JourneyModel}
 use Rattle.journey_model.specs.declared.problem.Problem.{Problem}
-use Rattle.input_files.specs.InputTables.{AreDelaysOf, delay_fault}
+use Rattle.journey_problem.specs.InputTables.{AreDelaysOf, delay_fault}
 use Rattle.journey_problem.specs.FeedProblems.{GtfsFolder, IsFolder, IsFeedProblem}
 
 module _ (limits : Limits) (files other : FileMap) (same : (path : List ℕ) → file_at files path ≡ file_at other path) where

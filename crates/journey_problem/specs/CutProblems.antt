@@ -17,8 +17,8 @@ use Rattle.journey_model.specs.declared.faults.Which.TheVariants as which
 use Rattle.journey_model.specs.declared.faults.Fault.{Fault}
 use Rattle.journey_model.specs.declared.faults.Fault.TheVariants.{UnknownStop}
 use Rattle.journey_model.specs.declared.problem.Problem.{Problem}
-use Rattle.input_files.specs.Files.{Records}
-use Rattle.input_files.specs.InputTables.{IsCutTable, AreDelaysOf, cut_records, cut_fault, delay_fault}
+use Rattle.journey_problem.specs.Files.{Records}
+use Rattle.journey_problem.specs.InputTables.{IsCutTable, AreDelaysOf, cut_records, cut_fault, delay_fault}
 
 -- the place names of the cut file
 abbrev pub places_in : Result Records Fault → List (List ℕ)

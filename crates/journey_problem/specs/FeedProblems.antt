@@ -23,7 +23,7 @@ use Rattle.journey_model.specs.declared.faults.Fault.{Fault}
 use Rattle.journey_model.specs.declared.faults.Fault.TheVariants.{Feed, UnknownStop, Limit, Read, NoMemory}
 use Rattle.journey_model.specs.declared.problem.Problem.{Problem}
 use Rattle.journey_model.specs.Faults.{unread_of}
-use Rattle.input_files.specs.InputTables.{AreDelaysOf, delay_fault}
+use Rattle.journey_problem.specs.InputTables.{AreDelaysOf, delay_fault}
 
 -- a fault of a feed as one of the run
 abbrev pub feed_as : Limits → FeedFault → Fault

@@ -1,3 +1,9 @@
+pub mod Files
+pub mod InputTables
+pub mod FaultsBeforeSearch
+pub mod Paths
+pub mod GraphFiles
+pub mod CertificateFiles
 pub mod CutProblems
 pub mod FeedProblems
 pub mod Folders

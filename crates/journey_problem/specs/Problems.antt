@@ -7,7 +7,7 @@ use Rattle.journey_model.specs.declared.faults.Fault.{Fault}
 use Rattle.journey_model.specs.declared.faults.Fault.TheVariants.{NoMemory}
 use Rattle.journey_model.specs.declared.problem.Problem.{Problem}
 use Rattle.journey_model.specs.Faults.{unread_of, IsUndisturbed}
-use Rattle.input_files.specs.FaultsBeforeSearch.{IsBeforeSearch}
+use Rattle.journey_problem.specs.FaultsBeforeSearch.{IsBeforeSearch}
 use Rattle.journey_problem.specs.CutProblems.{cut_problem_fault, IsCutProblem, HasCutTimetable}
 use Rattle.journey_problem.specs.FeedProblems.{IsFeedProblem, IsFeedProblemFault, HasFeedTimetable}
 

@@ -2,8 +2,8 @@
 ghost use Rattle.std.specs.Prelude.{◌≡◌, IfSome, IfOk, IfErr};
 ghost use Rattle.command_line.specs.Shown.{journey_shown};
 ghost use Rattle.command_line.specs.Ranges.{IsJourney};
-ghost use Rattle.input_files.specs.FaultsBeforeSearch.{IsBeforeSearch};
-ghost use Rattle.input_files.specs.Files.{OwnPaths, path_of, HasCauses};
+ghost use Rattle.journey_problem.specs.FaultsBeforeSearch.{IsBeforeSearch};
+ghost use Rattle.journey_problem.specs.Files.{OwnPaths, path_of, HasCauses};
 ghost use Rattle.journey_problem.specs.Problems.{HasTimetable, IsProblem, IsProblemFault};
 
 use crate::cut_problem::cut_problem;

@@ -14,7 +14,7 @@ use Rattle.journey_model.specs.Sites.{IsTellable}
 use Rattle.journey_model.specs.Wants.{OrNoMemory}
 use Rattle.journey_report.specs.declared.answer.Answer.{Answer}
 use Rattle.journey_report.specs.Findings.{findings_of}
-use Rattle.input_files.specs.Files.{HasCauses}
+use Rattle.journey_problem.specs.Files.{HasCauses}
 use Rattle.meat_engine.specs.Asks.{own_paths, AnswersAsk, FailsAsk}
 use Rattle.meat_engine.proofs.Asking.{unsafe_told}
 

@@ -12,11 +12,11 @@ use Rattle.journey_model.specs.Sites.{NamedParts, IsTellable}
 use Rattle.journey_model.specs.Stages.{IsStageBeforeSearch}
 use Rattle.journey_model.proofs.Sited.{tellable}
 use Rattle.journey_model.specs.declared.problem.Problem.{Problem}
-use Rattle.input_files.specs.FaultsBeforeSearch.{IsBeforeSearch}
-use Rattle.input_files.specs.Files.{path_of, HasCauses}
+use Rattle.journey_problem.specs.FaultsBeforeSearch.{IsBeforeSearch}
+use Rattle.journey_problem.specs.Files.{path_of, HasCauses}
 use Rattle.meat_engine.specs.declared.refusal.Refusal.{Refusal}
 use Rattle.journey_model.specs.Wants.{OrNoMemory}
-use Rattle.file_answers.specs.Paths.{graph_path, proof_path}
+use Rattle.journey_problem.specs.Paths.{graph_path, proof_path}
 use Rattle.meat_engine.specs.Asks.{own_paths}
 use Rattle.journey_model.specs.Known.{parts_of}
 use Rattle.meat_engine.specs.Refusals.{IsRefusalBy}

@@ -15,15 +15,15 @@ use Rattle.journey_model.specs.Faults.{status_of}
 use Rattle.journey_model.specs.Sites.{NamedParts}
 use Rattle.journey_model.specs.declared.problem.Problem.{Problem}
 use Rattle.journey_problem.specs.Problems.{IsProblem, IsProblemFault}
-use Rattle.input_files.specs.Files.{bytes_of}
+use Rattle.journey_problem.specs.Files.{bytes_of}
 use Rattle.journey_problem.proofs.OneProblem.{one_problem}
 use Rattle.journey_problem.proofs.NoFaults.{none_unread}
 use Rattle.journey_answers.specs.Answers.{IsQueryOf, IsNoSafe}
 use Rattle.meat_engine.specs.Asks.{AnswersAsk, FailsAsk, EndsAsk, FailsJourney}
-use Rattle.file_answers.specs.ProofFiles.{FailsFile, FailsCheck}
+use Rattle.journey_problem.specs.CertificateFiles.{FailsFile, FailsCheck}
 use Rattle.meat_engine.specs.Ends.{HasSafe, EndsBySafety, EndsByGraphFile, EndsByProofFile, EndsByScore}
 use Rattle.journey_report.specs.Findings.{Findings}
-use Rattle.file_answers.specs.GraphFiles.{graph_in, FailsReplay, FailsScore}
+use Rattle.journey_problem.specs.GraphFiles.{graph_in, FailsReplay, FailsScore}
 
 -- a least worst arrival is that of a strategy
 has_tree : (n : NetworkModel) (source target start a b c : ℕ) (w : Moment) → a ≡ source → b ≡ target → c ≡ start → IsLeastWorst n a b c (Some w) → HasSafe n source target start

@@ -6,20 +6,20 @@ use Rattle.command_line.specs.Jobs.{JourneyModel, AskModel, Safe, Expand, Plan, 
 use Rattle.journey_model.specs.declared.faults.Fault.{Fault}
 use Rattle.journey_model.specs.Sites.{NamedParts}
 use Rattle.journey_model.specs.declared.problem.Problem.{Problem}
-use Rattle.input_files.specs.Files.{OwnPaths}
+use Rattle.journey_problem.specs.Files.{OwnPaths}
 use Rattle.journey_problem.specs.Problems.{FailsBeforeSearch, InProblem}
 use Rattle.journey_report.specs.Findings.{Findings}
 use Rattle.journey_model.specs.Known.{parts_of}
 use Rattle.journey_answers.specs.Answers.{InQuery, TellsWorst, TellsExpanded, TellsPlanned, IsNoSafe}
 use Rattle.journey_answers.specs.Punctual.{TellsPunctual}
-use Rattle.file_answers.specs.Paths.{graph_path, proof_path}
-use Rattle.file_answers.specs.GraphFiles.{InGraphFile, FailsReplay, FailsScore}
-use Rattle.journey_answers.specs.Trips.{IsTripTold}
-use Rattle.journey_answers.specs.Scores.{IsEnclosed}
+use Rattle.journey_problem.specs.Paths.{graph_path, proof_path}
+use Rattle.journey_problem.specs.GraphFiles.{InGraphFile, FailsGraph}
+use Rattle.journey_answers.specs.Trips.{IsTripTold, IsTripFault}
+use Rattle.journey_answers.specs.Scores.{IsEnclosed, IsUnsafeGraph}
 use Rattle.meat_engine.specs.Ends.{EndsByScore, EndsBySafety, EndsByGraphFile, EndsByProofFile, EndsByDepartures, EndsByLatest}
 use Rattle.journey_answers.specs.Certified.{TellsCertificate}
-use Rattle.file_answers.specs.ProofFiles.{InProofFile, FailsCheck}
-use Rattle.journey_answers.specs.Checks.{IsHeld}
+use Rattle.journey_problem.specs.CertificateFiles.{InProofFile, FailsProof}
+use Rattle.journey_answers.specs.Checks.{IsHeld, IsBroken}
 use Rattle.journey_answers.specs.Departures.{query_until, TellsDepartures, TellsLatest, FailsDepartures, FailsLatest}
 
 -- no file is read beside those of the journey
@@ -51,6 +51,20 @@ AnswersAsk contents limits start p (CheckGraph graph) found text = InGraphFile c
 AnswersAsk contents limits start p (Punctual alpha promise) found text = InQuery p start alpha (TellsPunctual p promise found text)
 AnswersAsk contents limits start p (Departures until last) found text = TellsDepartures p (query_until p start until) last found text
 AnswersAsk contents limits start p (Latest until) found text = TellsLatest p (query_until p start until) found text
+
+-- why a replay has no answer, but for want of memory: the graph file has a fault; or the trip by its graph
+abbrev pub FailsReplay : Option FileMap → Limits → ℕ → List ℕ → List ℕ → Problem → Fault → Type 0
+FailsReplay contents limits start path late p fault =
+    FailsGraph contents limits start path p fault ⊎ InGraphFile contents limits start path p (IsTripFault p late fault)
+
+-- why a graph has no bounds, but for want of memory: the graph file has a fault; or its graph is not safe
+abbrev pub FailsScore : Option FileMap → Limits → ℕ → List ℕ → Problem → Fault → Type 0
+FailsScore contents limits start path p fault =
+    FailsGraph contents limits start path p fault ⊎ InGraphFile contents limits start path p (IsUnsafeGraph p fault)
+
+-- why a check has no answer, but for want of memory: the proof file has a fault; or its certificate fails
+abbrev pub FailsCheck : Option FileMap → Limits → ℕ → List ℕ → Problem → Fault → Type 0
+FailsCheck contents limits start path p fault = FailsProof contents limits start path p fault ⊎ InProofFile contents limits start path p (IsBroken p fault)
 
 -- why it has no answer, but for want of memory
 abbrev pub FailsAsk : Option FileMap → Limits → ℕ → Problem → AskModel → Fault → Type 0

@@ -17,11 +17,11 @@ use Rattle.journey_model.specs.declared.faults.Input.TheVariants as input
 use Rattle.journey_model.specs.declared.faults.Fault.{Fault}
 use Rattle.journey_model.specs.Faults.{status_of}
 use Rattle.journey_model.specs.declared.problem.Problem.{Problem}
-use Rattle.input_files.specs.Files.{bytes_of}
-use Rattle.file_answers.specs.GraphFiles.{graph_in}
+use Rattle.journey_problem.specs.Files.{bytes_of}
+use Rattle.journey_problem.specs.GraphFiles.{graph_in}
 use Rattle.journey_answers.specs.Trips.{trip_by}
 use Rattle.journey_answers.specs.Departures.{SafeOf, HasSafeFor}
-use Rattle.file_answers.specs.ProofFiles.{IsProofFile, FailsFile}
+use Rattle.journey_problem.specs.CertificateFiles.{IsProofFile, FailsFile}
 
 -- some strategy always reaches the target
 abbrev pub HasSafe : NetworkModel → (source target start : ℕ) → Type 0

@@ -13,7 +13,7 @@ use Rattle.journey_model.specs.declared.faults.Fault.TheVariants.{Words, NoMemor
 use Rattle.fault_lines.specs.FaultLines.{line_of, IsFormatted}
 use Rattle.journey_model.specs.Sites.{NamedParts}
 use Rattle.journey_model.specs.Stages.{Stage, stage_of, AtWords, AtTimetable, AtDelays, AtStops, AtWindow, AtGraphFile, AtProofFile, AtOutcome, AtOutput, AtMemory}
-use Rattle.input_files.specs.Files.{path_of}
+use Rattle.journey_problem.specs.Files.{path_of}
 use Rattle.journey_problem.specs.Problems.{InProblem}
 use Rattle.journey_report.specs.declared.report.Report.{Report}
 use Rattle.meat_engine.specs.Asks.{own_paths, no_path, AnswersAsk, FailsJourney}

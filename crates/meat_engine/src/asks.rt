@@ -3,9 +3,16 @@ ghost use Rattle.std.specs.Prelude.{◌≡◌, ◌≢◌, Some, IfOk, IfErr};
 ghost use Rattle.command_line.specs.Ranges.{IsJourney, IsAsk};
 ghost use Rattle.command_line.specs.Shown.{journey_shown, ask_shown};
 ghost use Rattle.journey_model.specs.Sites.{IsTellable};
-ghost use Rattle.input_files.specs.Files.{path_of, HasCauses};
+ghost use Rattle.journey_problem.specs.Files.{path_of, HasCauses};
 ghost use Rattle.journey_problem.specs.Problems.{InProblem};
-ghost use Rattle.meat_engine.specs.Asks.{own_paths, AnswersAsk, FailsAsk, FailsJourney};
+ghost use Rattle.meat_engine.specs.Asks.{own_paths, AnswersAsk, FailsAsk, FailsCheck, FailsJourney, FailsReplay, FailsScore};
+ghost use Rattle.journey_problem.specs.Paths.{graph_path, proof_path};
+ghost use Rattle.journey_problem.specs.GraphFiles.{InGraphFile};
+ghost use Rattle.journey_problem.specs.CertificateFiles.{InProofFile};
+ghost use Rattle.journey_answers.specs.Trips.{IsTripTold};
+ghost use Rattle.journey_answers.specs.Scores.{IsEnclosed};
+ghost use Rattle.journey_answers.specs.Checks.{IsHeld};
+ghost use Rattle.command_line.specs.Jobs.{late_in};
 ghost use Rattle.journey_model.specs.Known.{parts_of};
 ghost use Rattle.journey_report.specs.Findings.{findings_of};
 ghost use Rattle.meat_engine.specs.Refusals.{IsRefusalBy, by_fault};
@@ -13,15 +20,93 @@ ghost use Rattle.meat_engine.specs.Refusals.{IsRefusalBy, by_fault};
 use crate::refusal::Refusal;
 use command_line::{Ask, Journey};
 use csv_rows::Limits;
-use file_answers::{check_graph_over, check_proof_over, replay_over};
 use file_ports::Files;
 use journey_answers::{
-    certify_over, departures_over, expand_over, latest_over, plan_over, punctual_over, safe_over,
+    ReadGraph, ReadProof, certify_over, check_over, departures_over, expand_over, latest_over,
+    plan_over, punctual_over, safe_over, score_over, trip_over,
 };
 use journey_model::{Fault, Percent, Problem, Start};
-use journey_problem::problem_of;
+use journey_problem::{problem_of, read_certificate_file, read_graph_file};
 use journey_report::Answer;
 use std::alloc::Global;
+
+/// The trip by the graph of a file, with the delays that were met.
+fn replay_over<F: Files>(
+    alloc: Global,
+    files: &mut F,
+    problem: &Problem,
+    start: Start,
+    graph: &str,
+    late: &str,
+    limits: &Limits,
+) -> Result<Answer, Fault>
+    ensures answer { IfOk result (λ a. InGraphFile (F.state files.old).files limits.now start.moment.0
+        graph.now problem.now (IsTripTold problem.now (late_in late.now)
+        (findings_of a.report) a.text.items)) }
+    ensures fault { IfErr result (λ fault. fault ≢ Fault.NoMemory
+        → FailsReplay (F.state files.old).files limits.now start.moment.0 graph.now (late_in late.now)
+        problem.now fault) }
+    ensures tellable { IfErr result (IsTellable (Some (parts_of problem.now))) }
+    ensures causes { HasCauses (graph_path graph.now) (F.state files.old) (F.state files.new) result }
+{
+    let (head, graph) = read_graph_file(alloc, files, graph, problem, start.moment, limits)?;
+    let read = ReadGraph {
+        problem,
+        head,
+        graph,
+    };
+    trip_over(alloc, read, late)
+}
+
+/// Bounds on the expected arrival of the graph of a file.
+fn check_graph_over<F: Files>(
+    alloc: Global,
+    files: &mut F,
+    problem: &Problem,
+    start: Start,
+    graph: &str,
+    limits: &Limits,
+) -> Result<Answer, Fault>
+    ensures answer { IfOk result (λ a. InGraphFile (F.state files.old).files limits.now start.moment.0
+        graph.now problem.now (IsEnclosed problem.now (findings_of a.report) a.text.items)) }
+    ensures fault { IfErr result (λ fault. fault ≢ Fault.NoMemory
+        → FailsScore (F.state files.old).files limits.now start.moment.0 graph.now problem.now fault) }
+    ensures tellable { IfErr result (IsTellable (Some (parts_of problem.now))) }
+    ensures causes { HasCauses (graph_path graph.now) (F.state files.old) (F.state files.new) result }
+{
+    let (head, graph) = read_graph_file(alloc, files, graph, problem, start.moment, limits)?;
+    let read = ReadGraph {
+        problem,
+        head,
+        graph,
+    };
+    score_over(alloc, read)
+}
+
+/// Whether the certificate of a file holds.
+fn check_certificate_over<F: Files>(
+    alloc: Global,
+    files: &mut F,
+    problem: &Problem,
+    start: Start,
+    proof: &str,
+    limits: &Limits,
+) -> Result<Answer, Fault>
+    ensures answer { IfOk result (λ a. InProofFile (F.state files.old).files limits.now start.moment.0
+        proof.now problem.now (IsHeld problem.now (findings_of a.report) a.text.items)) }
+    ensures fault { IfErr result (λ fault. fault ≢ Fault.NoMemory
+        → FailsCheck (F.state files.old).files limits.now start.moment.0 proof.now problem.now fault) }
+    ensures tellable { IfErr result (IsTellable (Some (parts_of problem.now))) }
+    ensures causes { HasCauses (proof_path proof.now) (F.state files.old) (F.state files.new) result }
+{
+    let (query, proof) = read_certificate_file(alloc, files, proof, problem, start.moment, limits)?;
+    let read = ReadProof {
+        problem,
+        query,
+        proof,
+    };
+    check_over(alloc, read)
+}
 
 /// What is asked about a problem, from a start on.
 fn ask_over<F: Files>(
@@ -49,7 +134,9 @@ fn ask_over<F: Files>(
             replay_over(alloc, files, problem, start, graph, late, limits)
         }
         Ask::Certify { alpha } => certify_over(alloc, problem, start, Percent { value: alpha }),
-        Ask::CheckProof { proof } => check_proof_over(alloc, files, problem, start, proof, limits),
+        Ask::CheckProof { proof } => check_certificate_over(
+            alloc, files, problem, start, proof, limits,
+        ),
         Ask::CheckGraph { graph } => check_graph_over(alloc, files, problem, start, graph, limits),
         Ask::Punctual { alpha, promise } => {
             punctual_over(alloc, problem, start, Percent { value: alpha }, promise)

@@ -4,7 +4,7 @@ ghost use Rattle.command_line.specs.Shown.{journey_shown};
 ghost use Rattle.command_line.specs.Values.{least_size, most_size};
 ghost use Rattle.journey_model.specs.Faults.{unread_of};
 ghost use Rattle.journey_model.specs.declared.faults.Fault.{Fault};
-ghost use Rattle.input_files.specs.FaultsBeforeSearch.{IsBeforeSearch};
+ghost use Rattle.journey_problem.specs.FaultsBeforeSearch.{IsBeforeSearch};
 ghost use Rattle.journey_problem.specs.Problems.{HasTimetable, IsProblem, IsProblemFault};
 ghost use Rattle.journey_answers.specs.Answers.{FailsIn};
 ghost use Rattle.journey_report.specs.Findings.{findings_of};

@@ -9,7 +9,7 @@ ghost use Rattle.journey_model.specs.Faults.{status_of};
 ghost use Rattle.fault_lines.specs.FaultLines.{line_of};
 ghost use Rattle.journey_model.specs.Sites.{NamedParts, IsTellable};
 ghost use Rattle.fault_lines.specs.Known.{known_in};
-ghost use Rattle.input_files.specs.Files.{HasCauses};
+ghost use Rattle.journey_problem.specs.Files.{HasCauses};
 ghost use Rattle.journey_model.specs.Known.{parts_of};
 ghost use Rattle.journey_report.specs.Findings.{findings_of, no_findings};
 ghost use Rattle.meat_engine.specs.Refusals.{known_of, IsRefusalBy, by_fault};

@@ -26,9 +26,9 @@ use Rattle.plan_model.specs.NameLists.{NameLists}
 use Rattle.plan_model.specs.NetworkModel.{NetworkModel}
 use Rattle.plan_model.specs.Network.{IsValid}
 use Rattle.std.proofs.lemmas.Bool.Decides.{nat_tests}
-use Rattle.input_files.specs.Files.{bytes_of}
+use Rattle.journey_problem.specs.Files.{bytes_of}
 use Rattle.plan_model.specs.Results.{and_then}
-use Rattle.file_answers.specs.GraphFiles.{graph_in, graph_as, FailsScore}
+use Rattle.journey_problem.specs.GraphFiles.{graph_in, graph_as, FailsScore}
 use Rattle.journey_answers.specs.Trips.{trip_by}
 use Rattle.journey_answers.specs.Answers.{TellsPlanned, head_of}
 use Rattle.journey_answers.specs.Certified.{TellsCertificate}

@@ -25,12 +25,12 @@ use Rattle.journey_model.specs.declared.faults.Fault.TheVariants.{Replay, ProofF
 use Rattle.journey_model.specs.declared.problem.Problem.{Problem}
 use Rattle.journey_report.specs.Findings.{Findings}
 use Rattle.journey_problem.proofs.NoFaults.{none_unread}
-use Rattle.input_files.specs.Files.{bytes_of}
+use Rattle.journey_problem.specs.Files.{bytes_of}
 use Rattle.journey_answers.specs.Trips.{IsTripTold, IsTripFault, trip_by}
 use Rattle.journey_answers.specs.Scores.{IsEnclosed, IsUnsafeGraph}
 use Rattle.journey_answers.specs.Checks.{IsHeld, IsBroken}
-use Rattle.file_answers.specs.GraphFiles.{graph_in, InGraphFile, FailsGraph, FailsReplay, FailsScore}
-use Rattle.file_answers.specs.ProofFiles.{FailsText, FailsFile, FailsCheck, FailsProof, InProofFile}
+use Rattle.journey_problem.specs.GraphFiles.{graph_in, InGraphFile, FailsGraph, FailsReplay, FailsScore}
+use Rattle.journey_problem.specs.CertificateFiles.{FailsText, FailsFile, FailsCheck, FailsProof, InProofFile}
 use Rattle.journey_answers.specs.Answers.{IsNoSafe}
 use Rattle.meat_engine.specs.Asks.{AnswersAsk, FailsAsk}
 use Rattle.run_laws.proofs.FirstFaults.{NotRead}

@@ -13,7 +13,7 @@ use Rattle.journey_model.specs.declared.problem.Problem.{Problem}
 use Rattle.journey_report.specs.Findings.{Findings, certify_findings, check_findings}
 use Rattle.journey_report.specs.AnswerTexts.{holds_text}
 use Rattle.journey_answers.specs.Checks.{IsHeld}
-use Rattle.file_answers.specs.ProofFiles.{InProofFile}
+use Rattle.journey_problem.specs.CertificateFiles.{InProofFile}
 use Rattle.journey_answers.specs.Answers.{InQuery}
 use Rattle.journey_answers.specs.Certified.{TellsCertificate}
 use Rattle.run_laws.specs.OneAnswer.{IsOneAnswer}

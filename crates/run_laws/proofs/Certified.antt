@@ -22,8 +22,8 @@ use Rattle.journey_model.specs.declared.faults.Fault.{Fault}
 use Rattle.journey_model.specs.declared.faults.Input.TheVariants as input
 use Rattle.journey_model.specs.declared.problem.Problem.{Problem}
 use Rattle.journey_report.specs.Findings.{Findings}
-use Rattle.input_files.specs.Files.{bytes_of}
-use Rattle.file_answers.specs.ProofFiles.{FailsFile, TellsProof}
+use Rattle.journey_problem.specs.Files.{bytes_of}
+use Rattle.journey_problem.specs.CertificateFiles.{FailsFile, TellsProof}
 use Rattle.journey_answers.specs.Answers.{InQuery}
 use Rattle.journey_answers.specs.Certified.{TellsCertificate}
 use Rattle.meat_engine.specs.Ends.{EndsByProofFile, EndsByVerdict}

@@ -16,7 +16,7 @@ use Rattle.journey_report.specs.AnswerTexts.{trace_text, encloses_text}
 use Rattle.journey_report.specs.DepartureTexts.{latest_text}
 use Rattle.journey_answers.specs.Trips.{IsTripTold}
 use Rattle.journey_answers.specs.Scores.{IsEnclosed}
-use Rattle.file_answers.specs.GraphFiles.{InGraphFile}
+use Rattle.journey_problem.specs.GraphFiles.{InGraphFile}
 use Rattle.journey_answers.specs.Departures.{SafeOf, TellsLatest}
 use Rattle.run_laws.specs.OneAnswer.{IsOneAnswer}
 use Rattle.run_laws.proofs.OneFile.{in_graph}

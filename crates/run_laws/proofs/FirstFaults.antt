@@ -13,7 +13,7 @@ use Rattle.journey_model.specs.declared.faults.Input.{Input}
 use Rattle.journey_model.specs.declared.faults.Fault.{Fault}
 use Rattle.journey_model.specs.declared.faults.Fault.TheVariants.{Read, NoMemory}
 use Rattle.journey_model.specs.Faults.{unread_of}
-use Rattle.input_files.specs.InputTables.{delay_fault}
+use Rattle.journey_problem.specs.InputTables.{delay_fault}
 use Rattle.journey_problem.specs.CutProblems.{cut_problem_fault}
 use Rattle.journey_problem.specs.FeedProblems.{GtfsFolder, feed_as, feed_stop_fault, window_fault_of, IsFolderFault, IsLaterTableFault, IsWindowFault, IsFaultAfterFolder, IsFeedProblemFault}
 use Rattle.journey_problem.specs.Problems.{IsProblemFault, IsProblemFaultOver}

@@ -12,9 +12,9 @@ use Rattle.lower_proof.proofs.ReadOnce.{read_once}
 use Rattle.journey_model.specs.declared.faults.Input.TheVariants as input
 use Rattle.journey_model.specs.declared.faults.Fault.{Fault}
 use Rattle.journey_model.specs.declared.problem.Problem.{Problem}
-use Rattle.input_files.specs.Files.{bytes_of}
-use Rattle.file_answers.specs.GraphFiles.{graph_in, InGraphFile}
-use Rattle.file_answers.specs.ProofFiles.{InProofFile}
+use Rattle.journey_problem.specs.Files.{bytes_of}
+use Rattle.journey_problem.specs.GraphFiles.{graph_in, InGraphFile}
+use Rattle.journey_problem.specs.CertificateFiles.{InProofFile}
 
 pub one_ok : {A E : Type 0} (r : Result A E) (a b : A) → r ≡ Ok a → r ≡ Ok b → a ≡ b
 one_ok r a b one two = cc

@@ -13,7 +13,7 @@ use Rattle.graph_text.specs.Reading.{IsReadAs}
 use Rattle.journey_model.specs.declared.faults.Fault.{Fault}
 use Rattle.journey_model.specs.declared.problem.Problem.{Problem}
 use Rattle.journey_report.specs.Findings.{Findings}
-use Rattle.file_answers.specs.GraphFiles.{graph_in, InGraphFile}
+use Rattle.journey_problem.specs.GraphFiles.{graph_in, InGraphFile}
 use Rattle.journey_answers.specs.Scores.{IsEnclosed}
 use Rattle.journey_answers.specs.Answers.{InQuery, TellsPlanned, head_of}
 use Rattle.journey_answers.proofs.Bounds.{bounds_of_graph}

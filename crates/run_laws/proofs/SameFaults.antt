@@ -14,7 +14,7 @@ use Rattle.change_times.specs.Changes.{transfers_in, transfers_from}
 use Rattle.command_line.specs.Jobs.{JourneyModel}
 use Rattle.journey_model.specs.declared.faults.Fault.{Fault}
 use Rattle.journey_model.specs.Faults.{unread_of}
-use Rattle.input_files.specs.InputTables.{delay_fault}
+use Rattle.journey_problem.specs.InputTables.{delay_fault}
 use Rattle.journey_problem.specs.FeedProblems.{GtfsFolder, IsFolderFault, IsLaterTableFault, IsFaultAfterFolder, IsFeedProblemFault}
 use Rattle.journey_problem.proofs.SameFiles.{same_folder}
 

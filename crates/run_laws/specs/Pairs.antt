@@ -27,7 +27,7 @@ use Rattle.journey_model.specs.declared.problem.Problem.{Problem}
 use Rattle.journey_problem.specs.Problems.{IsProblem}
 use Rattle.journey_report.specs.declared.report.Report.{Report}
 use Rattle.journey_report.specs.Findings.{findings_of}
-use Rattle.file_answers.specs.GraphFiles.{graph_in}
+use Rattle.journey_problem.specs.GraphFiles.{graph_in}
 use Rattle.journey_answers.specs.Trips.{trip_by}
 use Rattle.meat_engine.specs.Ends.{EndsByWalk}
 use Rattle.meat_engine.specs.RunPromises.{IsRun, SinkState, sink_state}

@@ -9,7 +9,7 @@ use Rattle.graph_text.specs.declared.Head.{Head}
 use Rattle.trip_replay.specs.Late.{Arrives}
 use Rattle.journey_model.specs.declared.problem.Problem.{Problem}
 use Rattle.journey_report.specs.Findings.{Findings}
-use Rattle.file_answers.specs.GraphFiles.{graph_in}
+use Rattle.journey_problem.specs.GraphFiles.{graph_in}
 use Rattle.meat_engine.specs.Ends.{EndsByGraphFile}
 
 -- the file has a graph, by which the trip arrives by the deadline where each connection is so late; with the delays on the way

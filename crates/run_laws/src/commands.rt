@@ -8,7 +8,7 @@ ghost use Rattle.journey_answers.specs.Answers.{InQuery, TellsPlanned};
 ghost use Rattle.meat_engine.specs.Ends.{EndsByScore};
 ghost use Rattle.graph_text.specs.declared.Head.{Head as HeadParts};
 ghost use Rattle.plan_graph.specs.declared.PlanGraph.{PlanGraph as Graph};
-ghost use Rattle.file_answers.specs.GraphFiles.{graph_in, InGraphFile};
+ghost use Rattle.journey_problem.specs.GraphFiles.{graph_in, InGraphFile};
 ghost use Rattle.journey_answers.specs.Scores.{IsEnclosed};
 ghost use Rattle.journey_answers.specs.Trips.{trip_by};
 ghost use Rattle.trip_replay.specs.Walk.{IsSafeAnswer};

@@ -1,6 +1,6 @@
 use Rattle.command_line.specs.Shown.{journey_shown}
 use Rattle.journey_model.specs.declared.faults.Input.TheVariants as input
-use Rattle.input_files.proofs.Causes.{causes-quiet}
+use Rattle.journey_problem.proofs.Causes.{causes-quiet}
 use Rattle.journey_problem.proofs.CutSteps.{cut_timetable, cut_file_problem, stop_first, delay_first}
 use Rattle.journey_problem.proofs.FeedSteps.{none_unread_of}
 use Rattle.std.proofs.lemmas.Option.{IfSome_then}

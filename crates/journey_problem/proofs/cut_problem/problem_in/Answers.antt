@@ -4,7 +4,7 @@ use Rattle.cut_file.specs.CutNetwork.{IsCutNetwork}
 use Rattle.cut_file.specs.Read.{IsRead}
 use Rattle.plan_model.specs.NameLists.{NameLists}
 use Rattle.journey_problem.specs.CutProblems.{stop_fault}
-use Rattle.input_files.specs.Files.{Records}
+use Rattle.journey_problem.specs.Files.{Records}
 use Rattle.journey_problem.proofs.CutSteps.{of_parts}
 use Rattle.journey_problem.proofs.cut_problem.problem_in.Goals as goal
 

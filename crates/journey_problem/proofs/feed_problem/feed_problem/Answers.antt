@@ -4,11 +4,11 @@ use Rattle.command_line.specs.Jobs.{FeedFolder}
 use Rattle.command_line.specs.Shown.{journey_shown}
 use Rattle.journey_model.specs.declared.faults.Input.TheVariants as input
 use Rattle.journey_problem.specs.FeedProblems.{feed_as}
-use Rattle.input_files.specs.Files.{path_by}
+use Rattle.journey_problem.specs.Files.{path_by}
 use Rattle.journey_problem.specs.Folders.{gtfs_folder_of}
-use Rattle.input_files.proofs.Loads.{if_some_any}
+use Rattle.journey_problem.proofs.Loads.{if_some_any}
 use Rattle.std.proofs.lemmas.Option.{IfSome_then}
-use Rattle.input_files.proofs.Causes.{causes-then}
+use Rattle.journey_problem.proofs.Causes.{causes-then}
 use Rattle.journey_problem.proofs.FeedSteps.{if_some_both}
 use Rattle.journey_problem.proofs.feed_problem.feed_problem.Goals as goal
 

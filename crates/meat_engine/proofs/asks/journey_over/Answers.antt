@@ -3,7 +3,7 @@ use Rattle.file_ports.specs.Ports.{FileMap}
 use Rattle.command_line.specs.Shown.{journey_shown, ask_shown}
 use Rattle.journey_model.specs.declared.faults.Fault.{Fault}
 use Rattle.journey_report.specs.declared.answer.Answer.{Answer}
-use Rattle.input_files.specs.Files.{path_of, HasCauses}
+use Rattle.journey_problem.specs.Files.{path_of, HasCauses}
 use Rattle.file_ports.proofs.CauseLemmas.{causes-next}
 use Rattle.journey_report.specs.Findings.{findings_of}
 use Rattle.meat_engine.specs.Asks.{own_paths, AnswersAsk, FailsAsk}

@@ -5,7 +5,7 @@ use Rattle.command_line.specs.Jobs.{JourneyModel}
 use Rattle.journey_model.specs.declared.faults.Fault.{Fault}
 use Rattle.journey_model.specs.declared.faults.Input.{Input}
 use Rattle.journey_model.specs.Faults.{unread_of}
-use Rattle.input_files.specs.Files.{HasCauses}
+use Rattle.journey_problem.specs.Files.{HasCauses}
 use Rattle.journey_problem.specs.Problems.{HasTimetable, IsProblem, IsProblemFault}
 use Rattle.meat_engine.specs.Asks.{no_path}
 use Rattle.std.proofs.lemmas.Result.{IfOk-weaker, IfErr-weaker}

@@ -1,2 +1,0 @@
-pub mod GraphFiles
-pub mod ProofFiles

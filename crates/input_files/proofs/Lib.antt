@@ -1,4 +1,0 @@
-pub mod Loads
-pub mod FactsBeforeSearch
-pub mod Causes
-pub mod TableSteps

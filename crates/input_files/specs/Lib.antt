@@ -1,3 +1,0 @@
-pub mod FaultsBeforeSearch
-pub mod Files
-pub mod InputTables

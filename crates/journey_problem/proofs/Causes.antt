@@ -1,0 +1,41 @@
+-- The causes of a step after others.
+use Rattle.std.proofs.Common.{◌≡◌, ℕ, List, Option, None, Result, Ok, Err, sym, ap, subst, IfErr, IsErrAnd}
+use Rattle.file_ports.specs.Counts.{HasCausesOf}
+use Rattle.file_ports.specs.Ports.{FilesState}
+use Rattle.file_ports.proofs.CauseLemmas.{causes-of, causes-idle, causes-silent, causes-next}
+use Rattle.journey_model.specs.declared.faults.Input.{Input}
+use Rattle.journey_model.specs.declared.faults.Fault.{Fault}
+use Rattle.journey_model.specs.declared.faults.Fault.TheVariants.{Read}
+use Rattle.journey_model.specs.Faults.{unread_of, MayBeUnread}
+use Rattle.journey_problem.specs.Files.{HasCauses}
+
+-- whose fault is not that a file cannot be read
+not_read : {T : Type 0} (r : Result T Fault) → IfErr r (λ fault. unread_of fault ≡ None) → (input : Input) → IsErrAnd r (λ fault. fault ≡ Read input) → ⊥
+not_read (Ok x) quiet input is = is
+not_read (Err fault) quiet input is = absurd (let read = ap unread_of is in cc)
+
+-- the file that cannot be read is this one
+own_file : {T : Type 0} (r : Result T Fault) (mine file : Input) → IfErr r (MayBeUnread mine) → IsErrAnd r (λ fault. fault ≡ Read file) → file ≡ mine
+own_file (Ok x) mine file own is = absurd is
+own_file (Err fault) mine file own is = subst (MayBeUnread mine) is own
+
+module _ {path : Input → Option (List ℕ)} {before now : FilesState} where
+  -- a step that reads nothing
+  pub causes-quiet : {T U : Type 0} (x : T) (r : Result U Fault) → HasCauses path before now (Ok x) → IfErr r (λ fault. unread_of fault ≡ None)
+      → HasCauses path before now r
+  causes-quiet x r h quiet = causes-silent (λ input is. is) (not_read r quiet) h
+
+  -- a file that is one of some
+  pub causes-own : {T : Type 0} (mine : Input) (r : Result T Fault) → HasCauses (λ other. path mine) before now r → IfErr r (MayBeUnread mine)
+      → HasCauses path before now r
+  causes-own mine r h own = causes-of (λ input is. (input, is, ap path (sym (own_file r mine input own is)))) (λ input is. (input, is)) h
+
+  -- a file after others, of which none is unreadable
+  pub causes-then : {T K : Type 0} {U : K → Type 0} {other : K → Option (List ℕ)} {middle : FilesState} (mine : Input) (r : Result T Fault)
+      → ((k : K) → U k → ⊥) → HasCausesOf U other before middle → HasCauses (λ other. path mine) middle now r → IfErr r (MayBeUnread mine) → HasCauses path before now r
+  causes-then mine r none g h own = causes-own mine r (causes-next none g h) own
+
+-- a step that reads no file
+pub causes-none : {T : Type 0} {path : Input → Option (List ℕ)} {state : FilesState} (r : Result T Fault) → IfErr r (λ fault. unread_of fault ≡ None)
+    → HasCauses path state state r
+causes-none r quiet = causes-idle (not_read r quiet)

@@ -1,0 +1,51 @@
+-- The steps of a check, put together.
+use Rattle.std.proofs.Common.{◌≡◌, ℕ, List, Option, None, Result, Ok, Err, refl, sym, subst, ◌≢◌, IfErr, IfOk, IfSome}
+use Rattle.file_ports.specs.Ports.{FileMap, file_at}
+use Rattle.csv_rows.specs.declared.limits.Limits.{Limits}
+use Rattle.plan_model.specs.declared.model.Query.{Query}
+use Rattle.lower_proof.specs.declared.LowerBounds.{LowerBounds}
+use Rattle.journey_model.specs.declared.faults.Input.{Input}
+use Rattle.journey_model.specs.declared.faults.Input.TheVariants as input
+use Rattle.journey_model.specs.declared.faults.Fault.{Fault}
+use Rattle.journey_model.specs.declared.faults.Fault.TheVariants.{NoMemory}
+use Rattle.journey_model.specs.Faults.{unread_of}
+use Rattle.journey_model.specs.Stages.{IsOfInput}
+use Rattle.journey_model.specs.declared.problem.Problem.{Problem}
+use Rattle.journey_problem.specs.Files.{bytes_of}
+use Rattle.std.proofs.lemmas.Option.{IfSome_then}
+use Rattle.journey_problem.specs.CertificateFiles.{TellsProof, FailsText, FailsFile, IsProofFile, FailsProof}
+
+module _ (limits : Limits) (p : Problem) (start : ℕ) (file : Option (List ℕ)) where
+  -- a file that cannot be loaded
+  load_fails : (fault : Fault) → bytes_of limits.bytes input.Proof (unread_of fault) file ≡ Err fault
+      → FailsFile p start (bytes_of limits.bytes input.Proof (unread_of fault) file) fault
+  load_fails fault is = subst (λ (bytes : Result (List ℕ) Fault). FailsFile p start bytes fault) (sym is) refl
+
+  -- a file whose text has a fault
+  text_fails : (text : List ℕ) (fault : Fault) → bytes_of limits.bytes input.Proof None file ≡ Ok text → unread_of fault ≡ None → FailsText p start text fault
+      → FailsFile p start (bytes_of limits.bytes input.Proof (unread_of fault) file) fault
+  text_fails text fault there none fails =
+      subst (λ (unread : Option Input). FailsFile p start (bytes_of limits.bytes input.Proof unread file) fault) (sym none)
+      (subst (λ (bytes : Result (List ℕ) Fault). FailsFile p start bytes fault) (sym there) fails)
+
+module _ (told : Option FileMap) (limits : Limits) (start : ℕ) (path : List ℕ) (p : Problem) where
+  pub unloaded : (fault : Fault) → (fault ≢ NoMemory → IsOfInput input.Proof fault)
+      → IfSome told (λ files. fault ≢ NoMemory → bytes_of limits.bytes input.Proof (unread_of fault) (file_at files path) ≡ Err fault)
+      → fault ≢ NoMemory → FailsProof told limits start path p fault
+  unloaded fault of fails other =
+      (of other, IfSome_then told fails (λ files why. load_fails limits p start (file_at files path) fault (why other)))
+
+  module _ (text same : List ℕ) (is : same ≡ text) (there : IfSome told (λ files. bytes_of limits.bytes input.Proof None (file_at files path) ≡ Ok text)) where
+    pub read : (r : Result (Query × LowerBounds) Fault) → IfOk r (λ f. TellsProof p start same f.0 f.1) → IfOk r (λ f. IsProofFile told limits start path p f.0 f.1)
+    read (Ok f) tells = record { text = text; reads = there; tells = subst (λ (bytes : List ℕ). TellsProof p start bytes f.0 f.1) is tells }
+    read (Err fault) tells = tt
+
+    pub unread : (r : Result (Query × LowerBounds) Fault) → IfErr r (λ fault. fault ≢ NoMemory → FailsText p start same fault)
+        → IfErr r (λ fault. fault ≢ NoMemory → IsOfInput input.Proof fault) → IfErr r (λ fault. unread_of fault ≡ None)
+        → IfErr r (λ fault. fault ≢ NoMemory → FailsProof told limits start path p fault)
+    unread (Ok f) fails of none = tt
+    unread (Err fault) fails of none = λ other. (
+      of other,
+      IfSome_then told there (λ files bytes.
+          text_fails limits p start (file_at files path) text fault bytes none (subst (λ (bs : List ℕ). FailsText p start bs fault) is (fails other))),
+    )

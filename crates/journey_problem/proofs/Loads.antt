@@ -1,0 +1,27 @@
+-- What a loaded file gives.
+use Rattle.std.proofs.Common.{◌≡◌, ℕ, List, Option, Some, None, Err, Bool, true, arith, refl, ap, IfSome, ◌==◌, if◌then◌else◌}
+use Rattle.std.proofs.lemmas.Bool.Decides.{nat_tests}
+use Rattle.csv_rows.specs.FeedTables.{rank_of}
+use Rattle.journey_model.specs.declared.faults.Input.{Input}
+use Rattle.journey_model.specs.declared.faults.Input.TheVariants as input
+use Rattle.journey_model.specs.declared.faults.Fault.TheVariants.{Read}
+use Rattle.journey_model.specs.Faults.{is_unread}
+use Rattle.journey_problem.specs.Files.{bytes_of, bytes_present}
+
+pub if_some_any : {A : Type 0} (o : Option A) (P : A → Type 0) → ((a : A) → P a) → IfSome o P
+if_some_any None P f = tt
+if_some_any (Some a) P f = f a
+
+same_rank : (n : ℕ) → (n == n) ≡ true
+same_rank n = grind (arith, nat_tests)
+
+own_unread : (file : Input) → is_unread (Some file) file ≡ true
+own_unread (input.Feed table) = same_rank (rank_of table)
+own_unread input.Cut = refl
+own_unread input.Delays = refl
+own_unread input.Graph = refl
+own_unread input.Proof = refl
+
+-- a file that cannot be read
+pub bytes_of-unread : (most : ℕ) (file : Input) (bytes : Option (List ℕ)) → bytes_of most file (Some file) bytes ≡ Err (Read file)
+bytes_of-unread most file bytes = ap (λ (b : Bool). if b then Err (Read file) else bytes_present most file bytes) (own_unread file)

@@ -1,0 +1,31 @@
+use Rattle.std.proofs.Common.{◌≡◌, Option, sym, subst, IfSome}
+use Rattle.csv_rows.proofs.FaultLemmas.{if_raised}
+use Rattle.journey_model.specs.declared.faults.Input.{Input}
+use Rattle.journey_model.specs.declared.faults.Input.TheVariants as input
+use Rattle.journey_problem.proofs.Causes.{causes-quiet}
+use Rattle.std.proofs.lemmas.Result.{IfErr-weaker}
+use Rattle.journey_problem.proofs.CertificateFiles.{unloaded, read, unread}
+use Rattle.journey_problem.proofs.certificate_files.read_certificate_file.Goals as goal
+
+pub returns-in_err-bytes-clause-fault : goal.returns-in_err-bytes-clause-fault
+returns-in_err-bytes-clause-fault g c = if_raised _ c.from_residual.result c.from_residual.ensures
+    (unloaded (g.F.Files.state c.args.files.now).files c.args.limits.now c.args.start.0 c.args.path.now c.args.problem.now _
+    c.in_err-bytes.ensures.stage c.in_err-bytes.ensures.bytes)
+
+pub returns-clause-proof : goal.returns-clause-proof
+returns-clause-proof g c =
+    read (g.F.Files.state c.args.files.now).files c.args.limits.now c.args.start.0 c.args.path.now c.args.problem.now c.in_ok-bytes.bytes.items c.as_slice.result.now
+    c.as_slice.ensures.value c.in_ok-bytes.ensures.bytes c.certificate_of_bytes.result c.certificate_of_bytes.ensures.proof
+
+pub returns-clause-fault : goal.returns-clause-fault
+returns-clause-fault g c =
+    unread (g.F.Files.state c.args.files.now).files c.args.limits.now c.args.start.0 c.args.path.now c.args.problem.now c.in_ok-bytes.bytes.items c.as_slice.result.now
+    c.as_slice.ensures.value c.in_ok-bytes.ensures.bytes c.certificate_of_bytes.result c.certificate_of_bytes.ensures.fault c.certificate_of_bytes.ensures.stage c.certificate_of_bytes.ensures.read
+
+pub returns-clause-own : goal.returns-clause-own
+returns-clause-own g c =
+    IfErr-weaker c.certificate_of_bytes.result _ _
+    (λ fault none. subst (λ (u : Option Input). IfSome u (λ other. other ≡ input.Proof)) (sym none) tt) c.certificate_of_bytes.ensures.read
+
+pub returns-clause-causes : goal.returns-clause-causes
+returns-clause-causes g c = causes-quiet c.in_ok-bytes.bytes _ c.in_ok-bytes.ensures.causes c.certificate_of_bytes.ensures.read

@@ -1,0 +1,43 @@
+use Rattle.std.proofs.Common.{◌≡◌, Option, sym, subst, IfSome}
+use Rattle.file_ports.specs.Ports.{file_at}
+use Rattle.journey_model.specs.declared.faults.Input.{Input}
+use Rattle.journey_model.specs.declared.faults.Input.TheVariants as input
+use Rattle.journey_problem.proofs.Causes.{causes-quiet}
+use Rattle.std.proofs.lemmas.Option.{IfSome_then}
+use Rattle.std.proofs.lemmas.Result.{IfOk-weaker, IfErr-weaker}
+use Rattle.graph_text.proofs.Accepted.{graph_deadline}
+use Rattle.journey_problem.proofs.GraphFiles.{graph_finds}
+use Rattle.journey_problem.proofs.graph_files.read_graph_file.Goals as goal
+
+pub returns-clause-graph : goal.returns-clause-graph
+returns-clause-graph g c =
+    IfSome_then (g.F.Files.state c.args.files.now).files c.in_ok-bytes.ensures.bytes (λ m there.
+    graph_finds c.args.limits.now c.args.problem.now c.args.start.0 (file_at m c.args.path.now) c.in_ok-bytes.bytes.items c.as_slice.result.now there c.as_slice.ensures.value
+    c.graph_of_bytes.result c.graph_of_bytes.ensures.graph c.graph_of_bytes.ensures.fault c.graph_of_bytes.ensures.read)
+
+pub returns-clause-fit : goal.returns-clause-fit
+returns-clause-fit g c =
+    IfOk-weaker c.graph_of_bytes.result _ _
+    (λ f read. (c.read_fits.ensures c.args.problem.now.timetable.network c.args.problem.now.timetable.names c.as_slice.result.now c.args.problem.now.source.0 c.args.problem.now.target.0 c.args.start.0 f.0 f.1 read).0)
+    c.graph_of_bytes.ensures.graph
+
+pub returns-clause-head : goal.returns-clause-head
+returns-clause-head g c =
+    IfOk-weaker c.graph_of_bytes.result _ _
+    (λ f read. (c.read_fits.ensures c.args.problem.now.timetable.network c.args.problem.now.timetable.names c.as_slice.result.now c.args.problem.now.source.0 c.args.problem.now.target.0 c.args.start.0 f.0 f.1 read).1)
+    c.graph_of_bytes.ensures.graph
+
+pub returns-clause-deadline : goal.returns-clause-deadline
+returns-clause-deadline g c =
+    IfOk-weaker c.graph_of_bytes.result _ _
+    (λ f read. graph_deadline c.args.problem.now.timetable.network c.args.problem.now.timetable.names c.args.problem.now.source.0 c.args.problem.now.target.0 c.args.start.0
+    c.as_slice.result.now f.0 f.1 read)
+    c.graph_of_bytes.ensures.graph
+
+pub returns-clause-own : goal.returns-clause-own
+returns-clause-own g c =
+    IfErr-weaker c.graph_of_bytes.result _ _
+    (λ fault none. subst (λ (u : Option Input). IfSome u (λ other. other ≡ input.Graph)) (sym none) tt) c.graph_of_bytes.ensures.read
+
+pub returns-clause-causes : goal.returns-clause-causes
+returns-clause-causes g c = causes-quiet c.in_ok-bytes.bytes _ c.in_ok-bytes.ensures.causes c.graph_of_bytes.ensures.read

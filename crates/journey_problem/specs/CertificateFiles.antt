@@ -1,0 +1,46 @@
+-- What is read of a certificate file, and its first fault.
+use Rattle.std.specs.Prelude.{◌≡◌, ℕ, List, Option, None, Result, Ok, Err, IfSome}
+use Rattle.file_ports.specs.Ports.{FileMap, file_at}
+use Rattle.csv_rows.specs.Tables.{table_of, header}
+use Rattle.csv_rows.specs.declared.limits.Limits.{Limits}
+use Rattle.plan_model.specs.declared.model.Query.{Query}
+use Rattle.lower_proof.specs.declared.LowerBounds.{LowerBounds}
+use Rattle.lower_proof.specs.declared.reader.ProofFault.{ProofFault}
+use Rattle.lower_proof.specs.Reading.{bounds_in, IsFaultAfter, IsProofTold}
+use Rattle.journey_model.specs.declared.faults.Input.TheVariants as input
+use Rattle.journey_model.specs.declared.faults.Fault.{Fault}
+use Rattle.journey_model.specs.declared.faults.Fault.TheVariants.{ProofFile}
+use Rattle.journey_model.specs.Faults.{unread_of}
+use Rattle.journey_model.specs.Stages.{IsOfInput}
+use Rattle.journey_model.specs.declared.problem.Problem.{Problem}
+use Rattle.journey_problem.specs.Files.{bytes_of}
+
+-- a text tells this query and this certificate, of the problem's source and target and from a start on
+abbrev pub TellsProof : Problem → ℕ → List ℕ → Query → LowerBounds → Type 0
+TellsProof p start text query proof = IsProofTold p.timetable.network p.timetable.names p.source.0 p.target.0 start (table_of text) query proof.values
+
+-- the first fault of a text
+abbrev pub FailsText : Problem → ℕ → List ℕ → Fault → Type 0
+FailsText p start text fault =
+    (first : ProofFault) × (fault ≡ ProofFile first)
+    × IsFaultAfter p.timetable.network p.timetable.names (table_of text) (bounds_in p.timetable.names p.source.0 p.target.0 start (header (table_of text))) first
+
+-- that of a file: of its bytes, where they are there, and else in loading them
+abbrev pub FailsFile : Problem → ℕ → Result (List ℕ) Fault → Fault → Type 0
+FailsFile p start (Ok text) fault = FailsText p start text fault
+FailsFile p start (Err first) fault = fault ≡ first
+
+-- these are the query and the certificate of the proof file of this path, where the files are told
+pub record IsProofFile (contents : Option FileMap) (limits : Limits) (start : ℕ) (path : List ℕ) (p : Problem) (query : Query) (proof : LowerBounds) : Type 0 where
+  pub text : List ℕ
+  pub reads : IfSome contents (λ files. bytes_of limits.bytes input.Proof None (file_at files path) ≡ Ok text)
+  pub tells : TellsProof p start text query proof
+
+-- this holds of the query and the certificate of the proof file
+abbrev pub InProofFile : Option FileMap → Limits → ℕ → List ℕ → Problem → (Query → LowerBounds → Type 0) → Type 0
+InProofFile contents limits start path p P = (query : Query) × (proof : LowerBounds) × IsProofFile contents limits start path p query proof × P query proof
+
+-- the first fault of the proof file is this one, where no file but that of the fault is unread
+abbrev pub FailsProof : Option FileMap → Limits → ℕ → List ℕ → Problem → Fault → Type 0
+FailsProof contents limits start path p fault =
+    IsOfInput input.Proof fault × IfSome contents (λ files. FailsFile p start (bytes_of limits.bytes input.Proof (unread_of fault) (file_at files path)) fault)
