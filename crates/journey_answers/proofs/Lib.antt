@@ -5,4 +5,3 @@ pub mod Departing
 pub mod Ruled
 pub mod TripFaults
 pub mod Unsafe
-pub mod Ends

@@ -11,7 +11,7 @@ ghost use Rattle.plan_model.specs.Bounds.{end_of_time};
 use decision_graph::{CompactPlan, ExpandedPlan, expand, plan};
 use graph_text::{Head, fit_is_printable, ready_is_printable, write, write_expanded};
 use journey_model::{Fault, Percent, Problem, Start};
-use journey_report::{Answer, Report, ToldQuery, safe_text};
+use journey_report::{Answer, NamedQuery, Report, safe_text};
 use meat_scan::ScanTables;
 use merged_runs::MergedRuns;
 use plan_model::{BackwardOrder, Moment, NoMemory, Query};
@@ -95,17 +95,12 @@ fn worst_answer(alloc: Global, asked: &Asked) -> Result<Answer, NoMemory>
     ensures { IfOk result (λ a. TellsWorst asked.now.problem.now (findings_of a.report) a.text.items
         asked.now.query asked.now.worst) }
 {
+    let query = asked.query;
     let names = &asked.problem.timetable.names;
-    let source = names.place_name(asked.query.source);
-    let target = names.place_name(asked.query.target);
-    let told = ToldQuery {
-        source,
-        target,
-        query: asked.query,
-    };
-    let text = safe_text(alloc, &told, asked.worst)?;
+    let named = NamedQuery::new(names, query.source, query.target, query);
+    let text = safe_text(alloc, &named, asked.worst)?;
     let report = Report {
-        query: Some(asked.query),
+        query: Some(query),
         worst: Some(asked.worst),
         ..Report::empty()
     };

@@ -11,7 +11,7 @@ ghost use Rattle.plan_model.specs.Bounds.{last_start};
 ghost use Rattle.journey_answers.specs.Checks.{IsHeld, IsBroken};
 
 use journey_model::{Fault, Problem};
-use journey_report::{Answer, Report, ToldQuery, holds_text};
+use journey_report::{Answer, NamedQuery, Report, holds_text};
 use lower_proof::{LowerBounds, Verdict, check, least};
 use plan_model::{NoMemory, Query};
 use std::alloc::Global;
@@ -48,14 +48,9 @@ fn held_answer(alloc: Global, read: ReadProof, least: Option<u64>) -> Result<Ans
         query,
         proof,
     } = read;
-    let source = problem.timetable.names.place_name(problem.source);
-    let target = problem.timetable.names.place_name(problem.target);
-    let told = ToldQuery {
-        source,
-        target,
-        query,
-    };
-    let text = holds_text(alloc, &told, least)?;
+    let names = &problem.timetable.names;
+    let named = NamedQuery::new(names, problem.source, problem.target, query);
+    let text = holds_text(alloc, &named, least)?;
     let report = Report {
         query: Some(query),
         proof: Some(proof),

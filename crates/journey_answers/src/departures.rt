@@ -13,7 +13,7 @@ ghost use Rattle.journey_report.specs.Findings.{findings_of};
 
 use departure_table::{DepartureRow, extended, greatest, says_of_source, table};
 use journey_model::{Fault, Problem, Start};
-use journey_report::{Answer, Report, ToldQuery, departures_text, latest_text};
+use journey_report::{Answer, NamedQuery, Report, departures_text, latest_text};
 use meat_scan::{ScanTables, Scanned, scan};
 use merged_runs::MergedRuns;
 use plan_model::{BackwardOrder, List, Moment, Network, NoMemory, PlaceId, Query};
@@ -185,17 +185,12 @@ fn latest_answer(alloc: Global, asked: &QueryUntil, moment: Moment) -> Result<An
     ensures { IfOk result (λ a. TellsLatest asked.now.problem.now asked.now.query
         (findings_of a.report) a.text.items) }
 {
+    let query = asked.query;
     let names = &asked.problem.timetable.names;
-    let source = names.place_name(asked.query.source);
-    let target = names.place_name(asked.query.target);
-    let told = ToldQuery {
-        source,
-        target,
-        query: asked.query,
-    };
-    let text = latest_text(alloc, &told, moment)?;
+    let named = NamedQuery::new(names, query.source, query.target, query);
+    let text = latest_text(alloc, &named, moment)?;
     let report = Report {
-        query: Some(asked.query),
+        query: Some(query),
         latest: Some(moment),
         ..Report::empty()
     };

@@ -13,7 +13,7 @@ use crate::read_graph::ReadGraph;
 use graph_score::{ScoreFault, fit_is_scored, score};
 use interval_fixed::Span;
 use journey_model::Fault;
-use journey_report::{Answer, Report, ToldQuery, encloses_text};
+use journey_report::{Answer, NamedQuery, Report, encloses_text};
 use plan_model::NoMemory;
 use std::alloc::Global;
 
@@ -31,14 +31,9 @@ fn enclosed_answer(alloc: Global, read: ReadGraph, bounds: Span) -> Result<Answe
         head,
         graph,
     } = read;
-    let source = problem.timetable.names.place_name(problem.source);
-    let target = problem.timetable.names.place_name(problem.target);
-    let told = ToldQuery {
-        source,
-        target,
-        query: head.query,
-    };
-    let text = encloses_text(alloc, &told, bounds)?;
+    let names = &problem.timetable.names;
+    let named = NamedQuery::new(names, problem.source, problem.target, head.query);
+    let text = encloses_text(alloc, &named, bounds)?;
     let report = Report {
         query: Some(head.query),
         graph: Some(graph),

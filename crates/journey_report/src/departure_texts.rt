@@ -4,7 +4,7 @@ ghost use Rattle.departure_table.specs.Departures.{IsDepartureRow};
 ghost use Rattle.journey_model.specs.Sites.{last_printable};
 ghost use Rattle.journey_report.specs.DepartureTexts.{departures_head, departure_text, rows_text, departures_text, latest_text};
 
-use crate::texts::{ToldQuery, row};
+use crate::texts::{NamedQuery, row};
 use clock_text::{write_moment, write_nanos};
 use departure_table::DepartureRow;
 use itoa::Buffer;
@@ -14,25 +14,25 @@ use std::alloc::Global;
 /// The first row of departures: between which moments, by which deadline, and how many follow.
 fn departures_head(
     alloc: Global,
-    told: &ToldQuery,
+    named: &NamedQuery,
     last: Moment,
     count: u64,
 ) -> Result<Vec<u8>, NoMemory>
     requires { last.0 ≤ last_printable }
     ensures { IfOk result (λ text. text.items
-        ≡ departures_head told.now.source.now told.now.target.now told.now.query last.0 count) }
+        ≡ departures_head named.now.source.now named.now.target.now named.now.query last.0 count) }
 {
-    let first = write_moment(told.query.start);
+    let first = write_moment(named.query.start);
     let last = write_moment(last);
-    let deadline = write_moment(told.query.deadline);
+    let deadline = write_moment(named.query.deadline);
     let mut digits = Buffer::new();
     row(
         alloc,
         &[
             b"departures".as_slice(),
             b"1".as_slice(),
-            told.source.as_bytes(),
-            told.target.as_bytes(),
+            named.source.as_bytes(),
+            named.target.as_bytes(),
             first.as_slice(),
             last.as_slice(),
             deadline.as_slice(),
@@ -88,15 +88,9 @@ pub fn departures_text(
     ensures { IfOk result (λ text. text.items ≡ departures_text timetable.now.network
         timetable.now.names query.now last.0 departures.now) }
 {
-    let source = timetable.names.place_name(query.source);
-    let target = timetable.names.place_name(query.target);
-    let told = ToldQuery {
-        source,
-        target,
-        query: *query,
-    };
+    let named = NamedQuery::new(&timetable.names, query.source, query.target, *query);
     let count = departures.len() as u64;
-    let mut text = departures_head(alloc, &told, last, count)?;
+    let mut text = departures_head(alloc, &named, last, count)?;
     for departure in departures {
         let row = departure_text(alloc, timetable, departure)?;
         text.extend_from_slice(row.as_slice())?;
@@ -105,20 +99,20 @@ pub fn departures_text(
 }
 
 /// The text of the latest moment at which one can leave.
-pub fn latest_text(alloc: Global, told: &ToldQuery, moment: Moment) -> Result<Vec<u8>, NoMemory>
+pub fn latest_text(alloc: Global, named: &NamedQuery, moment: Moment) -> Result<Vec<u8>, NoMemory>
     requires { moment.0 ≤ last_printable }
     ensures { IfOk result (λ text.
-        text.items ≡ latest_text told.now.source.now told.now.target.now told.now.query moment) }
+        text.items ≡ latest_text named.now.source.now named.now.target.now named.now.query moment) }
 {
-    let first = write_moment(told.query.start);
-    let deadline = write_moment(told.query.deadline);
+    let first = write_moment(named.query.start);
+    let deadline = write_moment(named.query.deadline);
     let moment = write_moment(moment);
     row(
         alloc,
         &[
             b"latest".as_slice(),
-            told.source.as_bytes(),
-            told.target.as_bytes(),
+            named.source.as_bytes(),
+            named.target.as_bytes(),
             first.as_slice(),
             deadline.as_slice(),
             moment.as_slice(),

@@ -10,5 +10,5 @@ pub use answer::Answer;
 pub use departure_texts::{departures_text, latest_text};
 pub use report::{Report, Status};
 pub use texts::{
-    ToldQuery, encloses_text, holds_text, punctual_row, safe_text, sample_text, trace_text,
+    NamedQuery, encloses_text, holds_text, punctual_row, safe_text, sample_text, trace_text,
 };

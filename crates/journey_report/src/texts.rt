@@ -1,6 +1,6 @@
 //! The printed texts of the answers that are no graphs.
 ghost use Rattle.std.specs.Prelude.{◌≡◌, ◌≤◌, ◌<◌, ◌++◌, [], ◌∷◌, map, length, sum_by, All, IfOk};
-ghost use Rattle.printed_rows.specs.Writers.{row_of_fields};
+ghost use Rattle.printed_rows.specs.Writers.{place_name, row_of_fields};
 ghost use Rattle.trip_replay.specs.Rides.{IsRide};
 ghost use Rattle.journey_report.specs.AnswerTexts.{safe_text, ride_text, rides_text, arrived_text, trace_text, leg_count, sample_text, least_text, holds_text, encloses_text, punctual_row};
 ghost use Rattle.journey_model.specs.Sites.{last_printable};
@@ -11,7 +11,7 @@ use itoa::Buffer;
 use journey_model::Problem;
 use late_chance::{LateChance, write_chance};
 use plan_graph::PlanGraph;
-use plan_model::{Moment, NoMemory, Query, Timetable};
+use plan_model::{Moment, Names, NoMemory, PlaceId, Query, Timetable};
 use printed_rows::put_row;
 use std::alloc::Global;
 use trip_replay::{Ridden, Trace};
@@ -24,9 +24,9 @@ pub(crate) fn row(alloc: Global, fields: &[&[u8]]) -> Result<Vec<u8>, NoMemory>
     put_row(Vec::new(alloc), fields)
 }
 
-/// A query as it is told: with the names of its ends, and with moments that have texts.
+/// A query with the names of its ends, and with moments that have texts.
 #[derive(Clone, Copy)]
-pub struct ToldQuery<'a> {
+pub struct NamedQuery<'a> {
     /// The name of the place where it begins.
     pub source: &'a str,
     /// The name of the place where it ends.
@@ -39,21 +39,42 @@ pub struct ToldQuery<'a> {
     pub ghost deadline: { query.deadline.0 ≤ last_printable },
 }
 
+impl<'a> NamedQuery<'a> {
+    /// A query with the names of these places as those of its ends.
+    pub fn new(names: &'a Names, source: PlaceId, target: PlaceId, query: Query) -> NamedQuery<'a>
+        requires source { source.0 < length names.now.places }
+        requires target { target.0 < length names.now.places }
+        requires start { query.start.0 ≤ last_printable }
+        requires deadline { query.deadline.0 ≤ last_printable }
+        ensures source { result.source.now ≡ place_name names.now source.0 }
+        ensures target { result.target.now ≡ place_name names.now target.0 }
+        ensures query { result.query ≡ query }
+    {
+        let source = names.place_name(source);
+        let target = names.place_name(target);
+        NamedQuery {
+            source,
+            target,
+            query,
+        }
+    }
+}
+
 /// The text of the least worst arrival and the deadline.
-pub fn safe_text(alloc: Global, told: &ToldQuery, worst: Moment) -> Result<Vec<u8>, NoMemory>
+pub fn safe_text(alloc: Global, named: &NamedQuery, worst: Moment) -> Result<Vec<u8>, NoMemory>
     requires { worst.0 ≤ last_printable }
     ensures { IfOk result (λ text.
-        text.items ≡ safe_text told.now.source.now told.now.target.now told.now.query worst) }
+        text.items ≡ safe_text named.now.source.now named.now.target.now named.now.query worst) }
 {
-    let start = write_moment(told.query.start);
+    let start = write_moment(named.query.start);
     let worst = write_moment(worst);
-    let deadline = write_moment(told.query.deadline);
+    let deadline = write_moment(named.query.deadline);
     row(
         alloc,
         &[
             b"safe".as_slice(),
-            told.source.as_bytes(),
-            told.target.as_bytes(),
+            named.source.as_bytes(),
+            named.target.as_bytes(),
             start.as_slice(),
             worst.as_slice(),
             deadline.as_slice(),
@@ -177,19 +198,23 @@ fn least_text(alloc: Global, least: Option<u64>) -> Result<Vec<u8>, NoMemory>
 }
 
 /// The text of a certificate that holds, with its least value at the start.
-pub fn holds_text(alloc: Global, told: &ToldQuery, least: Option<u64>) -> Result<Vec<u8>, NoMemory>
+pub fn holds_text(
+    alloc: Global,
+    named: &NamedQuery,
+    least: Option<u64>,
+) -> Result<Vec<u8>, NoMemory>
     ensures { IfOk result (λ text.
-        text.items ≡ holds_text told.now.source.now told.now.target.now told.now.query least) }
+        text.items ≡ holds_text named.now.source.now named.now.target.now named.now.query least) }
 {
-    let start = write_moment(told.query.start);
-    let deadline = write_moment(told.query.deadline);
+    let start = write_moment(named.query.start);
+    let deadline = write_moment(named.query.deadline);
     let least = least_text(alloc, least)?;
     row(
         alloc,
         &[
             b"holds".as_slice(),
-            told.source.as_bytes(),
-            told.target.as_bytes(),
+            named.source.as_bytes(),
+            named.target.as_bytes(),
             start.as_slice(),
             deadline.as_slice(),
             least.as_slice(),
@@ -198,20 +223,20 @@ pub fn holds_text(alloc: Global, told: &ToldQuery, least: Option<u64>) -> Result
 }
 
 /// The text of the bounds of a graph.
-pub fn encloses_text(alloc: Global, told: &ToldQuery, bounds: Span) -> Result<Vec<u8>, NoMemory>
+pub fn encloses_text(alloc: Global, named: &NamedQuery, bounds: Span) -> Result<Vec<u8>, NoMemory>
     ensures { IfOk result (λ text.
-        text.items ≡ encloses_text told.now.source.now told.now.target.now told.now.query bounds) }
+        text.items ≡ encloses_text named.now.source.now named.now.target.now named.now.query bounds) }
 {
-    let start = write_moment(told.query.start);
-    let deadline = write_moment(told.query.deadline);
+    let start = write_moment(named.query.start);
+    let deadline = write_moment(named.query.deadline);
     let lower = write_nanos(bounds.lo());
     let upper = write_nanos(bounds.hi());
     row(
         alloc,
         &[
             b"encloses".as_slice(),
-            told.source.as_bytes(),
-            told.target.as_bytes(),
+            named.source.as_bytes(),
+            named.target.as_bytes(),
             start.as_slice(),
             deadline.as_slice(),
             lower.as_slice(),

@@ -1,6 +1,6 @@
 use Rattle.std.proofs.Common.{ℕ, List, ◌++◌, length, ap, ◌∙◌}
 use Rattle.printed_rows.specs.Writers.{place_name}
-use Rattle.printed_rows.proofs.Lines.{name_is}
+use Rattle.plan_model.specs.declared.model.Query.{Query}
 use Rattle.journey_report.specs.DepartureTexts.{departures_head, departure_text, departures_text, rows_text}
 use Rattle.journey_report.proofs.DepartureLines.{rows_step, rows_end}
 use Rattle.journey_report.proofs.departure_texts.departures_text.Goals as goal
@@ -10,12 +10,11 @@ loop-departure-init c =
     let q = c.args.query.now in
     let names = c.args.timetable.now.names in
     let rows = c.args.departures.now in
-    let from = name_is names.places q.source.0 c.place_name-source.result.now c.place_name-source.ensures.name in
-    let to = name_is names.places q.target.0 c.place_name-target.result.now c.place_name-target.ensures.name in
     ap (λ (head : List ℕ). head ++ rows_text c.args.timetable.now.network names rows)
     (c.in_ok-text.ensures
-    ∙ ap (λ (name : List ℕ). departures_head name c.place_name-target.result.now q c.args.last.0 (length rows)) from
-    ∙ ap (λ (name : List ℕ). departures_head (place_name names q.source.0) name q c.args.last.0 (length rows)) to)
+    ∙ ap (λ (asked : Query). departures_head c.new.result.source.now c.new.result.target.now asked c.args.last.0 (length rows)) c.new.ensures.query
+    ∙ ap (λ (name : List ℕ). departures_head name c.new.result.target.now q c.args.last.0 (length rows)) c.new.ensures.source
+    ∙ ap (λ (name : List ℕ). departures_head (place_name names q.source.0) name q c.args.last.0 (length rows)) c.new.ensures.target)
 
 pub loop-departure-preserved : goal.loop-departure-preserved
 loop-departure-preserved c =
