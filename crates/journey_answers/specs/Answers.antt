@@ -1,4 +1,4 @@
--- What is told of the strategies of a journey.
+-- The answers about the strategies of a journey.
 use Rattle.std.specs.Prelude.{◌≡◌, ℕ, ◌<◌, ◌≤◌, List, length, None, Some}
 use Rattle.plan_model.specs.declared.model.Moment.{Moment}
 use Rattle.plan_model.specs.declared.model.Query.{Query}
@@ -43,19 +43,19 @@ InQuery p start alpha P = (query : Query) × (worst : Moment) × IsQueryOf p sta
 abbrev pub head_of : Query → Interval → Head
 head_of q bounds = record { query = q; bounds = bounds }
 
--- the least worst arrival and the deadline are told
+-- the answer of `safe`: the least worst arrival and the deadline
 abbrev pub TellsWorst : Problem → Findings → List ℕ → Query → Moment → Type 0
 TellsWorst p found text query worst =
     (found ≡ safe_findings query worst)
     × (text ≡ safe_text (place_name p.timetable.names query.source.0) (place_name p.timetable.names query.target.0) query worst)
 
--- a decision graph ride by ride is told, with its bounds
+-- the answer of `expand`: a decision graph by ride, with its bounds
 abbrev pub TellsExpanded : Problem → Findings → List ℕ → Query → Moment → Type 0
 TellsExpanded p found text query worst =
     (graph : ExpandedGraph) × (bounds : Interval) × (found ≡ expand_findings query worst graph bounds)
     × IsExpanded p.timetable.network query graph bounds × (text ≡ expanded_text p.timetable.network p.timetable.names (head_of query bounds) graph)
 
--- a decision graph by place is told, with its bounds; the text reads back
+-- the answer of `plan`: a decision graph by place, with its bounds; the text reads back
 abbrev pub TellsPlanned : Problem → Findings → List ℕ → Query → Moment → Type 0
 TellsPlanned p found text query worst =
     (graph : PlanGraph) × (bounds : Interval) × (found ≡ plan_findings query worst graph bounds)
@@ -70,7 +70,7 @@ HasNoSafe p start = IsLeastWorst p.timetable.network p.source.0 p.target.0 start
 abbrev pub IsNoSafe : Problem → ℕ → Fault → Type 0
 IsNoSafe p start fault = (fault ≡ NoSafe) × HasNoSafe p start
 
--- why strategies are not told: none is safe; or there was no memory
+-- why there is no answer: no strategy is safe; or there was no memory
 abbrev pub FailsIn : Problem → ℕ → Fault → Type 0
 FailsIn p start = OrNoMemory (IsNoSafe p start)
 

@@ -10,7 +10,7 @@ use Rattle.lower_proof.specs.CertificateTexts.{proof_text}
 use Rattle.journey_model.specs.declared.problem.Problem.{Problem}
 use Rattle.journey_report.specs.Findings.{Findings, certify_findings}
 
--- a certificate of the query is told: the greatest that is accepted, with the least value of the ways to leave its run at each
+-- the answer of `certify`: of the certificates of the query the greatest that is accepted, with the least value of the ways to leave its run at each
 -- connection that can be boarded; the text reads back
 pub record TellsCertificate (p : Problem) (found : Findings) (text : List ℕ) (query : Query) (worst : Moment) : Type 0 where
   pub proof : LowerBounds

@@ -1,4 +1,4 @@
--- What is told of a certificate: that it holds.
+-- The answer about a certificate: that it holds.
 use Rattle.std.specs.Prelude.{◌≡◌, ℕ, List, Option}
 use Rattle.plan_model.specs.declared.model.ConnectionId.{ConnectionId}
 use Rattle.plan_model.specs.declared.model.Query.{Query}
@@ -12,7 +12,7 @@ use Rattle.journey_model.specs.declared.problem.Problem.{Problem}
 use Rattle.journey_report.specs.Findings.{Findings, check_findings}
 use Rattle.journey_report.specs.AnswerTexts.{holds_text}
 
--- that a certificate holds is told, with its least value at the start, which is below each strategy that is safe for its query
+-- the answer of `check`: that a certificate holds, with its least value at the start, which is below each strategy that is safe for its query
 pub record IsHeld (p : Problem) (found : Findings) (text : List ℕ) (query : Query) (proof : LowerBounds) : Type 0 where
   pub accepted : IsAccepted p.timetable.network query proof.values
   pub sound : IsSound p.timetable.network query proof.values

@@ -1,4 +1,4 @@
--- What is told of the departures of a journey, and of the latest moment at which one can leave.
+-- The answers about the departures of a journey, and about the latest moment at which one can leave.
 use Rattle.std.specs.Prelude.{◌≡◌, ◌≢◌, ℕ, ◌<◌, ◌≤◌, List, [], None, Some, length}
 use Rattle.plan_model.specs.declared.model.Moment.{Moment}
 use Rattle.plan_model.specs.declared.model.Query.{Query}
@@ -36,23 +36,23 @@ pub record AreDepartures (p : Problem) (query : Query) (last : ℕ) (rows : List
   pub table : query.source.0 ≢ query.target.0 → IsTable p.timetable.network (SafeOf p query) query.start.0 last rows
   pub by_rules : query.source.0 ≢ query.target.0 → AreByRules p query last rows
 
--- the departures are told; some tree is safe from the first moment
+-- the answer of `departures`: the rows; some tree is safe from the first moment
 abbrev pub TellsDepartures : Problem → Query → ℕ → Findings → List ℕ → Type 0
 TellsDepartures p query last found text =
     (rows : List DepartureRow) × (found ≡ departures_findings query rows) × AreDepartures p query last rows × HasSafeFor p query
     × (text ≡ departures_text p.timetable.network p.timetable.names query last rows)
 
--- the latest moment is told from which a tree is safe
+-- the answer of `latest`: the latest moment from which a tree is safe
 abbrev pub TellsLatest : Problem → Query → Findings → List ℕ → Type 0
 TellsLatest p query found text =
     (moment : Moment) × (found ≡ latest_findings query moment) × IsGreatestMoment (SafeOf p query) query.start.0 (Some moment)
     × (text ≡ latest_text (place_name p.timetable.names query.source.0) (place_name p.timetable.names query.target.0) query moment)
 
--- why departures are not told: no tree is safe from the first moment
+-- why there are no departures: no tree is safe from the first moment
 abbrev pub FailsDepartures : Problem → Query → Fault → Type 0
 FailsDepartures p query fault = (fault ≡ NoSafe) × HasNoneFor p query
 
--- why no latest moment is told: no tree is safe from any moment on
+-- why there is no latest moment: no tree is safe from any moment on
 abbrev pub FailsLatest : Problem → Query → Fault → Type 0
 FailsLatest p query fault = (fault ≡ NoSafe) × IsGreatestMoment (SafeOf p query) query.start.0 None
 

@@ -1,4 +1,4 @@
--- What is told of the least chance of an arrival after a promised moment.
+-- The answer about the least chance of an arrival after a promised moment.
 use Rattle.std.specs.Prelude.{◌≡◌, ◌≢◌, ℕ, List, ◌++◌}
 use Rattle.plan_model.specs.declared.model.Moment.{Moment}
 use Rattle.plan_model.specs.declared.model.Query.{Query}
@@ -37,7 +37,7 @@ pub record IsPunctualText (p : Problem) (promise : ℕ) (query : Query) (graph :
   pub rows : text ≡ punctual_row promise chance ++ graph_text p.timetable.network p.timetable.names (head_of query bounds) graph
   pub reads_back : IsReadAs p.timetable.network p.timetable.names (head_of query bounds) graph (graph_text p.timetable.network p.timetable.names (head_of query bounds) graph)
 
--- a decision graph by place is told with bounds of its chance to arrive after the promised moment, which is the least, and of its
+-- the answer of `punctual`: a decision graph by place with bounds of its chance to arrive after the promised moment, which is the least, and of its
 -- expected arrival
 abbrev pub TellsPunctual : Problem → ℕ → Findings → List ℕ → Query → Moment → Type 0
 TellsPunctual p promise found text query worst =

@@ -1,4 +1,4 @@
--- What is told of a graph: bounds on the expected arrival of its strategy.
+-- The answer about a graph: bounds on the expected arrival of its strategy.
 use Rattle.std.specs.Prelude.{◌≡◌, List, ℕ}
 use Rattle.plan_model.specs.declared.model.Moment.{Moment}
 use Rattle.plan_model.specs.declared.model.PlaceId.{PlaceId}
@@ -14,7 +14,7 @@ use Rattle.journey_model.specs.declared.problem.Problem.{Problem}
 use Rattle.journey_report.specs.Findings.{Findings, score_findings}
 use Rattle.journey_report.specs.AnswerTexts.{encloses_text}
 
--- the bounds of a graph are told, whose strategy is safe for its own query
+-- the answer of `check`: the bounds of a graph, whose strategy is safe for its own query
 pub record IsEnclosed (p : Problem) (found : Findings) (text : List ℕ) (head : Head) (graph : PlanGraph) : Type 0 where
   pub bounds : Interval
   pub scored : IsScored p.timetable.network head.query (unfold_plan graph p.timetable.network head.query) bounds

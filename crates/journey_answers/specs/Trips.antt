@@ -1,4 +1,4 @@
--- What is told of the trip by a graph, as the delays come.
+-- The answer about the trip by a graph, as the delays come.
 use Rattle.std.specs.Prelude.{◌≡◌, ℕ, List, [], Result, Ok, Err}
 use Rattle.plan_model.specs.Strategy.{IsSafeFor}
 use Rattle.plan_graph.specs.declared.PlanGraph.{PlanGraph}
@@ -30,7 +30,7 @@ trip_by p head graph late = walk p.timetable.network (unfold_plan graph p.timeta
 abbrev pub IsSafeTrip : Problem → Head → PlanGraph → Result Trace ReplayFault → Type 0
 IsSafeTrip p head graph trip = IsSafeFor p.timetable.network head.query (unfold_plan graph p.timetable.network head.query) → IsSafeAnswer head.query.deadline.0 trip
 
--- the trip by a graph is told
+-- the answer of `replay`: the trip by a graph
 pub record IsTripTold (p : Problem) (late : List ℕ) (found : Findings) (text : List ℕ) (head : Head) (graph : PlanGraph) : Type 0 where
   pub trace : Trace
   pub trip : trip_by p head graph late ≡ Ok trace

@@ -1,4 +1,4 @@
-//! What is told of the strategies of a journey.
+//! The answers about the strategies of a journey.
 ghost use Rattle.std.specs.Prelude.{◌≡◌, ◌<◌, ◌≤◌, Some, None, IfOk, IfErr, IfSome};
 ghost use Rattle.plan_model.specs.Order.{IsScanOrder};
 ghost use Rattle.plan_model.specs.Strategy.{IsLeastWorst};
@@ -32,7 +32,7 @@ pub struct Asked<'a> {
     pub ghost printable: { IsPrintable problem.now.timetable.network query worst },
 }
 
-/// The least worst arrival of a journey from a start on.
+/// The least worst arrival of a journey from a start on; `None` if no strategy always reaches the target.
 fn worst_of<B: BackwardOrder>(
     alloc: Global,
     order: &mut B,
@@ -62,7 +62,8 @@ fn worst_of<B: BackwardOrder>(
 }
 
 /// The query of a journey from a start on, by a percentage for the deadline, with its least worst
-/// arrival, and an order for the scan that finds its graph.
+/// arrival, and an order for the scan that finds its graph. The percentage is of the time from the start to the
+/// least worst arrival. `NoSafe` if no strategy always reaches the target.
 pub fn asked_of(
     alloc: Global,
     problem: &Problem,
@@ -90,7 +91,7 @@ pub fn asked_of(
     Ok((query, worst, order))
 }
 
-/// The answer that tells the least worst arrival and the deadline.
+/// The answer with the least worst arrival and the deadline.
 fn worst_answer(alloc: Global, asked: &Asked) -> Result<Answer, NoMemory>
     ensures { IfOk result (λ a. TellsWorst asked.now.problem.now (findings_of a.report) a.text.items
         asked.now.query asked.now.worst) }
@@ -107,7 +108,7 @@ fn worst_answer(alloc: Global, asked: &Asked) -> Result<Answer, NoMemory>
     Ok(Answer { report, text })
 }
 
-/// The decision graph ride by ride of a query that some strategy is safe for.
+/// The decision graph by ride of a query for which some strategy is safe, with its bounds.
 fn expanded_of<B: BackwardOrder>(
     alloc: Global,
     order: &mut B,
@@ -126,7 +127,8 @@ fn expanded_of<B: BackwardOrder>(
     }
 }
 
-/// The decision graph with one table for each place of a query that some strategy is safe for.
+/// The decision graph by place of a query for which some strategy is safe, with its bounds. Whatever is answered, the
+/// order still fits the network.
 pub fn planned_of<B: BackwardOrder>(
     alloc: Global,
     order: &mut B,
@@ -146,7 +148,7 @@ pub fn planned_of<B: BackwardOrder>(
     }
 }
 
-/// The answer of a decision graph ride by ride.
+/// The answer with a decision graph by ride.
 fn expanded_answer(alloc: Global, asked: &Asked, found: ExpandedPlan) -> Result<Answer, NoMemory>
     requires { IsExpanded asked.now.problem.now.timetable.network asked.now.query found.graph found.bounds }
     ensures { IfOk result (λ a. TellsExpanded asked.now.problem.now (findings_of a.report) a.text.items
@@ -175,7 +177,7 @@ fn expanded_answer(alloc: Global, asked: &Asked, found: ExpandedPlan) -> Result<
     Ok(Answer { report, text })
 }
 
-/// The answer of a decision graph with one table for each place.
+/// The answer with a decision graph by place.
 fn planned_answer(alloc: Global, asked: &Asked, found: CompactPlan) -> Result<Answer, NoMemory>
     requires { IsPlanned asked.now.problem.now.timetable.network asked.now.query found.graph found.bounds }
     ensures { IfOk result (λ a. TellsPlanned asked.now.problem.now (findings_of a.report) a.text.items
@@ -204,7 +206,7 @@ fn planned_answer(alloc: Global, asked: &Asked, found: CompactPlan) -> Result<An
     Ok(Answer { report, text })
 }
 
-/// The least worst arrival of a journey and its deadline.
+/// The least worst arrival of a journey and its deadline. `NoSafe` if no strategy always reaches the target.
 pub fn safe_over(
     alloc: Global,
     problem: &Problem,
@@ -225,7 +227,7 @@ pub fn safe_over(
     Ok(answer)
 }
 
-/// The decision graph of a journey, ride by ride.
+/// The decision graph of a journey, by ride. `NoSafe` if no strategy always reaches the target.
 pub fn expand_over(
     alloc: Global,
     problem: &Problem,
@@ -247,7 +249,7 @@ pub fn expand_over(
     Ok(answer)
 }
 
-/// The decision graph of a journey, with one table for each place.
+/// The decision graph of a journey, by place. `NoSafe` if no strategy always reaches the target.
 pub fn plan_over(
     alloc: Global,
     problem: &Problem,

@@ -11,7 +11,7 @@ use lower_proof::{write, write_text};
 use plan_model::NoMemory;
 use std::alloc::Global;
 
-/// The answer that tells the certificate of a query.
+/// The answer with the certificate of a query.
 fn certified_answer(alloc: Global, asked: &Asked) -> Result<Answer, NoMemory>
     ensures { IfOk result (λ a. TellsCertificate asked.now.problem.now (findings_of a.report)
         a.text.items asked.now.query asked.now.worst) }
@@ -34,7 +34,7 @@ fn certified_answer(alloc: Global, asked: &Asked) -> Result<Answer, NoMemory>
     Ok(Answer { report, text })
 }
 
-/// The certificate of a journey.
+/// The certificate of a journey: that of the query of `plan`. `NoSafe` if no strategy always reaches the target.
 pub fn certify_over(
     alloc: Global,
     problem: &Problem,

@@ -34,7 +34,7 @@ pub struct ReadProof<'a> {
     pub ghost deadline: { query.deadline.0 ≤ last_printable },
 }
 
-/// The answer that tells that a certificate holds, with its least value at the start.
+/// The answer that a certificate holds, with its least value at the start.
 fn held_answer(alloc: Global, read: ReadProof, least: Option<u64>) -> Result<Answer, NoMemory>
     ensures found { IfOk result (λ a. findings_of a.report
         ≡ check_findings read.entry.query read.entry.proof least) }
@@ -60,7 +60,8 @@ fn held_answer(alloc: Global, read: ReadProof, least: Option<u64>) -> Result<Ans
     Ok(Answer { report, text })
 }
 
-/// Whether a certificate holds for its query.
+/// That a certificate holds for its query; or `ProofFails`, with the last connection of the scan order that can be
+/// boarded and whose value is too great or missing.
 pub fn check_over(alloc: Global, read: ReadProof) -> Result<Answer, Fault>
     ensures told { IfOk result (λ a. IsHeld read.entry.problem.now (findings_of a.report)
         a.text.items read.entry.query read.entry.proof) }

@@ -64,8 +64,8 @@ fn scan_of(alloc: Global, network: &Network, query: &Query) -> Result<Scanned<Me
     Ok(scan(tables, network, &mut order, query))
 }
 
-/// Scans the network of a problem from a place more, which leads to the source of the query. A network
-/// with so many places that none can be added is told as want of memory.
+/// Scans the network of a problem from an added place, which leads to the source of the query. For a network
+/// with the greatest number of places the answer is that there is no memory.
 fn scan_from_added(alloc: Global, asked: &QueryUntil) -> Result<FromAdded, NoMemory>
     requires { asked.now.query.source.0 ≢ asked.now.query.target.0 }
     ensures extended { IfOk result (λ found. IsExtendedFor found.network found.query

@@ -1,4 +1,4 @@
-//! The bounds that are told of a strategy, and those that are found of its graph.
+//! The bounds of a strategy, and those of its graph.
 ghost use Rattle.std.specs.Prelude.{◌≡◌, ◌≤◌};
 ghost use Rattle.interval_fixed.specs.Interval.{Interval};
 ghost use Rattle.plan_model.specs.NetworkModel.{NetworkModel};

@@ -1,6 +1,6 @@
-//! The answers about a journey. By its strategies: the least worst arrival, decision graphs, certificates, and the least
-//! chance of being late. By when one can leave: the departures and the latest moment. And of a graph or a certificate that
-//! was read: the trip by the graph, bounds on its expected arrival, and whether the certificate holds.
+//! The answers about a journey. About its strategies: the least worst arrival, decision graphs, certificates, and the
+//! least chance of being late. About when one can leave: the departures and the latest moment. And about a graph or a
+//! certificate that was read: the trip by the graph, bounds on its expected arrival, and that the certificate holds.
 //!
 //! A call that takes an allocator may answer that there is no memory, as `NoMemory` or as the variant of that name; then
 //! what it was lent is as it was, unless its own comment says otherwise.

@@ -25,8 +25,7 @@ use plan_graph::PlanGraph;
 use plan_model::{BackwardOrder, Moment, Network, NoMemory, Query};
 use std::alloc::Global;
 
-/// A query that is asked for, and a moment by which one promises to arrive: at most a week after its
-/// start.
+/// A query, and a moment by which one promises to arrive: at most a week after its start.
 #[derive(Clone, Copy)]
 struct Promise<'a> {
     asked: Asked<'a>,
@@ -180,7 +179,8 @@ fn punctual_answer(
     Ok(Answer { report, text })
 }
 
-/// The decision graph of a journey with the least chance of an arrival after the promised moment.
+/// The decision graph of a journey with the least chance of an arrival after the promised moment, which is at most a
+/// week after the start. `NoSafe` if no strategy always reaches the target.
 pub fn punctual_over(
     alloc: Global,
     problem: &Problem,

@@ -13,7 +13,7 @@ use plan_graph::PlanGraph;
 pub struct ReadGraph<'a> {
     /// The problem.
     pub problem: &'a Problem,
-    /// The query that it is for, and the bounds that were told of it.
+    /// The query that it is for, and the bounds in its first row.
     pub head: Head,
     /// The graph.
     pub graph: PlanGraph,

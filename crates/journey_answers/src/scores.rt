@@ -17,7 +17,7 @@ use journey_report::{Answer, NamedQuery, Report, encloses_text};
 use plan_model::NoMemory;
 use std::alloc::Global;
 
-/// The answer that tells the bounds of a graph.
+/// The answer with the bounds of a graph.
 fn enclosed_answer(alloc: Global, read: ReadGraph, bounds: Span) -> Result<Answer, NoMemory>
     ensures found { IfOk result (λ a. findings_of a.report
         ≡ score_findings read.entry.head.query read.entry.graph bounds) }
@@ -43,7 +43,8 @@ fn enclosed_answer(alloc: Global, read: ReadGraph, bounds: Span) -> Result<Answe
     Ok(Answer { report, text })
 }
 
-/// Bounds on the expected arrival of a graph that fits, or where it is not safe.
+/// Bounds on the expected arrival of a graph that fits; or `Unsafe`, with the first moment and place at which one may
+/// fail by it.
 pub fn score_over(alloc: Global, read: ReadGraph) -> Result<Answer, Fault>
     requires { IsFit read.problem.now.timetable.network read.head.query read.graph }
     ensures told { IfOk result (λ a. IsEnclosed read.entry.problem.now (findings_of a.report)

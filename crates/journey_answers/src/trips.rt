@@ -31,7 +31,7 @@ fn fault_of(fault: ReplayFault) -> Fault
     }
 }
 
-/// The answer that tells the trip by a graph.
+/// The answer with the trip by a graph.
 fn trip_answer(alloc: Global, read: ReadGraph, trace: Trace) -> Result<Answer, NoMemory>
     requires rides { All (IsRide read.problem.now.timetable.network) trace.rides }
     requires arrival { trace.arrival.0 ≤ last_printable }
@@ -56,7 +56,7 @@ fn trip_answer(alloc: Global, read: ReadGraph, trace: Trace) -> Result<Answer, N
     Ok(Answer { report, text })
 }
 
-/// The trip by a graph that fits, with the delays that were met.
+/// The trip by a graph that fits, with the given delays in seconds; or `Replay` with the fault of the trip.
 pub fn trip_over(alloc: Global, read: ReadGraph, late: &str) -> Result<Answer, Fault>
     requires { IsFit read.problem.now.timetable.network read.head.query read.graph }
     ensures told { IfOk result (λ a. IsTripTold read.entry.problem.now (late_in late.now)

@@ -15,7 +15,7 @@ use Rattle.journey_model.specs.Faults.{MayBeUnread, unread_of}
 use Rattle.journey_problem.specs.InputTables.{AreDelaysOf, delay_fault}
 use Rattle.journey_problem.specs.FeedProblems.{GtfsFolder, IsFolder, IsSoundFolder, IsWindowFault, IsFaultAfterFolder, IsFeedProblem, HasFeedTimetable, window_fault_of}
 
--- what holds of a told folder before and after a step that leaves it the same
+-- what holds of a known folder before and after a step that leaves it the same
 pub if_some_both : {A : Type 0} (o later : Option A) {P Q R : A → Type 0} → later ≡ o → IfSome o P → IfSome later Q → ((a : A) → P a → Q a → R a) → IfSome o R
 if_some_both None later same p q f = tt
 if_some_both (Some a) None same p q f = absurd (cc)

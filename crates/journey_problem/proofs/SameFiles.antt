@@ -1,4 +1,4 @@
--- Files that tell the same bytes have the same problems.
+-- Files with the same bytes have the same problems.
 use Rattle.std.proofs.Common.{◌≡◌, ℕ, ap, subst, List, Option, None, IsOkAnd}
 use mathlib.Core.Path.{fun_ext}
 use Rattle.file_ports.specs.Ports.{FileMap, file_at}

@@ -64,7 +64,7 @@ abbrev pub Finds : {A B : Type 0} → (A → B) → (Option Input → Result B F
 Finds shown wanted (Ok a) = wanted None ≡ Ok (shown a)
 Finds shown wanted (Err fault) = fault ≢ NoMemory → wanted (unread_of fault) ≡ Err fault
 
--- the files are kept, and `Read` comes only where the count of faults rose, where the files are told that of the input's own path
+-- the files are kept, and `Read` comes only where the count of faults rose, where the files are known that of the input's own path
 -- too; and always where it grew
 abbrev pub HasCauses : {T : Type 0} (path : Input → Option (List ℕ)) (before now : FilesState) → Result T Fault → Type 0
 HasCauses path before now result = HasCausesOf (λ input. IsErrAnd result (λ fault. fault ≡ Read input)) path before now

@@ -37,7 +37,7 @@ abbrev pub graph_in : Limits → Problem → ℕ → Option Input → Option (Li
 graph_in limits p start unread file =
     and_then (bytes_of limits.bytes input.Graph unread file) (λ bytes. graph_as (graph_of bytes p.timetable.network p.timetable.names p.source.0 p.target.0 start))
 
--- these are the head and the graph of the graph file of this path, where the files are told; the graph fits the network, and
+-- these are the head and the graph of the graph file of this path, where the files are known; the graph fits the network, and
 -- the head is of a journey that starts then
 pub record IsGraphFile (contents : Option FileMap) (limits : Limits) (start : ℕ) (path : List ℕ) (p : Problem) (head : Head) (graph : PlanGraph) : Type 0 where
   pub reads : IfSome contents (λ files. graph_in limits p start None (file_at files path) ≡ Ok (head, graph))

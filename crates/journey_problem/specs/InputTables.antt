@@ -34,7 +34,7 @@ abbrev pub fault_in : (Records → Option Fault) → Result Records Fault → Op
 fault_in first (Err fault) = Some fault
 fault_in first (Ok table) = first table
 
--- the table of the cut file; one with no record lacks its first column
+-- the table of the cut file; one with no record has no first column
 abbrev pub cut_records : Limits → Option Input → Option (List ℕ) → Result Records Fault
 cut_records limits unread file = records_of limits.bytes input.Cut (Cut (cut.MissingColumn Run)) unread file
 

@@ -11,7 +11,7 @@ graph_path path input.Delays = None
 graph_path path input.Graph = Some path
 graph_path path input.Proof = None
 
--- a proof file is
+-- a certificate file is
 abbrev pub proof_path : List ℕ → OwnPaths
 proof_path path (input.Feed table) = None
 proof_path path input.Cut = None

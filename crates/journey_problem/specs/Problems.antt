@@ -32,7 +32,7 @@ abbrev pub IsFaultless : Limits → FileMap → JourneyModel → Type 0
 IsFaultless limits files j =
     (fault : Fault) → IsUndisturbed (Some fault) → fault ≢ NoMemory → IsProblemFault limits files j fault → ⊥
 
--- the journey's files or its stops have this fault; where the files are told, it is the first
+-- the journey's files or its stops have this fault; where the files are known, it is the first
 abbrev pub FailsBeforeSearch : Option FileMap → Limits → JourneyModel → Fault → Type 0
 FailsBeforeSearch contents limits j fault = IsBeforeSearch j.timetable fault × IfSome contents (λ files. IsProblemFault limits files j fault)
 
@@ -41,6 +41,6 @@ abbrev pub HasTimetable : TimetableModel → JourneyModel → Problem → Type 0
 HasTimetable (CutFile path) j p = HasCutTimetable j p
 HasTimetable (FeedFolder folder horizon) j p = HasFeedTimetable horizon j p
 
--- there is a problem of the journey, where the files are told theirs, of which this holds
+-- there is a problem of the journey, where the files are known theirs, of which this holds
 abbrev pub InProblem : Option FileMap → Limits → JourneyModel → (Problem → Type 0) → Type 0
 InProblem contents limits j P = (p : Problem) × HasTimetable j.timetable j p × IfSome contents (λ files. IsProblem limits files j p) × P p

@@ -41,7 +41,8 @@ fn certificate_of_bytes(
     }
 }
 
-/// The query and the certificate of the certificate file of this path, for a journey that starts then.
+/// The query and the certificate of the file of this path, for a journey that starts then; or the first of its faults:
+/// `Read`, `Missing`, `Limit` for its bytes, and then `ProofFile`.
 pub fn read_certificate_file<F: Files>(
     alloc: Global,
     files: &mut F,

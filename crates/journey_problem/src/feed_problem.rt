@@ -192,7 +192,7 @@ fn problem_in<F: Files>(
     }
 }
 
-/// The problem of a journey over the feed in this folder, whose timetable is the window of so many
+/// The problem of a journey over the feed in this folder, whose timetable is the window of `horizon`
 /// hours from the start on.
 pub(crate) fn feed_problem<F: Files>(
     alloc: Global,

@@ -21,7 +21,7 @@ pub(crate) struct FeedTables {
 }
 
 impl Drop for FeedTables {
-    /// Lets go of its parts here, so that a caller lets go of one value.
+    /// Drops its parts here, so that a caller drops one value.
     fn drop(self) {
         let FeedTables {
             feed: _feed,

@@ -49,7 +49,8 @@ fn graph_of_bytes(
     }
 }
 
-/// The head and the graph of the graph file of this path, for a journey that starts then.
+/// The head and the graph of the graph file of this path, for a journey that starts then; or the first of its faults:
+/// `Read`, `Missing`, `Limit` for its bytes, and then `GraphFile`.
 pub fn read_graph_file<F: Files>(
     alloc: Global,
     files: &mut F,

@@ -17,8 +17,8 @@ use file_ports::{Files, LoadFault, load};
 use journey_model::{Fault, Input, LimitKind};
 use std::alloc::Global;
 
-/// The bytes of an input; or that it is not there, cannot be read or is too long, or that there is no
-/// memory.
+/// The bytes of an input; or `Missing` if there is no such file, `Read` if it cannot be read, and `Limit` if it has more
+/// bytes than that.
 pub(crate) fn load_bytes<F: Files>(
     alloc: Global,
     files: &mut F,
@@ -43,7 +43,7 @@ pub(crate) fn load_bytes<F: Files>(
     }
 }
 
-/// The table of an input that is none of a feed, with the fault that it has where it holds no record.
+/// The table of an input that is none of a feed, with the fault that it has if it has no record.
 fn load_rows<F: Files>(
     alloc: Global,
     files: &mut F,
@@ -84,7 +84,8 @@ fn fault_of_cut(fault: CutFault) -> Fault
     }
 }
 
-/// The cut file. One with no record lacks its first column.
+/// The cut file; or the first of its faults: `Read`, `Missing`, `Limit` for its bytes, and then those of its rows
+/// (`Cut`, or `Limit` for their number). One with no record has no first column, which is `MissingColumn`.
 pub(crate) fn read_cut_file<F: Files>(
     alloc: Global,
     files: &mut F,
@@ -119,7 +120,8 @@ fn fault_of_delays(fault: DelayFault) -> Fault
     }
 }
 
-/// The delay file. One with no record lacks its first column.
+/// The delay file; or the first of its faults: `Read`, `Missing`, `Limit` for its bytes, and then `Delays`. One with no
+/// record has no first column, which is `MissingColumn`.
 pub(crate) fn read_delay_file<F: Files>(
     alloc: Global,
     files: &mut F,

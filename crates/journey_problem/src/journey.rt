@@ -14,8 +14,7 @@ use file_ports::Files;
 use journey_model::{Fault, Problem};
 use std::alloc::Global;
 
-/// The problem of a journey; or the first fault of its files, of its stops or of the window, or that
-/// there is no memory.
+/// The problem of a journey; or the first fault of its files, of its stops or of the window.
 pub fn problem_of<F: Files>(
     alloc: Global,
     files: &mut F,

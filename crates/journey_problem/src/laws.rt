@@ -6,8 +6,7 @@ pub fn files_have_one_problem()
     ensures { HasOneProblem }
 {}
 
-/// Files of which a problem is made have no fault, but where one fails to be read or there is no
-/// memory.
+/// Files of which a problem is made have no fault, unless one fails to be read or there is no memory.
 pub fn files_of_a_problem_have_no_fault()
     ensures { HasNoFault }
 {}

@@ -1,9 +1,8 @@
-//! What a command reads from files. Of a journey's files its problem: the timetable with its delays, and the ends of the
-//! journey in it; or the first fault of the files. And the graph or the certificate of a file for a problem, or its first
-//! fault.
+//! What a command reads from files. From those of a journey its problem: the timetable with its delays, and the ends of
+//! the journey in it. And the graph or the certificate of a file for a problem. Or else the first fault of the files.
 //!
-//! A call that takes an allocator may answer that there is no memory, as `NoMemory` or as the variant of that name; then a
-//! `Files` value may have another file open, and nothing else has changed.
+//! A call that takes an allocator may answer that there is no memory, as `NoMemory` or as the variant of that name; then
+//! a `Files` value may have another file open, and nothing else has changed.
 #![tactic(auto)]
 
 mod certificate_files;

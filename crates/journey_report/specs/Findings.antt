@@ -1,4 +1,4 @@
--- What a report tells, besides its status and its fault.
+-- What a report says, besides its status and its fault.
 use Rattle.std.specs.Prelude.{ℕ, List, Option, None, Some}
 use Rattle.plan_model.specs.declared.model.Moment.{Moment}
 use Rattle.plan_model.specs.declared.model.Query.{Query}

@@ -1,4 +1,7 @@
-//! What is told: the report of a run, and the printed texts of answers.
+//! What a run answers: its report, and the printed texts of its answers.
+//!
+//! A call that takes an allocator may answer that there is no memory, as `NoMemory` or as the variant of that name; then
+//! what it was lent is as it was, unless its own comment says otherwise.
 #![tactic(auto)]
 
 mod answer;

@@ -16,8 +16,8 @@ use trip_replay::Trace;
 #[derive(Clone, Copy, Debug, PartialEq, Eq)]
 pub struct Status(pub u8);
 
-/// What a run came to. At status 0 and at status 8 the fields of the command are there, and else
-/// the fault alone.
+/// What a run came to. At status 0 and at status 8 the fields of the command are present, and else
+/// only the fault.
 #[derive(Drop)]
 pub struct Report {
     /// The number that the process ends with.
@@ -77,7 +77,7 @@ impl Report {
         }
     }
 
-    /// A report of a fault alone.
+    /// A report of a fault and nothing else.
     pub fn bare(fault: Fault) -> Report
         ensures findings { findings_of result ≡ no_findings }
         ensures status { result.status.0 ≡ status_of result.fault }

@@ -1,4 +1,4 @@
--- What a line of `ask_over` promises, told of what is asked.
+-- What a line of `ask_over` promises, said of what is asked.
 use Rattle.std.proofs.Common.{◌≡◌, ℕ, List, Option, None, Some, Result, Ok, Err, sym, subst, ◌≢◌, IfOk, IfErr}
 use Rattle.file_ports.specs.Ports.{FileMap, FilesState}
 use Rattle.csv_rows.specs.declared.limits.Limits.{Limits}
@@ -29,7 +29,7 @@ module _ (told : Option FileMap) (limits : Limits) (start : ℕ) (p : Problem) w
       → IfErr r (λ fault. fault ≢ NoMemory → FailsAsk told limits start p (ask_shown asked) fault) → IsAnswered (ask_shown ask) r
   answered-asked r is answer fault = subst (λ (ask : Ask). IsAnswered (ask_shown ask) r) (sym is) (record { answer = answer; fault = fault })
 
-  -- and no file of its own is read: it fails only as no strategy is safe, or for want of memory
+  -- and no file of its own is read: it fails only as no strategy is safe, or there was no memory
   pub record IsAnsweredAlone (ask : AskModel) (r : Result Answer Fault) : Type 0 where
     pub own : IsAnswered ask r
     pub tellable : IfErr r (IsTellable (Some (parts_of p)))

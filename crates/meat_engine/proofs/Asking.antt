@@ -25,7 +25,7 @@ use Rattle.meat_engine.specs.Refusals.{IsRefusalBy}
 pub early_tellable : (known : Option NamedParts) (timetable : TimetableModel) (fault : Fault) → IsBeforeSearch timetable fault → IsTellable known fault
 early_tellable known timetable fault early = tellable known fault (λ at. subst IsStageBeforeSearch at early.stage)
 
--- nor is that there are no strategies: what is told where it fails only as no strategy is safe, or for want of memory
+-- nor is that there are no strategies: what holds where it fails only as no strategy is safe, or there was no memory
 pub record IsUnsafeTold (Fails : Fault → Type 0) (known : Option NamedParts) (fault : Fault) : Type 0 where
   pub why : fault ≢ NoMemory → Fails fault
   pub tellable : IsTellable known fault
@@ -57,7 +57,7 @@ pub never_unread : (fault : Fault) → ((input : Input) → fault ≡ Read input
 never_unread (Read file) never = absurd (never file refl)
 never_unread _ never = refl
 
--- the causes by other paths, where what is told of a path is told of the other
+-- the causes by other paths, where what is known of a path is known of the other
 pub causes-paths : {T : Type 0} {path other : Input → Option (List ℕ)} {before now : FilesState} (r : Result T Fault)
     → ((file : Input) → RoseAt (path file) before.faults_of now.faults_of → RoseAt (other file) before.faults_of now.faults_of)
     → HasCauses path before now r → HasCauses other before now r

@@ -78,7 +78,7 @@ module _ (told : Option FileMap) (limits : Limits) (words : List (List ℕ)) whe
     outcome_by fault other keeps refused =
         subst (λ (e : Ending). OutcomeBy e told limits words report old new IsLine (Some fault)) (sym (refused_ending fault other)) (keeps, refused)
 
-  -- a refusal that was told
+  -- a refusal whose line was written
   pub refused_outcome : (report : Report) (old new before after : Option (List ℕ)) (was now : ℕ) (known : Option NamedParts) (wanted : Fault) (found : Option Fault)
       → findings_of report ≡ no_findings → Keeps old new
       → IsExplained told limits words known wanted → wanted ≢ Write → IsRefusedWith before after was now known wanted found
@@ -110,14 +110,14 @@ module _ (before after : Option (List ℕ)) (was now : ℕ) (known : Option Name
   refused_some wanted None refused none = refused
   refused_some wanted (Some fault) refused none = cc
 
-  -- what was told is the fault, or that there is no memory for its line
+  -- what was written is the line of the fault, or that there is no memory for it
   pub refused_is : (wanted : Fault) (found : Option Fault) (fault : Fault) → IsRefusedWith before after was now known wanted found → found ≡ Some fault → (fault ≡ wanted)
       ⊎ ((fault ≡ NoMemory) × IsFormatted wanted)
   refused_is wanted None fault refused is = absurd refused
   refused_is wanted (Some other) fault refused is =
       subst (λ (f : Fault). (f ≡ wanted) ⊎ ((f ≡ NoMemory) × IsFormatted wanted)) (same_Some other fault is) refused.0
 
-  -- a file that cannot be read is always told
+  -- that a file cannot be read is always said
   pub refused_read : (wanted : Fault) (found : Option Fault) (file : Input) → IsRefusedWith before after was now known wanted found → wanted ≡ Read file → found ≡ Some (Read file)
   refused_read wanted None file refused is = absurd refused
   refused_read wanted (Some fault) file refused is =

@@ -24,7 +24,7 @@ use Rattle.meat_engine.proofs.Ended.{asked_ends, answers_end, EndsOver, ends_in,
 use Rattle.meat_engine.proofs.Outcomes.{no_memory_or_not}
 use Rattle.meat_engine.proofs.Undisturbed.{fails, answered}
 
--- what a journey comes to over told files: its question ends over a problem, or its files have a fault, or there was no memory
+-- what a journey comes to over known files: its question ends over a problem, or its files have a fault, or there was no memory
 abbrev Comes : Limits → FileMap → JourneyModel → AskModel → Option Fault → Type 0
 Comes limits files j a fault =
     EndsOver limits files j a (status_of fault)

@@ -52,21 +52,21 @@ AnswersAsk contents limits start p (Punctual alpha promise) found text = InQuery
 AnswersAsk contents limits start p (Departures until last) found text = TellsDepartures p (query_until p start until) last found text
 AnswersAsk contents limits start p (Latest until) found text = TellsLatest p (query_until p start until) found text
 
--- why a replay has no answer, but for want of memory: the graph file has a fault; or the trip by its graph
+-- why a replay has no answer, unless there was no memory: the graph file has a fault; or the trip by its graph
 abbrev pub FailsReplay : Option FileMap → Limits → ℕ → List ℕ → List ℕ → Problem → Fault → Type 0
 FailsReplay contents limits start path late p fault =
     FailsGraph contents limits start path p fault ⊎ InGraphFile contents limits start path p (IsTripFault p late fault)
 
--- why a graph has no bounds, but for want of memory: the graph file has a fault; or its graph is not safe
+-- why a graph has no bounds, unless there was no memory: the graph file has a fault; or its graph is not safe
 abbrev pub FailsScore : Option FileMap → Limits → ℕ → List ℕ → Problem → Fault → Type 0
 FailsScore contents limits start path p fault =
     FailsGraph contents limits start path p fault ⊎ InGraphFile contents limits start path p (IsUnsafeGraph p fault)
 
--- why a check has no answer, but for want of memory: the proof file has a fault; or its certificate fails
+-- why a check has no answer, unless there was no memory: the certificate file has a fault; or its certificate fails
 abbrev pub FailsCheck : Option FileMap → Limits → ℕ → List ℕ → Problem → Fault → Type 0
 FailsCheck contents limits start path p fault = FailsProof contents limits start path p fault ⊎ InProofFile contents limits start path p (IsBroken p fault)
 
--- why it has no answer, but for want of memory
+-- why it has no answer, unless there was no memory
 abbrev pub FailsAsk : Option FileMap → Limits → ℕ → Problem → AskModel → Fault → Type 0
 FailsAsk contents limits start p (Safe alpha) fault = IsNoSafe p start fault
 FailsAsk contents limits start p (Expand alpha) fault = IsNoSafe p start fault
@@ -79,7 +79,7 @@ FailsAsk contents limits start p (Punctual alpha promise) fault = IsNoSafe p sta
 FailsAsk contents limits start p (Departures until last) fault = FailsDepartures p (query_until p start until) fault
 FailsAsk contents limits start p (Latest until) fault = FailsLatest p (query_until p start until) fault
 
--- the status that it ends with, but for want of memory, where no file fails to be read and the answer is written
+-- the status that it ends with, unless there was no memory, where no file fails to be read and the answer is written
 abbrev pub EndsAsk : Limits → FileMap → ℕ → Problem → AskModel → ℕ → Type 0
 EndsAsk limits files start p (Safe alpha) status = EndsBySafety p start status
 EndsAsk limits files start p (Expand alpha) status = EndsBySafety p start status
@@ -92,7 +92,7 @@ EndsAsk limits files start p (Punctual alpha promise) status = EndsBySafety p st
 EndsAsk limits files start p (Departures until last) status = EndsByDepartures p (query_until p start until) status
 EndsAsk limits files start p (Latest until) status = EndsByLatest p (query_until p start until) status
 
--- why what is asked about a journey has no answer, but for want of memory, where this timetable is known: it has none over the
+-- why what is asked about a journey has no answer, unless there was no memory, where this timetable is known: it has none over the
 -- problem of the journey, whose timetable that is; or it is the first fault of the files of the journey
 abbrev pub FailsJourney : Option FileMap → Limits → JourneyModel → AskModel → Option NamedParts → Fault → Type 0
 FailsJourney contents limits j a known fault =

@@ -10,13 +10,13 @@ use Rattle.meat_engine.specs.Asks.{EndsAsk}
 use Rattle.meat_engine.specs.Ends.{EndsBySafety}
 use Rattle.meat_engine.specs.Samples.{sample_journey}
 
--- over files that have a problem: what is asked about it ends as it says, or for want of memory
+-- over files that have a problem: what is asked about it ends as it says, or there was no memory
 abbrev pub EndsInProblem : Option FileMap → Limits → List (List ℕ) → ℕ → Type 0
 EndsInProblem contents limits words status =
     (files : FileMap) (j : JourneyModel) (a : AskModel) (p : Problem) → contents ≡ Some files → job_of words ≡ Ok (Ask j a)
     → IsProblem limits files j p → EndsAsk limits files j.start p a status ⊎ (status ≡ 9)
 
--- over files with no fault: they have a problem, and what is asked about it ends as it says, or for want of memory
+-- over files with no fault: they have a problem, and what is asked about it ends as it says, or there was no memory
 abbrev pub EndsWithoutFault : Option FileMap → Limits → List (List ℕ) → ℕ → Type 0
 EndsWithoutFault contents limits words status =
     (files : FileMap) (j : JourneyModel) (a : AskModel) → contents ≡ Some files → job_of words ≡ Ok (Ask j a) → IsFaultless limits files j

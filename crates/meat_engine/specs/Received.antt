@@ -30,7 +30,7 @@ abbrev pub AnswersJob : Option FileMap → Limits → JobModel → Findings → 
 AnswersJob contents limits (Ask j a) found text = InProblem contents limits j (λ p. AnswersAsk contents limits j.start p a found text)
 AnswersJob contents limits (Sample size) found text = AnswersSample limits size found text
 
--- why the job has no answer, but for want of memory, where this timetable is known
+-- why the job has no answer, unless there was no memory, where this timetable is known
 abbrev pub FailsJob : Option FileMap → Limits → JobModel → Option NamedParts → Fault → Type 0
 FailsJob contents limits (Ask j a) known fault = FailsJourney contents limits j a known fault
 FailsJob contents limits (Sample size) known fault = FailsSample limits size known fault
@@ -51,7 +51,7 @@ IsExplained contents limits words known fault =
     ⊎ (((refusal : WordsFault) × (fault ≡ Words refusal) × (job_of words ≡ Err refusal))
     ⊎ Asks words (λ wanted. FailsJob contents limits wanted known fault))
 
--- nothing but the fault is told, which has a cause, and this holds of its line
+-- nothing but the line of the fault is written, the fault has a cause, and this holds of the line
 abbrev pub IsRefused : Option FileMap → Limits → List (List ℕ) → Report → (List ℕ → Type 0) → Fault → Type 0
 IsRefused contents limits words report Tells fault =
     (findings_of report ≡ no_findings) × ((known : Option NamedParts) × IsExplained contents limits words known fault × Tells (line_of known fault))
@@ -109,7 +109,7 @@ IsWrittenBy Refused old new text = ⊥
 abbrev pub IsWritten : Option (List ℕ) → Option (List ℕ) → List ℕ → Option Fault → Type 0
 IsWritten old new text fault = IsWrittenBy (ending_of fault) old new text
 
--- the fault was told, or that there is no memory for its line
+-- the line of the fault was written, or that there is no memory for it
 abbrev pub IsRefusedWith : Option (List ℕ) → Option (List ℕ) → ℕ → ℕ → Option NamedParts → Fault → Option Fault → Type 0
 IsRefusedWith old new before now known wanted None = ⊥
 IsRefusedWith old new before now known wanted (Some told) =

@@ -1,4 +1,4 @@
--- Refusals, with the timetables by which their lines are told.
+-- Refusals, with the timetables whose names their lines use.
 use Rattle.std.specs.Prelude.{◌≢◌, Option, option_map, Result, Ok, Err}
 use Rattle.journey_model.specs.declared.faults.Fault.{Fault}
 use Rattle.journey_model.specs.declared.faults.Fault.TheVariants.{NoMemory}
@@ -15,7 +15,7 @@ abbrev pub by_fault : {T : Type 0} → Result T Refusal → Result T Fault
 by_fault (Ok a) = Ok a
 by_fault (Err r) = Err r.fault
 
--- its line can be told by the timetable that is known, by which the fault has its cause, or there was no memory
+-- its line has a text by the timetable that is known, by which the fault has its cause, or there was no memory
 pub record IsRefusalBy (cause : Option NamedParts → Fault → Type 0) (r : Refusal) : Type 0 where
   pub tellable : IsTellable (known_of r) r.fault
   pub holds : r.fault ≢ NoMemory → cause (known_of r) r.fault

@@ -30,10 +30,10 @@ pub record IsRun (limits : Limits) (words : List (List ℕ)) (report : Report) (
   -- the status is that of the fault, and the fault is that of the run
   pub status : report.status.0 ≡ status_of report.fault
   pub outcome : Outcome before.files limits words report out.written out_after.written (TellsLine err err_after) report.fault
-  -- where there is no fault nothing is told of one
+  -- where there is no fault no line of one is written
   pub quiet : report.fault ≡ None → Keeps err.written err_after.written
   pub same : after.files ≡ before.files
-  -- a file cannot be read only where the files failed, where it is one of the job, and where it is told its own path failed
+  -- a file cannot be read only where the files failed, where it is one of the job, and where its files are known its own path failed
   -- too; and always where the files failed
   pub read : (input : Input) → report.fault ≡ Some (Read input) → Rose before.faults after.faults
   pub read_path : (wanted : JobModel) (input : Input) → job_of words ≡ Ok wanted → IsSome before.files

@@ -34,7 +34,7 @@ sample_journey = record {
 abbrev pub sample_alpha : ℕ
 sample_alpha = 200
 
--- the findings and the text tell of a plan, how many connections the window has and how many legs the graph has
+-- the findings and the text are those of a plan, how many connections the window has and how many legs the graph has
 abbrev pub TellsSampled : ℕ → Problem → Findings → List ℕ → Query → Moment → Type 0
 TellsSampled size p found text query worst =
     (graph : PlanGraph) × (bounds : Interval) × (found ≡ sample_findings query worst graph bounds (count p.timetable.network))
@@ -50,7 +50,7 @@ OverMade size P = (files : FileMap) × SameFolder (made size) files × P files
 abbrev pub AnswersSample : Limits → ℕ → Findings → List ℕ → Type 0
 AnswersSample limits size found text = OverMade size (λ files. InProblem (Some files) limits sample_journey (λ p. IsSampled size p found text))
 
--- why a sample has no answer, but for want of memory: its plan over the made files has none, and no file failed to be read
+-- why a sample has no answer, unless there was no memory: its plan over the made files has none, and no file failed to be read
 abbrev pub FailsSample : Limits → ℕ → Option NamedParts → Fault → Type 0
 FailsSample limits size known fault =
     (unread_of fault ≡ None) × OverMade size (λ files. FailsJourney (Some files) limits sample_journey (Plan sample_alpha) known fault)

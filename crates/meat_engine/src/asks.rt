@@ -1,4 +1,4 @@
-//! What is asked about a journey, over its files.
+//! The answers to what the words ask about a journey, over its files.
 ghost use Rattle.std.specs.Prelude.{◌≡◌, ◌≢◌, Some, IfOk, IfErr};
 ghost use Rattle.command_line.specs.Ranges.{IsJourney, IsAsk};
 ghost use Rattle.command_line.specs.Shown.{journey_shown, ask_shown};
@@ -30,7 +30,8 @@ use journey_problem::{problem_of, read_certificate_file, read_graph_file};
 use journey_report::Answer;
 use std::alloc::Global;
 
-/// The trip by the graph of a file, with the delays that were met.
+/// The trip by the graph of a file, with the given delays; or the first fault of the file; or `Replay` with the fault of
+/// the trip.
 fn replay_over<F: Files>(
     alloc: Global,
     files: &mut F,
@@ -58,7 +59,8 @@ fn replay_over<F: Files>(
     trip_over(alloc, read, late)
 }
 
-/// Bounds on the expected arrival of the graph of a file.
+/// Bounds on the expected arrival of the graph of a file; or the first fault of the file; or `Unsafe`, with the first
+/// moment and place at which one may fail by the graph.
 fn check_graph_over<F: Files>(
     alloc: Global,
     files: &mut F,
@@ -83,7 +85,8 @@ fn check_graph_over<F: Files>(
     score_over(alloc, read)
 }
 
-/// Whether the certificate of a file holds.
+/// That the certificate of a file holds; or the first fault of the file; or `ProofFails`, with the last connection of
+/// the scan order whose value is too great or missing.
 fn check_certificate_over<F: Files>(
     alloc: Global,
     files: &mut F,
@@ -108,7 +111,7 @@ fn check_certificate_over<F: Files>(
     check_over(alloc, read)
 }
 
-/// What is asked about a problem, from a start on.
+/// The answer to what the words ask about a problem, from a start on.
 fn ask_over<F: Files>(
     alloc: Global,
     files: &mut F,
@@ -146,7 +149,7 @@ fn ask_over<F: Files>(
     }
 }
 
-/// What is asked about a journey, over its problem; or the first fault of its files.
+/// The answer to what the words ask about a journey, over its problem; or the first fault of its files.
 pub(crate) fn journey_over<F: Files>(
     alloc: Global,
     files: &mut F,

@@ -1,4 +1,7 @@
 //! The commands of the planner over files and sinks.
+//!
+//! A call that takes an allocator may answer that there is no memory, as `NoMemory` or as the variant of that name; then
+//! a `Files` value may have another file open, and nothing else has changed.
 #![tactic(auto)]
 
 mod asks;

@@ -3,7 +3,7 @@ ghost use Rattle.std.specs.Prelude.{◌≡◌, None};
 
 use journey_model::{Fault, Problem};
 
-/// Why there is no answer, and the problem by whose names that is told, where there is one.
+/// Why there is no answer, and the problem whose names the line of the fault uses, if there is one.
 #[derive(Drop)]
 pub(crate) struct Refusal {
     pub fault: Fault,

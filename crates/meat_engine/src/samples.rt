@@ -47,7 +47,8 @@ pub(crate) struct SampleSize {
     pub ghost high: { value ≤ most_size },
 }
 
-/// What is told of the plan in a made timetable of this size.
+/// The answer of `sample` in the problem of a made timetable of this size. `NoSafe` if no strategy always reaches the
+/// target.
 fn sample_in(
     alloc: Global,
     size: SampleSize,

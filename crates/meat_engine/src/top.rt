@@ -49,7 +49,7 @@ fn answer_of<F: Files>(
     }
 }
 
-/// Writes a line, or a front of it where the sink fails.
+/// Writes a line, or a front of it if the sink fails.
 fn put_line<E: Sink>(err: &mut E, line: &[u8])
     ensures { IsLineTold (E.written err.old) (E.written err.new) (E.faults err.old) (E.faults err.new)
         line.now }
@@ -70,8 +70,8 @@ fn named<'a>(problem: &'a Option<Problem>) -> Option<&'a Timetable>
     }
 }
 
-/// The report of a fault, whose line is told to `err`. Where there is no memory for the line, that is
-/// the fault.
+/// The report of a fault, whose line is written to `err`. Without memory for the line, that is the
+/// fault.
 fn tell_fault<E: Sink>(alloc: Global, err: &mut E, refusal: &Refusal) -> Report
     requires { IsTellable (known_of refusal.now) refusal.now.fault }
     ensures status { result.status.0 ≡ status_of result.fault }
@@ -96,7 +96,7 @@ fn tell_fault<E: Sink>(alloc: Global, err: &mut E, refusal: &Refusal) -> Report
     }
 }
 
-/// Ends with a fault, and lets its problem go.
+/// Ends with a fault, and drops its problem.
 fn refuse<E: Sink>(alloc: Global, err: &mut E, refusal: Refusal) -> Report
     requires { IsTellable (known_of refusal) refusal.fault }
     ensures status { result.status.0 ≡ status_of result.fault }

@@ -1,4 +1,4 @@
--- Two choices that fix one tree, which is safe, choose the same after each leg that stands in it.
+-- Two choices that fix one tree, which is safe, choose the same after each leg in it.
 use Rattle.std.proofs.Common.{◌≡◌, ◌≢◌, ℕ, zero, suc, ◌+◌, List, [], ◌∷◌, Option, Some, None, Contains, sym, subst, refl, inl, inr, ap, ne_eqb, ◌-◌}
 use Rattle.std.proofs.lemmas.Bool.{cases_eq, eq-eqb}
 use Rattle.plan_model.specs.declared.model.Leg.{Leg}
@@ -30,7 +30,7 @@ kid_same f g (head ∷ row) scheduled same o has = elim (Contains-cons_cases hea
   | inr more ↦ kid_same f g row scheduled (ap other_kids same) o more
 ]
 
--- what stands in the kids stands after an outcome
+-- what is in the kids is in the tree after an outcome
 stands_after : (f : ℕ → Tree) (row : List Outcome) (scheduled : ℕ) (other : Leg) → StandsIn other (kids_after f scheduled row)
     → (o : Outcome) × Contains row o × Stands other (f (scheduled + o.delay))
 stands_after f [] scheduled other there = absurd there
@@ -77,7 +77,7 @@ module _ (n : NetworkModel) (target : ℕ) (c d : Leg → ℕ → Option Leg) wh
     next_same (suc rides) leg x away same safe =
         one_leg n (unfold_after n target c rides) (unfold_after n target d rides) (c leg x) (d leg x) (end_of n leg) x (rw (ne_eqb (end_of n leg) target away) at same)
 
-    -- over so many rides more they agree after each leg that stands
+    -- over that number of further rides they agree after each leg in it
     abbrev AgreeOver : ℕ → Type 0
     AgreeOver rides = (leg : Leg) (x : ℕ) → unfold_after n target c rides leg x ≡ unfold_after n target d rides leg x
         → IsSafe n target by (unfold_after n target c rides leg x) (end_of n leg) x → (other : Leg) → Stands other (unfold_after n target c rides leg x) → Agrees other
@@ -123,7 +123,7 @@ module _ (n : NetworkModel) (target : ℕ) (c d : Leg → ℕ → Option Leg) wh
           agree_by rides (agree_over rides) (c leg x) (d leg x) (end_of n leg) x (rw test at same) (rw test at safe) other (rw test at stands)
     ]
 
-    -- from a start leg on they agree after each leg that stands
+    -- from a start leg on they agree after each leg in it
     pub agree_from : (start : Leg) (p x : ℕ) → p ≢ target → unfold_from n target c (Some start) p x ≡ unfold_from n target d (Some start) p x
         → IsSafeFromStart n target by (unfold_from n target c (Some start) p x) p x
         → (other : Leg) → Stands other (unfold_from n target c (Some start) p x) → Agrees other

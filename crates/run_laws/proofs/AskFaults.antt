@@ -90,7 +90,7 @@ module _ (p : Problem) (files : FileMap) (limits : Limits) (start : ℕ) where
     graph_fault : (fault : Fault) → NotRead fault → FailsGraph (Some files) limits start path p fault → graph_read ≡ Err fault
     graph_fault fault never fails = subst (λ (u : Option Input). graph_in limits p start u (file_at files path) ≡ Err fault) (none_unread fault never) fails.1
 
-    -- what the file's graph comes to stands against no fault of the file
+    -- a graph that is read excludes a fault of the file
     of_graph : (P : Head → PlanGraph → Type 0) (fault : Fault) → NotRead fault → FailsGraph (Some files) limits start path p fault → InGraphFile (Some files) limits start path p P → ⊥
     of_graph P fault never fails (head, graph, is, holds) = never_both graph_read (head, graph) fault is.reads (graph_fault fault never fails)
 
@@ -151,7 +151,7 @@ module _ (p : Problem) (files : FileMap) (limits : Limits) (start : ℕ) where
     one_file_fault (Ok text) a b is also = one_text_fault text a b is also
     one_file_fault (Err first) a b is also = is ∙ sym also
 
-    -- a text with a fault tells no certificate
+    -- a text with a fault has no certificate
     text_or_fault : (r : Result (List ℕ) Fault) (text : List ℕ) (q : Query) (proof : LowerBounds) (a : Fault) → r ≡ Ok text → Told text (Ok (q, proof)) → FailsFile p start r a → ⊥
     text_or_fault (Ok other) text q proof a there told (first, is, late) =
         let same : other ≡ text = cc in

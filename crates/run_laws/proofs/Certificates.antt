@@ -1,4 +1,4 @@
--- What is told of a certificate, and of a proof file, is told by the problem and the files.
+-- The answers about a certificate, and about a certificate file, follow from the problem and the files.
 use Rattle.std.proofs.Common.{◌≡◌, ℕ, List, Option, Some, sym, ap, ◌∙◌}
 use Rattle.file_ports.specs.Ports.{FileMap}
 use Rattle.csv_rows.specs.declared.limits.Limits.{Limits}

@@ -1,4 +1,4 @@
--- `departures` and `latest` end as the least worst arrival has it.
+-- How `departures` and `latest` end follows from the least worst arrival.
 use Rattle.std.proofs.Common.{◌≡◌, ℕ, ◌<◌, ◌≤◌, arith, inl, inr, sym, ◌∙◌, Some}
 use Rattle.plan_model.specs.declared.model.Moment.{Moment}
 use Rattle.plan_model.specs.declared.model.Query.{Query}

@@ -78,7 +78,7 @@ module _ (limits : Limits) (files : FileMap) where
   one_journey_fault j ask known other a b m n (inr early) (inr soon) =
       with_line known other a b (one_first_fault limits files j a b m.read n.read m.memory n.memory early.1 soon.1) (line_before known other a early.0.stage)
 
-  -- what is refused over a made timetable is so over other files that tell the same bytes
+  -- what is refused over a made timetable is so over other files with the same bytes
   made_fault : (other : FileMap) (known : Option NamedParts) (fault : Fault) → ((path : List ℕ) → file_at other path ≡ file_at files path)
       → FailsJourney (Some other) limits sample_journey (Plan sample_alpha) known fault → Fails sample_journey (Plan sample_alpha) known fault
   made_fault other known fault same (inl (p, has, is, fails)) = inl (p, has, same_feed_problem limits other files same _ _ sample_journey p is, fails)
@@ -105,7 +105,7 @@ module _ (limits : Limits) (files : FileMap) where
   one_cause words known other a b m n (inr (inr (job, from, fails))) (inr (inr (second, of, misses))) =
       one_job_fault job known other a b m n fails (subst (λ (w : JobModel). FailsJob (Some files) limits w other b) (one_job words second job of from) misses)
 
-  -- ---- an answer stands against a fault
+  -- ---- an answer excludes a fault
 
   journey_answered : (j : JourneyModel) (ask : AskModel) (found : Findings) (text : List ℕ) (known : Option NamedParts) (a : Fault) → IsCalm a
       → AnswersJob (Some files) limits (Ask j ask) found text → FailsJourney (Some files) limits j ask known a → ⊥
@@ -160,7 +160,7 @@ module _ (limits : Limits) (files : FileMap) where
       abbrev Tells : List ℕ → Type 0
       Tells = TellsLine run.err run.err_after
 
-      -- what it comes to, by what the files tell and the sinks received
+      -- what it comes to, by what the files hold and the sinks received
       outcome : (fault : Option Fault) → report.fault ≡ fault → Outcome (Some files) limits words report (Some old) new Tells fault
       outcome fault is =
           let by : Option FileMap → Option (List ℕ) → Option (List ℕ) → Option Fault → Type 0 = λ contents had has f. Outcome contents limits words report had has Tells f in

@@ -1,4 +1,4 @@
--- What is told of a graph file, and of the latest moment, is told by the files.
+-- The answers about a graph file, and about the latest moment, follow from the files.
 use Rattle.std.proofs.Common.{◌≡◌, ℕ, List, Some, Ok, sym, ap, ◌∙◌, inl, inr, arith}
 use Rattle.std.proofs.lemmas.Bool.{cases_lt}
 use Rattle.file_ports.specs.Ports.{FileMap}

@@ -1,4 +1,4 @@
--- A graph file tells one graph, and a proof file one certificate; what holds of the one that is told holds of the other.
+-- A graph file has one graph, and a certificate file one certificate; what holds of one that was read holds of another.
 use Rattle.std.proofs.Common.{◌≡◌, ℕ, List, None, Some, Result, Ok, Err, subst}
 use Rattle.file_ports.specs.Ports.{FileMap, file_at}
 use Rattle.csv_rows.specs.declared.limits.Limits.{Limits}

@@ -1,4 +1,4 @@
--- The strategy that the rules keep, and its value, are told by the network and the query.
+-- The strategy that the rules keep, and its value, follow from the network and the query.
 use Rattle.std.proofs.Common.{◌≡◌, ◌≢◌, ℕ, List, Some, sym, ap, ap₂, ◌∙◌, inl, inr}
 use Rattle.std.proofs.lemmas.Bool.{cases_eq}
 use Rattle.interval_fixed.specs.Interval.{Interval}

@@ -1,4 +1,4 @@
--- A tidy graph by place is told by its tree.
+-- A tidy graph by place follows from its tree.
 use Rattle.std.proofs.Common.{◌≡◌, ◌≢◌, ℕ, ◌<◌, ◌≤◌, List, [], ◌∷◌, length, Option, Some, None, MatchOption, All, AllPairs, Contains, arith, sym, subst, refl, inl, inr, ◌∙◌, ap, ap₂}
 use Rattle.std.proofs.lemmas.Bool.{cases_eq}
 use Rattle.std.proofs.lemmas.List.Elements.{All-nil, All-contains}
@@ -22,7 +22,7 @@ use Rattle.plan_model.proofs.Lists.{Contains-nil, Contains-head, Contains-tail, 
 use Rattle.run_laws.proofs.Rising.{HasAll, one_rising}
 use Rattle.run_laws.proofs.Agree.{start_same, agree_from}
 
--- a row is told by its moment and its leg
+-- a row is given by its moment and its leg
 pub row_same : (a b : GraphRow) → a.by.0 ≡ b.by.0 → a.leg ≡ b.leg → a ≡ b
 row_same a b by leg = ap₂ row_by by leg
 
@@ -30,7 +30,7 @@ row_same a b by leg = ap₂ row_by by leg
 one_row : (n : NetworkModel) (p : ℕ) (a b : GraphRow) → a.leg ≡ b.leg → IsFitRow n p a → IsFitRow n p b → a ≡ b
 one_row n p a b leg fit other = row_same a b (one_found (limit_of n p b.leg) a.by.0 b.by.0 (ap (limit_of n p) (sym leg) ∙ fit.by) other.by) leg
 
--- a row that fits stands among rows that fit, where these pick its leg
+-- a row that fits is among rows that fit, where these pick its leg
 row_of_leg : (n : NetworkModel) (p x : ℕ) (rows : List GraphRow) (row : GraphRow) → All (IsFitRow n p) rows → IsFitRow n p row → pick_row rows x ≡ Some row.leg → Contains rows row
 row_of_leg n p x rows row fits fit is =
     let (r, has, leg) = picked_there rows x row.leg is in
@@ -90,7 +90,7 @@ module _ (n : NetworkModel) (q : Query) where
     fit_other : All (IsFitTable n) b
     rising_other : AllPairs Lower b
 
-  -- a row of the one stands at its place in the other
+  -- a row of the one is at its index in the other
   row_there : (a b : List PlaceTable) (start : Leg) → IsOne a b start → (t : PlaceTable) → Contains a t → (row : GraphRow) → Contains t.rows row
       → Contains (rows_of_place b t.place.0) row
   row_there a b start one t has row there =

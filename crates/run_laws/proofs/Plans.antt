@@ -1,4 +1,4 @@
--- The graphs and the bounds of a query are told by the network and the query.
+-- The graphs and the bounds of a query follow from the network and the query.
 use Rattle.std.proofs.Common.{◌≡◌, ◌≢◌, Option, Some, None, MatchOption, refl}
 use Rattle.interval_fixed.specs.Interval.{Interval}
 use Rattle.plan_model.specs.declared.model.Leg.{Leg}

@@ -28,7 +28,7 @@ use Rattle.trip_replay.specs.Late.{ArePossible, Arrives}
 use Rattle.trip_replay.proofs.Walks.{safe_answer}
 use Rattle.trip_replay.proofs.Arrivals.{arrives}
 
--- a result tells one value
+-- a result has one value
 ok_is : {A : Type 0} (a b : A) (r : Result A Fault) → r ≡ Ok a → r ≡ Ok b → a ≡ b
 ok_is a b r x y = cc
 

@@ -1,4 +1,4 @@
--- A whole graph by ride, with a row for each outcome, is told by its tree.
+-- A whole graph by ride, with a row for each outcome, follows from its tree.
 use Rattle.std.proofs.Common.{◌≡◌, ◌≢◌, ℕ, List, [], ◌∷◌, map, Option, Some, None, MatchOption, All, AllPairs, Contains, arith, sym, subst, refl, inl, inr, ◌∙◌, ap, ap₂}
 use Rattle.std.proofs.lemmas.Bool.{cases_eq, ne_eqb, eq-eqb}
 use Rattle.std.proofs.lemmas.List.Elements.{All-head, All-contains}

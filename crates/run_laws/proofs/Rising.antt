@@ -1,4 +1,4 @@
--- A list in which each stands before the next is told by what it has.
+-- A list in which each is before the next follows from what it contains.
 use Rattle.std.proofs.Common.{◌≡◌, List, [], ◌∷◌, AllPairs, Contains, refl, sym, subst, inl, inr, ap₂, ◌∙◌}
 use Rattle.plan_model.proofs.Lists.{Contains-nil, Contains-head, Contains-tail, Contains-cons_cases, AllPairs-head, AllPairs-tail}
 

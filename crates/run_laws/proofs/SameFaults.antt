@@ -1,4 +1,4 @@
--- Files that tell the same bytes have the same faults.
+-- Files with the same bytes have the same faults.
 use Rattle.std.proofs.Common.{◌≡◌, ℕ, ap, sym, subst, ◌∙◌, List, Option, None, IsOk, inl, inr}
 use mathlib.Core.Path.{fun_ext}
 use Rattle.file_ports.specs.Ports.{FileMap, file_at}

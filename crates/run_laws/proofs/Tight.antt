@@ -13,7 +13,7 @@ use Rattle.lower_proof.proofs.Departures.{after, after_less, after_boards, after
 use Rattle.lower_proof.proofs.Leasts.{least_same, IsLeastOf-unique}
 
 module _ (n : NetworkModel) (valid : IsValid n) (q : Query) where
-  -- both have the same values at the connections after whose departure fewer than so many depart
+  -- both have the same values at the connections after whose departure fewer than this number depart
   abbrev Agree : (values others : List (Option ℕ)) → ℕ → Type 0
   Agree values others m = (c : ℕ) → c < count n → after n (dep_of n c) < m → bound_of values c ≡ bound_of others c
 

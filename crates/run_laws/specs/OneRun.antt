@@ -1,4 +1,4 @@
--- That words have one answer over files that tell their bytes.
+-- That words have one answer over files with known bytes.
 use Rattle.std.specs.Prelude.{◌≡◌, ◌≢◌, ℕ, List, Option, None, Some}
 use Rattle.file_ports.specs.Counts.{Rose}
 use Rattle.file_ports.specs.Ports.{FileMap, FilesState}
@@ -8,7 +8,7 @@ use Rattle.journey_report.specs.declared.report.Report.{Report}
 use Rattle.journey_report.specs.Findings.{findings_of}
 use Rattle.meat_engine.specs.RunPromises.{IsRun, SinkState}
 
--- a run of the words, over files that tell these bytes, ends without a fault; its sink had received the old bytes and then has the new ones
+-- a run of the words, over files with these bytes, ends without a fault; its sink had received the old bytes and then has the new ones
 pub record EndsWell (files : FileMap) (limits : Limits) (words : List (List ℕ)) (report : Report) (old : List ℕ) (new : Option (List ℕ)) : Type 0 where
   pub before : FilesState
   pub after : FilesState
@@ -22,8 +22,8 @@ pub record EndsWell (files : FileMap) (limits : Limits) (words : List (List ℕ)
   pub has : out_after.written ≡ new
   pub no_fault : report.fault ≡ None
 
--- a run of the words, over files that tell these bytes, with sinks that had received the first and then have received the last; no file
--- failed to be read, no sink failed, and it did not end for want of memory
+-- a run of the words, over files with these bytes, with sinks that had received the first and then have received the last; no file
+-- failed to be read, no sink failed, and there was memory enough
 pub record IsCalmRun (files : FileMap) (limits : Limits) (words : List (List ℕ)) (report : Report) (old said : List ℕ) (new line : Option (List ℕ)) : Type 0 where
   pub before : FilesState
   pub after : FilesState

@@ -1,4 +1,4 @@
--- Which graphs by ride are told by their tree.
+-- Which graphs by ride follow from their tree.
 use Rattle.std.specs.Prelude.{◌≡◌, All}
 use Rattle.interval_fixed.specs.Interval.{Interval}
 use Rattle.plan_model.specs.declared.model.Query.{Query}

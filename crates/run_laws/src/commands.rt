@@ -52,7 +52,7 @@ pub fn a_printed_plan_arrives()
         ArePossible p.timetable.network late → ArrivesByFile limits files start path p late }
 {}
 
-/// `check` of this graph finds the upper bound that `plan` told, and no lesser lower bound.
+/// `check` of this graph finds the upper bound that `plan` printed, and no lesser lower bound.
 pub fn a_printed_plan_keeps_its_upper_bound()
     ensures { (limits : Most) (files : FileMap) (start alpha : ℕ) (p : Parts) (found other : Findings)
         (text path line : Bytes ℕ) →
@@ -68,8 +68,8 @@ pub fn a_printed_certificate_is_accepted()
         EndsByProofFile limits files start path p status → status ≡ 0 }
 {}
 
-/// The value at the start of what `certify` tells is at most the upper bound of what `plan` tells; and its lower bound is at
-/// most that value and a nanosecond for each connection.
+/// The value at the start of the certificate of `certify` is at most the upper bound of `plan`; and the lower bound of
+/// `plan` is at most that value and a nanosecond for each connection.
 pub fn certificate_value_is_within_plan_bounds()
     ensures { (n : NetworkModel) (q : Asked) (graph : Graph) (bounds : Interval) (values : Bytes (Maybe ℕ)) (v : ℕ)
         → IsPlanned n q graph bounds →
@@ -82,7 +82,7 @@ pub fn latest_ends_as_departures()
         → latest ≡ departures }
 {}
 
-/// `latest` ends with 0 exactly where the least worst arrival, which `safe` tells, is by the deadline, and else with 1.
+/// `latest` ends with 0 exactly where the least worst arrival, which `safe` prints, is by the deadline, and else with 1.
 pub fn latest_ends_by_the_least_worst()
     ensures { (p : Parts) (start until : ℕ) (worst : When) (status : ℕ)
         → IsLeastWorst p.timetable.network p.source.0 p.target.0 start (Some worst) →

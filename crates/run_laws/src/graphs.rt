@@ -15,16 +15,15 @@ ghost use Rattle.decision_graph.specs.Planned.{IsPlanned};
 ghost use Rattle.decision_graph.specs.Expanded.{IsExpanded};
 ghost use Rattle.run_laws.specs.Wholes.{IsTold, IsOneStrategy};
 
-/// A tidy graph by place is told by its tree, where that is safe: two that unfold to one are the
-/// same.
+/// A tidy graph by place follows from its tree, if that is safe: two that unfold to one are the same.
 pub fn one_tidy_graph()
     ensures { (n : NetworkModel) (q : QueryParts) (a b : GraphByPlace)
         → IsTidy n q a → IsTidy n q b → IsSafeForSome n q (unfold_plan a n q)
         → unfold_plan a n q ≡ unfold_plan b n q → a ≡ b }
 {}
 
-/// A whole graph by ride with a row for each outcome is told by its tree: two that unfold to one
-/// are the same.
+/// A whole graph by ride with a row for each outcome follows from its tree: two that unfold to one are
+/// the same.
 pub fn one_whole_graph()
     ensures { (n : NetworkModel) (q : QueryParts) (a b : GraphByRide)
         → IsTold n q a → IsTold n q b → unfold_expanded a n q ≡ unfold_expanded b n q → a ≡ b }
