@@ -20,7 +20,7 @@ use Rattle.graph_score.specs.Scores.{IsUnsafe, IsScore}
 use Rattle.graph_score.specs.declared.ScoreFault.{ScoreFault}
 use Rattle.graph_score.specs.declared.ScoreFault.TheVariants.{NoSuchLeg, Unsafe, NoMemory}
 use Rattle.journey_model.specs.declared.problem.Problem.{Problem}
-use Rattle.plan_model.specs.Bounds.{last_start}
+use Rattle.plan_model.specs.Bounds.{last_start, seconds_per_day}
 use Rattle.journey_model.specs.Sites.{last_printable}
 
 module _ (n : NetworkModel) (valid : IsValid n) (q : Query) (target_in : q.target.0 < length n.change)
@@ -42,15 +42,15 @@ module _ (n : NetworkModel) (valid : IsValid n) (q : Query) (target_in : q.targe
   by_test true moment other early printed = done_printed moment early
   by_test false moment other early printed = printed
 
-  kids_printed : (next : ℕ → Tree) → ((x : ℕ) → x ≤ last_printable → FailsPrinted (next x)) → (scheduled : ℕ) → scheduled + 86400 ≤ last_printable
-      → (row : List Outcome) → All (λ o. o.delay ≤ 86400) row
+  kids_printed : (next : ℕ → Tree) → ((x : ℕ) → x ≤ last_printable → FailsPrinted (next x)) → (scheduled : ℕ) → scheduled + seconds_per_day ≤ last_printable
+      → (row : List Outcome) → All (λ o. o.delay ≤ seconds_per_day) row
       → (p x : ℕ) → FailsIn q (kids_after next scheduled row) p x → IsPrinted p x
   kids_printed next goes scheduled early [] few p x none = absurd none
   kids_printed next goes scheduled early (o ∷ row) few p x (inl fails) =
-      let short = All-head (λ (k : Outcome). k.delay ≤ 86400) o row few in
+      let short = All-head (λ (k : Outcome). k.delay ≤ seconds_per_day) o row few in
       goes (scheduled + o.delay) (omega (arith, early, short)) p x fails
   kids_printed next goes scheduled early (o ∷ row) few p x (inr fails) =
-      kids_printed next goes scheduled early row (All-tail (λ (k : Outcome). k.delay ≤ 86400) o row few) p x fails
+      kids_printed next goes scheduled early row (All-tail (λ (k : Outcome). k.delay ≤ seconds_per_day) o row few) p x fails
 
   ride_printed : (next : Leg → ℕ → Tree) (leg : Leg) → leg.exit.0 < count n → ((x : ℕ) → x ≤ last_printable → FailsPrinted (next leg x))
       → (p x : ℕ) → FailsIn q (kids_after (next leg) (arr_of n leg.exit.0) (outcomes_of n leg)) p x → IsPrinted p x

@@ -79,10 +79,8 @@ fn problem_in(
     ensures early { (timetable : TimetableModel) → IfErr result (IsBeforeSearch timetable) }
     ensures read { IfErr result (λ fault. unread_of fault ≡ None) }
 {
-    match cut.network(alloc, delays) {
-        Ok((network, names)) => problem_between(Timetable::new(network, names), journey),
-        Err(_) => Err(Fault::NoMemory),
-    }
+    let (network, names) = cut.network(alloc, delays)?;
+    problem_between(Timetable::new(network, names), journey)
 }
 
 /// The problem of a journey over a cut file that was read.

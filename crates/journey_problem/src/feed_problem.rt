@@ -9,6 +9,7 @@ ghost use Rattle.service_days.specs.Calendars.{RunsBySome};
 ghost use Rattle.command_line.specs.Shown.{journey_shown};
 ghost use Rattle.command_line.specs.Jobs.{TimetableModel, FeedFolder};
 ghost use Rattle.command_line.specs.Ranges.{IsJourney};
+ghost use Rattle.command_line.specs.Values.{most_horizon};
 ghost use Rattle.journey_model.specs.Faults.{MayBeUnread, unread_of};
 ghost use Rattle.journey_problem.specs.Files.{OwnPaths, path_by, HasCauses};
 ghost use Rattle.journey_problem.specs.FaultsBeforeSearch.{IsBeforeSearch};
@@ -130,7 +131,7 @@ fn window_problem(
     limits: &Limits,
 ) -> Result<Problem, Fault>
     requires journey { IsJourney (journey_shown journey.now) }
-    requires horizon { horizon ≤ 72 }
+    requires horizon { horizon ≤ most_horizon }
     ensures network { IfOk result (λ p. IsNetworkFrom tables.now.feed tables.now.rules.services
         tables.now.rules.changes delays.now journey.now.start.0 horizon p.timetable.network p.timetable.names) }
     ensures no_window_fault { OnOk result (window_fault_of limits.now horizon
@@ -172,7 +173,7 @@ fn problem_in<F: Files>(
     limits: &Limits,
 ) -> Result<Problem, Fault>
     requires journey { IsJourney (journey_shown journey.now) }
-    requires horizon { horizon ≤ 72 }
+    requires horizon { horizon ≤ most_horizon }
     requires sound { IsSoundFolder (gtfs_folder_of tables.now) }
     ensures problem { IfSome (F.state files.old).files (λ m. IfOk result (λ p. (folder : Bytes ℕ)
         → IsFolder limits.now m folder (gtfs_folder_of tables.now)
@@ -203,7 +204,7 @@ pub(crate) fn feed_problem<F: Files>(
     limits: &Limits,
 ) -> Result<Problem, Fault>
     requires journey { IsJourney (journey_shown journey.now) }
-    requires horizon { horizon ≤ 72 }
+    requires horizon { horizon ≤ most_horizon }
     ensures problem { IfSome (F.state files.old).files (λ m. IfOk result
         (IsFeedProblem limits.now m folder.now horizon (journey_shown journey.now))) }
     ensures fault { IfSome (F.state files.old).files (λ m. IfErr result (λ fault. fault ≢ Fault.NoMemory

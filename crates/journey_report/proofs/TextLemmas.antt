@@ -9,6 +9,7 @@ use Rattle.plan_model.specs.declared.model.Outcome.{Outcome}
 use Rattle.plan_model.specs.NetworkModel.{NetworkModel}
 use Rattle.plan_model.specs.NameLists.{NameLists}
 use Rattle.plan_model.specs.Network.{connection, IsValid}
+use Rattle.plan_model.specs.Bounds.{seconds_per_day}
 use Rattle.plan_model.specs.Unfold.{outcomes_of}
 use Rattle.printed_rows.proofs.Lines.{split_at, text_step}
 use Rattle.trip_replay.specs.declared.Ridden.{Ridden}
@@ -17,16 +18,16 @@ use Rattle.plan_model.specs.declared.model.Moment.{Moment}
 use Rattle.journey_report.specs.AnswerTexts.{ride_text, rides_text, arrived_text}
 use Rattle.journey_model.specs.Sites.{last_printable}
 
-delay_at : (o : Outcome) (row : List Outcome) (d : ℕ) (b : Bool) → (o.delay == d) ≡ b → o.delay ≤ 86400 → (list_any (λ x. x.delay == d) row ≡ true → d ≤ 86400)
-    → (b || list_any (λ x. x.delay == d) row) ≡ true → d ≤ 86400
+delay_at : (o : Outcome) (row : List Outcome) (d : ℕ) (b : Bool) → (o.delay == d) ≡ b → o.delay ≤ seconds_per_day → (list_any (λ x. x.delay == d) row ≡ true → d ≤ seconds_per_day)
+    → (b || list_any (λ x. x.delay == d) row) ≡ true → d ≤ seconds_per_day
 delay_at o row d true same few rest any = grind (arith, nat_tests)
 delay_at o row d false same few rest any = rest any
 
 -- a delay of a valid row is at most a day
-delay_few : (row : List Outcome) (d : ℕ) → All (λ o. o.delay ≤ 86400) row → list_any (λ o. o.delay == d) row ≡ true → d ≤ 86400
+delay_few : (row : List Outcome) (d : ℕ) → All (λ o. o.delay ≤ seconds_per_day) row → list_any (λ o. o.delay == d) row ≡ true → d ≤ seconds_per_day
 delay_few [] d all any = absurd (cc)
 delay_few (o ∷ row) d all any =
-    delay_at o row d (o.delay == d) refl (All-head (λ (x : Outcome). x.delay ≤ 86400) o row all) (delay_few row d (All-tail (λ (x : Outcome). x.delay ≤ 86400) o row all)) any
+    delay_at o row d (o.delay == d) refl (All-head (λ (x : Outcome). x.delay ≤ seconds_per_day) o row all) (delay_few row d (All-tail (λ (x : Outcome). x.delay ≤ seconds_per_day) o row all)) any
 
 module _ (n : NetworkModel) (valid : IsValid n) where
   -- the arrival of a ride has a text

@@ -94,10 +94,8 @@ fn sample_problem(alloc: Global, size: SampleSize, limits: &Limits) -> Result<Pr
     ensures early { IfErr result (IsBeforeSearch sample_journey.timetable) }
     ensures read { IfErr result (λ f. unread_of f ≡ None) }
 {
-    match MadeFiles::new(alloc, size.value) {
-        Ok(mut files) => problem_of(alloc, &mut files, &sample_journey(), limits),
-        Err(_) => Err(Fault::NoMemory),
-    }
+    let mut files = MadeFiles::new(alloc, size.value)?;
+    problem_of(alloc, &mut files, &sample_journey(), limits)
 }
 
 /// Plans a journey over the timetable of this size.

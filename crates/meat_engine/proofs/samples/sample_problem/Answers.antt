@@ -22,20 +22,20 @@ both_ok : {A E : Type 0} (r : Result A E) (P Q : A → Type 0) → IfOk r P → 
 both_ok (Ok a) P Q p q = (p, q)
 both_ok (Err e) P Q p q = tt
 
-pub returns-in-Ok-clause-problem : goal.returns-in-Ok-clause-problem
-returns-in-Ok-clause-problem c =
+pub returns-clause-problem : goal.returns-clause-problem
+returns-clause-problem c =
     let limits = c.args.limits.now in
-    let files = folder_of c.in-Ok.files in
-    IfOk-weaker c.problem_of.result _ _ (λ p both. (files, c.in-Ok.ensures.files, (both.0, both.1)))
+    let files = folder_of c.in_ok-files.files in
+    IfOk-weaker c.problem_of.result _ _ (λ p both. (files, c.in_ok-files.ensures.files, (both.0, both.1)))
     (both_ok c.problem_of.result _ _ (subst (λ (j : JourneyModel). IfOk c.problem_of.result (HasTimetable j.timetable j)) c.sample_journey.ensures c.problem_of.ensures.sound)
     (subst (λ (j : JourneyModel). IfOk c.problem_of.result (IsProblem limits files j)) c.sample_journey.ensures c.problem_of.ensures.problem))
 
-pub returns-in-Ok-clause-fault : goal.returns-in-Ok-clause-fault
-returns-in-Ok-clause-fault c =
+pub returns-clause-fault : goal.returns-clause-fault
+returns-clause-fault c =
     let limits = c.args.limits.now in
-    let files = folder_of c.in-Ok.files in
-    IfErr-weaker c.problem_of.result _ _ (λ f first other. (files, c.in-Ok.ensures.files, subst (λ (j : JourneyModel). IsProblemFault limits files j f) c.sample_journey.ensures first))
+    let files = folder_of c.in_ok-files.files in
+    IfErr-weaker c.problem_of.result _ _ (λ f first other. (files, c.in_ok-files.ensures.files, subst (λ (j : JourneyModel). IsProblemFault limits files j f) c.sample_journey.ensures first))
     c.problem_of.ensures.fault
 
-pub returns-in-Ok-clause-read : goal.returns-in-Ok-clause-read
-returns-in-Ok-clause-read c = all_read c.problem_of.result refl refl (c.problem_of.ensures.causes no_path)
+pub returns-clause-read : goal.returns-clause-read
+returns-clause-read c = all_read c.problem_of.result refl refl (c.problem_of.ensures.causes no_path)
