@@ -31,7 +31,7 @@ abbrev pub IsSafeTrip : Problem → Head → PlanGraph → Result Trace ReplayFa
 IsSafeTrip p head graph trip = IsSafeFor p.timetable.network head.query (unfold_plan graph p.timetable.network head.query) → IsSafeAnswer head.query.deadline.0 trip
 
 -- the answer of `replay`: the trip by a graph
-pub record IsTripTold (p : Problem) (late : List ℕ) (found : Findings) (text : List ℕ) (head : Head) (graph : PlanGraph) : Type 0 where
+pub record AnswersReplay (p : Problem) (late : List ℕ) (found : Findings) (text : List ℕ) (head : Head) (graph : PlanGraph) : Type 0 where
   pub trace : Trace
   pub trip : trip_by p head graph late ≡ Ok trace
   pub safe : IsSafeTrip p head graph (Ok trace)

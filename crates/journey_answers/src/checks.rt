@@ -19,15 +19,15 @@ use std::alloc::Global;
 /// A certificate of a problem that was read: it has a value for each connection, and the moments of its
 /// query have texts.
 #[derive(Drop)]
-pub struct ReadProof<'a> {
+pub struct ReadCertificate<'a> {
     /// The problem.
     pub problem: &'a Problem,
     /// The query that it is for.
     pub query: Query,
     /// Its values.
-    pub proof: LowerBounds,
+    pub certificate: LowerBounds,
     /// That it has a value for each connection.
-    pub ghost as_many: { length proof.values ≡ count problem.now.timetable.network },
+    pub ghost as_many: { length certificate.values ≡ count problem.now.timetable.network },
     /// That the query does not start after the last start.
     pub ghost start: { query.start.0 ≤ last_start },
     /// That the deadline has a text.
@@ -35,25 +35,25 @@ pub struct ReadProof<'a> {
 }
 
 /// The answer that a certificate holds, with its least value at the start.
-fn held_answer(alloc: Global, read: ReadProof, least: Option<u64>) -> Result<Answer, NoMemory>
+fn held_answer(alloc: Global, read: ReadCertificate, least: Option<u64>) -> Result<Answer, NoMemory>
     ensures found { IfOk result (λ a. findings_of a.report
-        ≡ check_findings read.entry.query read.entry.proof least) }
+        ≡ check_findings read.entry.query read.entry.certificate least) }
     ensures text { IfOk result (λ a. a.text.items ≡ holds_text
         (place_name read.entry.problem.now.timetable.names read.entry.problem.now.source.0)
         (place_name read.entry.problem.now.timetable.names read.entry.problem.now.target.0)
         read.entry.query least) }
 {
-    let ReadProof {
+    let ReadCertificate {
         problem,
         query,
-        proof,
+        certificate,
     } = read;
     let names = &problem.timetable.names;
     let named = NamedQuery::new(names, problem.source, problem.target, query);
     let text = holds_text(alloc, &named, least)?;
     let report = Report {
         query: Some(query),
-        proof: Some(proof),
+        proof: Some(certificate),
         least,
         ..Report::empty()
     };
@@ -62,19 +62,19 @@ fn held_answer(alloc: Global, read: ReadProof, least: Option<u64>) -> Result<Ans
 
 /// That a certificate holds for its query; or `ProofFails`, with the last connection of the scan order that can be
 /// boarded and whose value is too great or missing.
-pub fn check_over(alloc: Global, read: ReadProof) -> Result<Answer, Fault>
-    ensures told { IfOk result (λ a. IsHeld read.entry.problem.now (findings_of a.report)
-        a.text.items read.entry.query read.entry.proof) }
+pub fn check_over(alloc: Global, read: ReadCertificate) -> Result<Answer, Fault>
+    ensures answer { IfOk result (λ a. IsHeld read.entry.problem.now (findings_of a.report)
+        a.text.items read.entry.query read.entry.certificate) }
     ensures fault { IfErr result (λ fault. fault ≢ Fault.NoMemory
-        → IsBroken read.entry.problem.now fault read.entry.query read.entry.proof) }
+        → IsBroken read.entry.problem.now fault read.entry.query read.entry.certificate) }
     ensures tellable { IfErr result (IsTellable (Some (parts_of read.entry.problem.now))) }
     ensures read { IfErr result (λ fault. unread_of fault ≡ None) }
 {
     let network = &read.problem.timetable.network;
-    match check(alloc, &read.proof, network, &read.query)? {
+    match check(alloc, &read.certificate, network, &read.query)? {
         Verdict::Fails(id) => Err(Fault::ProofFails(id)),
         Verdict::Holds => {
-            let least = least(&read.proof, network, &read.query);
+            let least = least(&read.certificate, network, &read.query);
             let answer = held_answer(alloc, read, least)?;
             Ok(answer)
         }

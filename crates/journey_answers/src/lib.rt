@@ -18,7 +18,7 @@ mod trips;
 
 pub use answers::{Asked, asked_of, expand_over, plan_over, planned_of, safe_over};
 pub use certificates::certify_over;
-pub use checks::{ReadProof, check_over};
+pub use checks::{ReadCertificate, check_over};
 pub use departures::{departures_over, latest_over};
 pub use laws::upper_bound_is_that_of_the_graph;
 pub use punctual::punctual_over;

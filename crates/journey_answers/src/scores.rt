@@ -47,7 +47,7 @@ fn enclosed_answer(alloc: Global, read: ReadGraph, bounds: Span) -> Result<Answe
 /// fail by it.
 pub fn score_over(alloc: Global, read: ReadGraph) -> Result<Answer, Fault>
     requires { IsFit read.problem.now.timetable.network read.head.query read.graph }
-    ensures told { IfOk result (λ a. IsEnclosed read.entry.problem.now (findings_of a.report)
+    ensures answer { IfOk result (λ a. IsEnclosed read.entry.problem.now (findings_of a.report)
         a.text.items read.entry.head read.entry.graph) }
     ensures fault { IfErr result (λ fault. fault ≢ Fault.NoMemory
         → IsUnsafeGraph read.entry.problem.now fault read.entry.head read.entry.graph) }

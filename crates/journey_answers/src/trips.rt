@@ -8,7 +8,7 @@ ghost use Rattle.journey_model.specs.Known.{parts_of};
 ghost use Rattle.journey_report.specs.Findings.{findings_of, replay_findings};
 ghost use Rattle.journey_report.specs.AnswerTexts.{trace_text};
 ghost use Rattle.trip_replay.specs.Rides.{IsRide};
-ghost use Rattle.journey_answers.specs.Trips.{replay_as, IsTripTold, IsTripFault};
+ghost use Rattle.journey_answers.specs.Trips.{replay_as, AnswersReplay, IsTripFault};
 
 use crate::read_graph::ReadGraph;
 use command_line::read_late;
@@ -59,7 +59,7 @@ fn trip_answer(alloc: Global, read: ReadGraph, trace: Trace) -> Result<Answer, N
 /// The trip by a graph that fits, with the given delays in seconds; or `Replay` with the fault of the trip.
 pub fn trip_over(alloc: Global, read: ReadGraph, late: &str) -> Result<Answer, Fault>
     requires { IsFit read.problem.now.timetable.network read.head.query read.graph }
-    ensures told { IfOk result (λ a. IsTripTold read.entry.problem.now (late_in late.now)
+    ensures answer { IfOk result (λ a. AnswersReplay read.entry.problem.now (late_in late.now)
         (findings_of a.report) a.text.items read.entry.head read.entry.graph) }
     ensures fault { IfErr result (λ fault. fault ≢ Fault.NoMemory
         → IsTripFault read.entry.problem.now (late_in late.now) fault

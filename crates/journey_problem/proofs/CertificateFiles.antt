@@ -13,7 +13,7 @@ use Rattle.journey_model.specs.Stages.{IsOfInput}
 use Rattle.journey_model.specs.declared.problem.Problem.{Problem}
 use Rattle.journey_problem.specs.Files.{bytes_of}
 use Rattle.std.proofs.lemmas.Option.{IfSome_then}
-use Rattle.journey_problem.specs.CertificateFiles.{TellsProof, FailsText, FailsFile, IsProofFile, FailsProof}
+use Rattle.journey_problem.specs.CertificateFiles.{IsCertificateText, FailsText, FailsFile, IsCertificateFile, FailsCertificate}
 
 module _ (limits : Limits) (p : Problem) (start : ℕ) (file : Option (List ℕ)) where
   -- a file that cannot be loaded
@@ -28,24 +28,24 @@ module _ (limits : Limits) (p : Problem) (start : ℕ) (file : Option (List ℕ)
       subst (λ (unread : Option Input). FailsFile p start (bytes_of limits.bytes input.Proof unread file) fault) (sym none)
       (subst (λ (bytes : Result (List ℕ) Fault). FailsFile p start bytes fault) (sym there) fails)
 
-module _ (told : Option FileMap) (limits : Limits) (start : ℕ) (path : List ℕ) (p : Problem) where
+module _ (contents : Option FileMap) (limits : Limits) (start : ℕ) (path : List ℕ) (p : Problem) where
   pub unloaded : (fault : Fault) → (fault ≢ NoMemory → IsOfInput input.Proof fault)
-      → IfSome told (λ files. fault ≢ NoMemory → bytes_of limits.bytes input.Proof (unread_of fault) (file_at files path) ≡ Err fault)
-      → fault ≢ NoMemory → FailsProof told limits start path p fault
+      → IfSome contents (λ files. fault ≢ NoMemory → bytes_of limits.bytes input.Proof (unread_of fault) (file_at files path) ≡ Err fault)
+      → fault ≢ NoMemory → FailsCertificate contents limits start path p fault
   unloaded fault of fails other =
-      (of other, IfSome_then told fails (λ files why. load_fails limits p start (file_at files path) fault (why other)))
+      (of other, IfSome_then contents fails (λ files why. load_fails limits p start (file_at files path) fault (why other)))
 
-  module _ (text same : List ℕ) (is : same ≡ text) (there : IfSome told (λ files. bytes_of limits.bytes input.Proof None (file_at files path) ≡ Ok text)) where
-    pub read : (r : Result (Query × LowerBounds) Fault) → IfOk r (λ f. TellsProof p start same f.0 f.1) → IfOk r (λ f. IsProofFile told limits start path p f.0 f.1)
-    read (Ok f) tells = record { text = text; reads = there; tells = subst (λ (bytes : List ℕ). TellsProof p start bytes f.0 f.1) is tells }
+  module _ (text same : List ℕ) (is : same ≡ text) (there : IfSome contents (λ files. bytes_of limits.bytes input.Proof None (file_at files path) ≡ Ok text)) where
+    pub read : (r : Result (Query × LowerBounds) Fault) → IfOk r (λ f. IsCertificateText p start same f.0 f.1) → IfOk r (λ f. IsCertificateFile contents limits start path p f.0 f.1)
+    read (Ok f) tells = record { text = text; reads = there; tells = subst (λ (bytes : List ℕ). IsCertificateText p start bytes f.0 f.1) is tells }
     read (Err fault) tells = tt
 
     pub unread : (r : Result (Query × LowerBounds) Fault) → IfErr r (λ fault. fault ≢ NoMemory → FailsText p start same fault)
         → IfErr r (λ fault. fault ≢ NoMemory → IsOfInput input.Proof fault) → IfErr r (λ fault. unread_of fault ≡ None)
-        → IfErr r (λ fault. fault ≢ NoMemory → FailsProof told limits start path p fault)
+        → IfErr r (λ fault. fault ≢ NoMemory → FailsCertificate contents limits start path p fault)
     unread (Ok f) fails of none = tt
     unread (Err fault) fails of none = λ other. (
       of other,
-      IfSome_then told there (λ files bytes.
+      IfSome_then contents there (λ files bytes.
           text_fails limits p start (file_at files path) text fault bytes none (subst (λ (bs : List ℕ). FailsText p start bs fault) is (fails other))),
     )

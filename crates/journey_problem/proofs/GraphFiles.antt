@@ -32,7 +32,7 @@ module _ (limits : Limits) (p : Problem) (start : ℕ) (file : Option (List ℕ)
   graph_finds (Err fault) ok err none = λ other. read_of (unread_of fault) none ∙ err other
 
 -- the head and the graph that were read
-pub graph_file : (told : Option FileMap) (limits : Limits) (start : ℕ) (path : List ℕ) (p : Problem) (head : Head) (graph : PlanGraph)
-    → IfSome told (λ files. graph_in limits p start None (file_at files path) ≡ Ok (head, graph))
-    → IsFit p.timetable.network head.query graph → IsHeadOf p.source.0 p.target.0 start head → IsGraphFile told limits start path p head graph
-graph_file told limits start path p head graph reads fit is = record { reads = reads; fit = fit; head_is = is }
+pub graph_file : (contents : Option FileMap) (limits : Limits) (start : ℕ) (path : List ℕ) (p : Problem) (head : Head) (graph : PlanGraph)
+    → IfSome contents (λ files. graph_in limits p start None (file_at files path) ≡ Ok (head, graph))
+    → IsFit p.timetable.network head.query graph → IsHeadOf p.source.0 p.target.0 start head → IsGraphFile contents limits start path p head graph
+graph_file contents limits start path p head graph reads fit is = record { reads = reads; fit = fit; head_is = is }

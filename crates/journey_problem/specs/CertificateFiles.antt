@@ -16,8 +16,8 @@ use Rattle.journey_model.specs.declared.problem.Problem.{Problem}
 use Rattle.journey_problem.specs.Files.{bytes_of}
 
 -- a text has this query and this certificate, of the problem's source and target and from a start on
-abbrev pub TellsProof : Problem → ℕ → List ℕ → Query → LowerBounds → Type 0
-TellsProof p start text query proof = IsProofTold p.timetable.network p.timetable.names p.source.0 p.target.0 start (table_of text) query proof.values
+abbrev pub IsCertificateText : Problem → ℕ → List ℕ → Query → LowerBounds → Type 0
+IsCertificateText p start text query proof = IsProofTold p.timetable.network p.timetable.names p.source.0 p.target.0 start (table_of text) query proof.values
 
 -- the first fault of a text
 abbrev pub FailsText : Problem → ℕ → List ℕ → Fault → Type 0
@@ -31,16 +31,16 @@ FailsFile p start (Ok text) fault = FailsText p start text fault
 FailsFile p start (Err first) fault = fault ≡ first
 
 -- these are the query and the certificate of the certificate file of this path, where the files are known
-pub record IsProofFile (contents : Option FileMap) (limits : Limits) (start : ℕ) (path : List ℕ) (p : Problem) (query : Query) (proof : LowerBounds) : Type 0 where
+pub record IsCertificateFile (contents : Option FileMap) (limits : Limits) (start : ℕ) (path : List ℕ) (p : Problem) (query : Query) (proof : LowerBounds) : Type 0 where
   pub text : List ℕ
   pub reads : IfSome contents (λ files. bytes_of limits.bytes input.Proof None (file_at files path) ≡ Ok text)
-  pub tells : TellsProof p start text query proof
+  pub tells : IsCertificateText p start text query proof
 
 -- this holds of the query and the certificate of the certificate file
-abbrev pub InProofFile : Option FileMap → Limits → ℕ → List ℕ → Problem → (Query → LowerBounds → Type 0) → Type 0
-InProofFile contents limits start path p P = (query : Query) × (proof : LowerBounds) × IsProofFile contents limits start path p query proof × P query proof
+abbrev pub InCertificateFile : Option FileMap → Limits → ℕ → List ℕ → Problem → (Query → LowerBounds → Type 0) → Type 0
+InCertificateFile contents limits start path p P = (query : Query) × (proof : LowerBounds) × IsCertificateFile contents limits start path p query proof × P query proof
 
 -- the first fault of the certificate file is this one, where no file but that of the fault is unread
-abbrev pub FailsProof : Option FileMap → Limits → ℕ → List ℕ → Problem → Fault → Type 0
-FailsProof contents limits start path p fault =
+abbrev pub FailsCertificate : Option FileMap → Limits → ℕ → List ℕ → Problem → Fault → Type 0
+FailsCertificate contents limits start path p fault =
     IsOfInput input.Proof fault × IfSome contents (λ files. FailsFile p start (bytes_of limits.bytes input.Proof (unread_of fault) (file_at files path)) fault)

@@ -12,9 +12,9 @@ graph_path path input.Graph = Some path
 graph_path path input.Proof = None
 
 -- a certificate file is
-abbrev pub proof_path : List ℕ → OwnPaths
-proof_path path (input.Feed table) = None
-proof_path path input.Cut = None
-proof_path path input.Delays = None
-proof_path path input.Graph = None
-proof_path path input.Proof = Some path
+abbrev pub certificate_path : List ℕ → OwnPaths
+certificate_path path (input.Feed table) = None
+certificate_path path input.Cut = None
+certificate_path path input.Delays = None
+certificate_path path input.Graph = None
+certificate_path path input.Proof = Some path

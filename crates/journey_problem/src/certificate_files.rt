@@ -3,7 +3,7 @@ ghost use Rattle.std.specs.Prelude.{◌≡◌, ◌≢◌, Some, None, IfOk, IfEr
 ghost use Rattle.journey_model.specs.Faults.{MayBeUnread, unread_of};
 ghost use Rattle.journey_model.specs.Stages.{IsOfInput};
 ghost use Rattle.journey_problem.specs.Files.{HasCauses};
-ghost use Rattle.journey_problem.specs.CertificateFiles.{TellsProof, FailsText, IsProofFile, FailsProof};
+ghost use Rattle.journey_problem.specs.CertificateFiles.{IsCertificateText, FailsText, IsCertificateFile, FailsCertificate};
 
 use crate::inputs::load_bytes;
 use csv_rows::Limits;
@@ -20,7 +20,7 @@ fn certificate_of_bytes(
     problem: &Problem,
     start: Moment,
 ) -> Result<(Query, LowerBounds), Fault>
-    ensures proof { IfOk result (λ f. TellsProof problem.now start.0 bytes.now f.0 f.1) }
+    ensures proof { IfOk result (λ f. IsCertificateText problem.now start.0 bytes.now f.0 f.1) }
     ensures fault { IfErr result (λ fault. fault ≢ Fault.NoMemory
         → FailsText problem.now start.0 bytes.now fault) }
     ensures stage { IfErr result (λ fault. fault ≢ Fault.NoMemory → IsOfInput Input.Proof fault) }
@@ -51,10 +51,10 @@ pub fn read_certificate_file<F: Files>(
     start: Moment,
     limits: &Limits,
 ) -> Result<(Query, LowerBounds), Fault>
-    ensures proof { IfOk result (λ f. IsProofFile (F.state files.old).files limits.now start.0
+    ensures proof { IfOk result (λ f. IsCertificateFile (F.state files.old).files limits.now start.0
         path.now problem.now f.0 f.1) }
     ensures fault { IfErr result (λ fault. fault ≢ Fault.NoMemory
-        → FailsProof (F.state files.old).files limits.now start.0 path.now problem.now fault) }
+        → FailsCertificate (F.state files.old).files limits.now start.0 path.now problem.now fault) }
     ensures own { IfErr result (MayBeUnread Input.Proof) }
     ensures stage { IfErr result (λ fault. fault ≢ Fault.NoMemory → IsOfInput Input.Proof fault) }
     ensures causes { HasCauses (λ other. Some path.now) (F.state files.old) (F.state files.new) result }

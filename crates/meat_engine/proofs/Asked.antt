@@ -18,15 +18,15 @@ use Rattle.journey_problem.specs.Files.{HasCauses}
 use Rattle.meat_engine.specs.Asks.{own_paths, AnswersAsk, FailsAsk}
 use Rattle.meat_engine.proofs.Asking.{unsafe_told}
 
-module _ (told : Option FileMap) (limits : Limits) (start : ℕ) (p : Problem) where
+module _ (contents : Option FileMap) (limits : Limits) (start : ℕ) (p : Problem) where
   -- the answer is one to what is asked, and the fault is why there is none
   pub record IsAnswered (ask : AskModel) (r : Result Answer Fault) : Type 0 where
-    pub answer : IfOk r (λ a. AnswersAsk told limits start p ask (findings_of a.report) a.text.items)
-    pub fault : IfErr r (λ fault. fault ≢ NoMemory → FailsAsk told limits start p ask fault)
+    pub answer : IfOk r (λ a. AnswersAsk contents limits start p ask (findings_of a.report) a.text.items)
+    pub fault : IfErr r (λ fault. fault ≢ NoMemory → FailsAsk contents limits start p ask fault)
 
   pub answered-asked : {ask asked : Ask} (r : Result Answer Fault) → ask ≡ asked
-      → IfOk r (λ a. AnswersAsk told limits start p (ask_shown asked) (findings_of a.report) a.text.items)
-      → IfErr r (λ fault. fault ≢ NoMemory → FailsAsk told limits start p (ask_shown asked) fault) → IsAnswered (ask_shown ask) r
+      → IfOk r (λ a. AnswersAsk contents limits start p (ask_shown asked) (findings_of a.report) a.text.items)
+      → IfErr r (λ fault. fault ≢ NoMemory → FailsAsk contents limits start p (ask_shown asked) fault) → IsAnswered (ask_shown ask) r
   answered-asked r is answer fault = subst (λ (ask : Ask). IsAnswered (ask_shown ask) r) (sym is) (record { answer = answer; fault = fault })
 
   -- and no file of its own is read: it fails only as no strategy is safe, or there was no memory
@@ -35,17 +35,17 @@ module _ (told : Option FileMap) (limits : Limits) (start : ℕ) (p : Problem) w
     pub tellable : IfErr r (IsTellable (Some (parts_of p)))
     pub unread : IfErr r (λ fault. unread_of fault ≡ None)
 
-  alone : (ask : AskModel) → ((fault : Fault) → FailsAsk told limits start p ask fault → fault ≡ NoSafe) → (r : Result Answer Fault)
-      → IfOk r (λ a. AnswersAsk told limits start p ask (findings_of a.report) a.text.items) → IfErr r (OrNoMemory (FailsAsk told limits start p ask)) → IsAnsweredAlone ask r
+  alone : (ask : AskModel) → ((fault : Fault) → FailsAsk contents limits start p ask fault → fault ≡ NoSafe) → (r : Result Answer Fault)
+      → IfOk r (λ a. AnswersAsk contents limits start p ask (findings_of a.report) a.text.items) → IfErr r (OrNoMemory (FailsAsk contents limits start p ask)) → IsAnsweredAlone ask r
   alone ask unsafe (Ok a) answer fails = record { own = record { answer = answer; fault = tt }; tellable = tt; unread = tt }
   alone ask unsafe (Err fault) answer fails =
-      let h = unsafe_told (FailsAsk told limits start p ask) unsafe (Some (parts_of p)) fault fails in
+      let h = unsafe_told (FailsAsk contents limits start p ask) unsafe (Some (parts_of p)) fault fails in
       record { own = record { answer = tt; fault = h.why }; tellable = h.tellable; unread = h.unread }
 
   pub alone-asked : {ask asked : Ask} (r : Result Answer Fault) → ask ≡ asked
-      → ((fault : Fault) → FailsAsk told limits start p (ask_shown asked) fault → fault ≡ NoSafe)
-      → IfOk r (λ a. AnswersAsk told limits start p (ask_shown asked) (findings_of a.report) a.text.items)
-      → IfErr r (OrNoMemory (FailsAsk told limits start p (ask_shown asked))) → IsAnsweredAlone (ask_shown ask) r
+      → ((fault : Fault) → FailsAsk contents limits start p (ask_shown asked) fault → fault ≡ NoSafe)
+      → IfOk r (λ a. AnswersAsk contents limits start p (ask_shown asked) (findings_of a.report) a.text.items)
+      → IfErr r (OrNoMemory (FailsAsk contents limits start p (ask_shown asked))) → IsAnsweredAlone (ask_shown ask) r
   alone-asked {asked = asked} r is unsafe answer fails = subst (λ (ask : Ask). IsAnsweredAlone (ask_shown ask) r) (sym is) (alone (ask_shown asked) unsafe r answer fails)
 
 pub causes-asked : {before now : FilesState} {ask asked : Ask} (r : Result Answer Fault) → ask ≡ asked

@@ -16,7 +16,7 @@ use Rattle.journey_problem.specs.FaultsBeforeSearch.{IsBeforeSearch}
 use Rattle.journey_problem.specs.Files.{path_of, HasCauses}
 use Rattle.meat_engine.specs.declared.refusal.Refusal.{Refusal}
 use Rattle.journey_model.specs.Wants.{OrNoMemory}
-use Rattle.journey_problem.specs.Paths.{graph_path, proof_path}
+use Rattle.journey_problem.specs.Paths.{graph_path, certificate_path}
 use Rattle.meat_engine.specs.Asks.{own_paths}
 use Rattle.journey_model.specs.Known.{parts_of}
 use Rattle.meat_engine.specs.Refusals.{IsRefusalBy}
@@ -79,8 +79,8 @@ beside_graph graph j before_of now_of input.Delays rose = absurd rose
 beside_graph graph j before_of now_of input.Graph rose = rose
 beside_graph graph j before_of now_of input.Proof rose = absurd rose
 
-beside_proof : (proof : List ℕ) (j : JourneyModel) (before_of now_of : List ℕ → ℕ) (file : Input) → RoseAt (proof_path proof file) before_of now_of
-    → RoseAt (path_of j (proof_path proof) file) before_of now_of
+beside_proof : (proof : List ℕ) (j : JourneyModel) (before_of now_of : List ℕ → ℕ) (file : Input) → RoseAt (certificate_path proof file) before_of now_of
+    → RoseAt (path_of j (certificate_path proof) file) before_of now_of
 beside_proof proof j before_of now_of (input.Feed table) rose = absurd rose
 beside_proof proof j before_of now_of input.Cut rose = absurd rose
 beside_proof proof j before_of now_of input.Delays rose = absurd rose

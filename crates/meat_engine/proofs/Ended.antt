@@ -21,7 +21,7 @@ use Rattle.journey_problem.proofs.NoFaults.{none_unread}
 use Rattle.journey_answers.specs.Answers.{IsQueryOf, IsNoSafe}
 use Rattle.meat_engine.specs.Asks.{AnswersAsk, FailsAsk, EndsAsk, FailsJourney}
 use Rattle.journey_problem.specs.CertificateFiles.{FailsFile, FailsCheck}
-use Rattle.meat_engine.specs.Ends.{HasSafe, EndsBySafety, EndsByGraphFile, EndsByProofFile, EndsByScore}
+use Rattle.meat_engine.specs.Ends.{HasSafe, EndsBySafety, EndsByGraphFile, EndsByCertificateFile, EndsByScore}
 use Rattle.journey_report.specs.Findings.{Findings}
 use Rattle.journey_problem.specs.GraphFiles.{graph_in, FailsReplay, FailsScore}
 
@@ -63,7 +63,7 @@ module _ (limits : Limits) (files : FileMap) (start : ℕ) (p : Problem) where
       inl (head, plan, file.reads, inr (trip.stop, trip.trip, ap (λ (f : Fault). status_of (Some f)) trip.fault_is))
 
   check_ends : (path : List ℕ) (fault : Fault) → ((i : Input) → fault ≡ Read i → ⊥) → FailsCheck (Some files) limits start path p fault
-      → EndsByProofFile limits files start path p (status_of (Some fault))
+      → EndsByCertificateFile limits files start path p (status_of (Some fault))
   check_ends path fault never (inl (of, fails)) =
       inr (fault, subst (λ (u : Option Input). FailsFile p start (bytes_of limits.bytes input.Proof u (file_at files path)) fault) (none_unread fault never) fails, refl)
   check_ends path fault never (inr (q, proof, file, (connection, is, last))) =

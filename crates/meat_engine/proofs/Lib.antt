@@ -1,6 +1,6 @@
 pub mod Asking
 pub mod Asked
-pub mod Told
+pub mod Written
 pub mod Outcomes
 pub mod Undisturbed
 pub mod Ended

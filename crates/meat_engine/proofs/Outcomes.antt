@@ -18,7 +18,7 @@ use Rattle.journey_model.specs.declared.problem.Problem.{Problem}
 use Rattle.journey_report.specs.declared.report.Report.{Report}
 use Rattle.meat_engine.specs.Asks.{FailsAsk}
 use Rattle.journey_report.specs.Findings.{Findings, findings_of, no_findings}
-use Rattle.meat_engine.specs.Received.{Ending, Refused, ending_at, ending_of, AnswersJob, FailsJob, IsExplained, IsRefused, IsRefusedWith, IsWritten, IsWrittenBy, IsLineTold, Outcome, OutcomeBy}
+use Rattle.meat_engine.specs.Received.{Ending, Refused, ending_at, ending_of, AnswersJob, FailsJob, IsExplained, IsRefused, IsRefusedWith, IsWritten, IsWrittenBy, IsLineWritten, Outcome, OutcomeBy}
 
 -- a fault of an input ends a run with nothing but the fault
 of_input : (file : Input) → ending_at (stage_of_input file) ≡ Refused
@@ -44,9 +44,9 @@ pub no_memory_or_not : (fault : Fault) → (fault ≡ NoMemory) ⊎ (fault ≢ N
 no_memory_or_not NoMemory = inl refl
 no_memory_or_not _ = inr (λ same. absurd (cc))
 
-module _ (told : Option FileMap) (limits : Limits) (words : List (List ℕ)) where
+module _ (contents : Option FileMap) (limits : Limits) (words : List (List ℕ)) where
   -- what is asked does not fail because its answer cannot be written
-  ask_write : (start : ℕ) (p : Problem) (ask : AskModel) → FailsAsk told limits start p ask Write → ⊥
+  ask_write : (start : ℕ) (p : Problem) (ask : AskModel) → FailsAsk contents limits start p ask Write → ⊥
   ask_write start p (Safe alpha) (is, none) = cc
   ask_write start p (Expand alpha) (is, none) = cc
   ask_write start p (Plan alpha) (is, none) = cc
@@ -61,47 +61,47 @@ module _ (told : Option FileMap) (limits : Limits) (words : List (List ℕ)) whe
   ask_write start p (Departures until last) (is, none) = cc
   ask_write start p (Latest until) (is, none) = cc
 
-  pub write_fails : (wanted : JobModel) (known : Option NamedParts) → FailsJob told limits wanted known Write → ⊥
+  pub write_fails : (wanted : JobModel) (known : Option NamedParts) → FailsJob contents limits wanted known Write → ⊥
   write_fails (Ask j ask) known (inl (p, sound, problem, (is, why))) = ask_write j.start p ask why
   write_fails (Ask j ask) known (inr early) = early.0.stage
   write_fails (Sample size) known (read, (files, same, inl (p, sound, problem, (is, why)))) = cc why.0
   write_fails (Sample size) known (read, (files, same, inr early)) = early.0.stage
 
   -- why a job fails is why there is no answer to its words
-  pub job_cause : (wanted : JobModel) (known : Option NamedParts) → job_of words ≡ Ok wanted → (fault : Fault) → (fault ≢ NoMemory → FailsJob told limits wanted known fault)
-      → IsExplained told limits words known fault
+  pub job_cause : (wanted : JobModel) (known : Option NamedParts) → job_of words ≡ Ok wanted → (fault : Fault) → (fault ≢ NoMemory → FailsJob contents limits wanted known fault)
+      → IsExplained contents limits words known fault
   job_cause wanted known is fault fails =
       ⊎_elim (λ (same : fault ≡ NoMemory). inl same) (λ (other : fault ≢ NoMemory). inr (inr (wanted, is, fails other))) (no_memory_or_not fault)
 
   module _ (report : Report) (old new : Option (List ℕ)) (IsLine : List ℕ → Type 0) where
-    outcome_by : (fault : Fault) → fault ≢ Write → Keeps old new → IsRefused told limits words report IsLine fault → Outcome told limits words report old new IsLine (Some fault)
+    outcome_by : (fault : Fault) → fault ≢ Write → Keeps old new → IsRefused contents limits words report IsLine fault → Outcome contents limits words report old new IsLine (Some fault)
     outcome_by fault other keeps refused =
-        subst (λ (e : Ending). OutcomeBy e told limits words report old new IsLine (Some fault)) (sym (refused_ending fault other)) (keeps, refused)
+        subst (λ (e : Ending). OutcomeBy e contents limits words report old new IsLine (Some fault)) (sym (refused_ending fault other)) (keeps, refused)
 
   -- a refusal whose line was written
   pub refused_outcome : (report : Report) (old new before after : Option (List ℕ)) (was now : ℕ) (known : Option NamedParts) (wanted : Fault) (found : Option Fault)
       → findings_of report ≡ no_findings → Keeps old new
-      → IsExplained told limits words known wanted → wanted ≢ Write → IsRefusedWith before after was now known wanted found
-      → Outcome told limits words report old new (IsLineTold before after was now) found
+      → IsExplained contents limits words known wanted → wanted ≢ Write → IsRefusedWith before after was now known wanted found
+      → Outcome contents limits words report old new (IsLineWritten before after was now) found
   refused_outcome report old new before after was now known wanted None findings keeps cause other refused = absurd refused
   refused_outcome report old new before after was now known wanted (Some fault) findings keeps cause other (same, line) =
       ⊎_elim
-      (λ (is : fault ≡ wanted). outcome_by report old new (IsLineTold before after was now) fault (λ write. other (sym is ∙ write)) keeps
-      (findings, (known, subst (IsExplained told limits words known) (sym is) cause, line)))
+      (λ (is : fault ≡ wanted). outcome_by report old new (IsLineWritten before after was now) fault (λ write. other (sym is ∙ write)) keeps
+      (findings, (known, subst (IsExplained contents limits words known) (sym is) cause, line)))
       (λ (is : (fault ≡ NoMemory) × IsFormatted wanted).
-      outcome_by report old new (IsLineTold before after was now) fault (λ write. let never : NoMemory ≡ Write = sym is.0 ∙ write in cc) keeps
+      outcome_by report old new (IsLineWritten before after was now) fault (λ write. let never : NoMemory ≡ Write = sym is.0 ∙ write in cc) keeps
       (findings, (known, inl is.0, line)))
       same
 
   -- an answer that was written, or not wholly
   pub answered_outcome : (wanted : JobModel) (answer : Findings) (report : Report) (text : List ℕ) (old new : Option (List ℕ)) (IsLine : List ℕ → Type 0) (found : Option Fault)
       → job_of words ≡ Ok wanted → findings_of report ≡ answer
-      → AnswersJob told limits wanted answer text → IsWritten old new text found → ((known : Option NamedParts) → found ≡ Some Write → IsLine (line_of known Write))
-      → Outcome told limits words report old new IsLine found
+      → AnswersJob contents limits wanted answer text → IsWritten old new text found → ((known : Option NamedParts) → found ≡ Some Write → IsLine (line_of known Write))
+      → Outcome contents limits words report old new IsLine found
   answered_outcome wanted answer report text old new IsLine None is same answers written tells =
-      (text, (wanted, is, subst (λ (f : Findings). AnswersJob told limits wanted f text) (sym same) answers), written)
+      (text, (wanted, is, subst (λ (f : Findings). AnswersJob contents limits wanted f text) (sym same) answers), written)
   answered_outcome wanted answer report text old new IsLine (Some Write) is same answers written tells =
-      ((text, (wanted, is, subst (λ (f : Findings). AnswersJob told limits wanted f text) (sym same) answers), written), λ known. tells known refl)
+      ((text, (wanted, is, subst (λ (f : Findings). AnswersJob contents limits wanted f text) (sym same) answers), written), λ known. tells known refl)
   answered_outcome wanted answer report text old new IsLine (Some other) is same answers written tells =
       absurd (subst (λ (e : Ending). IsWrittenBy e old new text) (refused_ending other (λ write. absurd (cc))) written)
 

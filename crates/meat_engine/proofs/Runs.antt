@@ -14,7 +14,7 @@ use Rattle.journey_model.specs.Sites.{NamedParts}
 use Rattle.journey_report.specs.declared.report.Report.{Report}
 use Rattle.journey_report.specs.Findings.{Findings, findings_of, no_findings}
 use Rattle.meat_engine.specs.Received.{Ending, AnswersJob, IsExplained, IsRefusedWith, IsWritten, IsWrittenBy, Outcome, path_in}
-use Rattle.meat_engine.specs.RunPromises.{SinkState, TellsLine, IsRun}
+use Rattle.meat_engine.specs.RunPromises.{SinkState, WritesLine, IsRun}
 use Rattle.meat_engine.proofs.Outcomes.{refused_ending, keeps_same, refused_outcome, answered_outcome, refused_some, refused_is, refused_read}
 use Rattle.meat_engine.proofs.Statuses.{complete}
 use Rattle.meat_engine.proofs.Undisturbed.{one_job}
@@ -38,7 +38,7 @@ module _ (limits : Limits) (words : List (List ℕ)) (report : Report) (before a
       → (before.faults < after.faults → (input : Input) × (wanted ≡ Read input))
       → IsRun limits words report before after out out err err_after
   refused_run status findings cause other same read read_path grew =
-      let ended : Outcome before.files limits words report out.written out.written (TellsLine err err_after) report.fault =
+      let ended : Outcome before.files limits words report out.written out.written (WritesLine err err_after) report.fault =
       refused_outcome before.files limits words report out.written out.written err.written err_after.written err.faults err_after.faults
       known wanted report.fault findings (keeps_same out.written) cause other told in
       let unread : (input : Input) → report.fault ≡ Some (Read input) → Rose before.faults after.faults
@@ -57,7 +57,7 @@ module _ (limits : Limits) (words : List (List ℕ)) (report : Report) (before a
         write = unwritten;
         out_grew = λ less. absurd (omega (arith, less));
         complete = λ files_calm out_calm.
-            complete before.files limits words report out.written out.written (TellsLine err err_after) report.fault report.status.0
+            complete before.files limits words report out.written out.written (WritesLine err err_after) report.fault report.status.0
             ended status ((λ input is. files_calm (unread input is)), (λ is. out_calm (unwritten is)));
       }
 
@@ -77,14 +77,14 @@ module _ (limits : Limits) (words : List (List ℕ)) (answer : Findings) (report
   pub answered_run : (job : JobModel) → job_of words ≡ Ok job → AnswersJob before.files limits job answer text
       → report.status.0 ≡ status_of report.fault → findings_of report ≡ answer
       → (report.fault ≡ None → Keeps err.written err_after.written)
-      → ((known : Option NamedParts) → report.fault ≡ Some Write → TellsLine err err_after (line_of known Write))
+      → ((known : Option NamedParts) → report.fault ≡ Some Write → WritesLine err err_after (line_of known Write))
       → after.files ≡ before.files → (before.faults < after.faults → ⊥)
       → (report.fault ≡ Some Write → Rose out.faults out_after.faults)
       → (out.faults < out_after.faults → report.fault ≡ Some Write)
       → IsRun limits words report before after out out_after err err_after
   answered_run job is answers status findings quiet tells same calm write grew =
-      let ended : Outcome before.files limits words report out.written out_after.written (TellsLine err err_after) report.fault =
-      answered_outcome before.files limits words job answer report text out.written out_after.written (TellsLine err err_after) report.fault
+      let ended : Outcome before.files limits words report out.written out_after.written (WritesLine err err_after) report.fault =
+      answered_outcome before.files limits words job answer report text out.written out_after.written (WritesLine err err_after) report.fault
       is findings answers written tells in
       record {
         status = status;
@@ -97,7 +97,7 @@ module _ (limits : Limits) (words : List (List ℕ)) (answer : Findings) (report
         write = write;
         out_grew = grew;
         complete = λ files_calm out_calm.
-            complete before.files limits words report out.written out_after.written (TellsLine err err_after) report.fault report.status.0
+            complete before.files limits words report out.written out_after.written (WritesLine err err_after) report.fault report.status.0
             ended status ((λ input unread. never_read input unread), (λ unwritten. out_calm (write unwritten)));
       }
 

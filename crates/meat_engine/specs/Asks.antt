@@ -12,13 +12,13 @@ use Rattle.journey_report.specs.Findings.{Findings}
 use Rattle.journey_model.specs.Known.{parts_of}
 use Rattle.journey_answers.specs.Answers.{InQuery, TellsWorst, TellsExpanded, TellsPlanned, IsNoSafe}
 use Rattle.journey_answers.specs.Punctual.{TellsPunctual}
-use Rattle.journey_problem.specs.Paths.{graph_path, proof_path}
+use Rattle.journey_problem.specs.Paths.{graph_path, certificate_path}
 use Rattle.journey_problem.specs.GraphFiles.{InGraphFile, FailsGraph}
-use Rattle.journey_answers.specs.Trips.{IsTripTold, IsTripFault}
+use Rattle.journey_answers.specs.Trips.{AnswersReplay, IsTripFault}
 use Rattle.journey_answers.specs.Scores.{IsEnclosed, IsUnsafeGraph}
-use Rattle.meat_engine.specs.Ends.{EndsByScore, EndsBySafety, EndsByGraphFile, EndsByProofFile, EndsByDepartures, EndsByLatest}
+use Rattle.meat_engine.specs.Ends.{EndsByScore, EndsBySafety, EndsByGraphFile, EndsByCertificateFile, EndsByDepartures, EndsByLatest}
 use Rattle.journey_answers.specs.Certified.{TellsCertificate}
-use Rattle.journey_problem.specs.CertificateFiles.{InProofFile, FailsProof}
+use Rattle.journey_problem.specs.CertificateFiles.{InCertificateFile, FailsCertificate}
 use Rattle.journey_answers.specs.Checks.{IsHeld, IsBroken}
 use Rattle.journey_answers.specs.Departures.{query_until, TellsDepartures, TellsLatest, FailsDepartures, FailsLatest}
 
@@ -33,7 +33,7 @@ own_paths (Expand alpha) = no_path
 own_paths (Plan alpha) = no_path
 own_paths (Replay graph late) = graph_path graph
 own_paths (Certify alpha) = no_path
-own_paths (CheckProof proof) = proof_path proof
+own_paths (CheckProof proof) = certificate_path proof
 own_paths (CheckGraph graph) = graph_path graph
 own_paths (Punctual alpha promise) = no_path
 own_paths (Departures until last) = no_path
@@ -44,9 +44,9 @@ abbrev pub AnswersAsk : Option FileMap → Limits → ℕ → Problem → AskMod
 AnswersAsk contents limits start p (Safe alpha) found text = InQuery p start alpha (TellsWorst p found text)
 AnswersAsk contents limits start p (Expand alpha) found text = InQuery p start alpha (TellsExpanded p found text)
 AnswersAsk contents limits start p (Plan alpha) found text = InQuery p start alpha (TellsPlanned p found text)
-AnswersAsk contents limits start p (Replay graph late) found text = InGraphFile contents limits start graph p (IsTripTold p late found text)
+AnswersAsk contents limits start p (Replay graph late) found text = InGraphFile contents limits start graph p (AnswersReplay p late found text)
 AnswersAsk contents limits start p (Certify alpha) found text = InQuery p start alpha (TellsCertificate p found text)
-AnswersAsk contents limits start p (CheckProof proof) found text = InProofFile contents limits start proof p (IsHeld p found text)
+AnswersAsk contents limits start p (CheckProof proof) found text = InCertificateFile contents limits start proof p (IsHeld p found text)
 AnswersAsk contents limits start p (CheckGraph graph) found text = InGraphFile contents limits start graph p (IsEnclosed p found text)
 AnswersAsk contents limits start p (Punctual alpha promise) found text = InQuery p start alpha (TellsPunctual p promise found text)
 AnswersAsk contents limits start p (Departures until last) found text = TellsDepartures p (query_until p start until) last found text
@@ -64,7 +64,7 @@ FailsScore contents limits start path p fault =
 
 -- why a check has no answer, unless there was no memory: the certificate file has a fault; or its certificate fails
 abbrev pub FailsCheck : Option FileMap → Limits → ℕ → List ℕ → Problem → Fault → Type 0
-FailsCheck contents limits start path p fault = FailsProof contents limits start path p fault ⊎ InProofFile contents limits start path p (IsBroken p fault)
+FailsCheck contents limits start path p fault = FailsCertificate contents limits start path p fault ⊎ InCertificateFile contents limits start path p (IsBroken p fault)
 
 -- why it has no answer, unless there was no memory
 abbrev pub FailsAsk : Option FileMap → Limits → ℕ → Problem → AskModel → Fault → Type 0
@@ -86,7 +86,7 @@ EndsAsk limits files start p (Expand alpha) status = EndsBySafety p start status
 EndsAsk limits files start p (Plan alpha) status = EndsBySafety p start status
 EndsAsk limits files start p (Replay graph late) status = EndsByGraphFile limits files start graph late p status
 EndsAsk limits files start p (Certify alpha) status = EndsBySafety p start status
-EndsAsk limits files start p (CheckProof proof) status = EndsByProofFile limits files start proof p status
+EndsAsk limits files start p (CheckProof proof) status = EndsByCertificateFile limits files start proof p status
 EndsAsk limits files start p (CheckGraph graph) status = EndsByScore limits files start graph p status
 EndsAsk limits files start p (Punctual alpha promise) status = EndsBySafety p start status
 EndsAsk limits files start p (Departures until last) status = EndsByDepartures p (query_until p start until) status

@@ -21,7 +21,7 @@ use Rattle.journey_problem.specs.Files.{bytes_of}
 use Rattle.journey_problem.specs.GraphFiles.{graph_in}
 use Rattle.journey_answers.specs.Trips.{trip_by}
 use Rattle.journey_answers.specs.Departures.{SafeOf, HasSafeFor}
-use Rattle.journey_problem.specs.CertificateFiles.{IsProofFile, FailsFile}
+use Rattle.journey_problem.specs.CertificateFiles.{IsCertificateFile, FailsFile}
 
 -- some strategy always reaches the target
 abbrev pub HasSafe : NetworkModel → (source target start : ℕ) → Type 0
@@ -53,9 +53,9 @@ EndsByVerdict network query values status =
     (IsAccepted network query values × (status ≡ 0)) ⊎ ((connection : ℕ) × IsLastFault network query values connection × (status ≡ 13))
 
 -- where the proof file reads, as its certificate says; and else the status of its fault
-abbrev pub EndsByProofFile : Limits → FileMap → ℕ → List ℕ → Problem → ℕ → Type 0
-EndsByProofFile limits files start path p status =
-    ((query : Query) × (proof : LowerBounds) × IsProofFile (Some files) limits start path p query proof × EndsByVerdict p.timetable.network query proof.values status)
+abbrev pub EndsByCertificateFile : Limits → FileMap → ℕ → List ℕ → Problem → ℕ → Type 0
+EndsByCertificateFile limits files start path p status =
+    ((query : Query) × (proof : LowerBounds) × IsCertificateFile (Some files) limits start path p query proof × EndsByVerdict p.timetable.network query proof.values status)
     ⊎ ((fault : Fault) × FailsFile p start (bytes_of limits.bytes input.Proof None (file_at files path)) fault × (status ≡ status_of (Some fault)))
 
 -- 0 where the tree is safe, and 15 where it is not

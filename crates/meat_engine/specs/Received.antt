@@ -97,8 +97,8 @@ abbrev pub Outcome : Option FileMap → Limits → List (List ℕ) → Report �
 Outcome contents limits words report old new Tells fault = OutcomeBy (ending_of fault) contents limits words report old new Tells fault
 
 -- a front of a line was received, the whole of it where the sink's count did not rise
-abbrev pub IsLineTold : Option (List ℕ) → Option (List ℕ) → ℕ → ℕ → List ℕ → Type 0
-IsLineTold old new before now line = AppendsFront old new line × (¬ Rose before now → Appends old new line)
+abbrev pub IsLineWritten : Option (List ℕ) → Option (List ℕ) → ℕ → ℕ → List ℕ → Type 0
+IsLineWritten old new before now line = AppendsFront old new line × (¬ Rose before now → Appends old new line)
 
 -- a text was written whole, or a front of it where writing failed
 abbrev pub IsWrittenBy : Ending → Option (List ℕ) → Option (List ℕ) → List ℕ → Type 0
@@ -113,4 +113,4 @@ IsWritten old new text fault = IsWrittenBy (ending_of fault) old new text
 abbrev pub IsRefusedWith : Option (List ℕ) → Option (List ℕ) → ℕ → ℕ → Option NamedParts → Fault → Option Fault → Type 0
 IsRefusedWith old new before now known wanted None = ⊥
 IsRefusedWith old new before now known wanted (Some told) =
-    ((told ≡ wanted) ⊎ ((told ≡ NoMemory) × IsFormatted wanted)) × IsLineTold old new before now (line_of known told)
+    ((told ≡ wanted) ⊎ ((told ≡ NoMemory) × IsFormatted wanted)) × IsLineWritten old new before now (line_of known told)

@@ -9,7 +9,7 @@ use Rattle.journey_model.specs.declared.faults.Input.{Input}
 use Rattle.journey_model.specs.declared.faults.Fault.TheVariants.{Read, Write}
 use Rattle.journey_model.specs.Faults.{status_of}
 use Rattle.journey_report.specs.declared.report.Report.{Report}
-use Rattle.meat_engine.specs.Received.{Outcome, IsLineTold, path_in}
+use Rattle.meat_engine.specs.Received.{Outcome, IsLineWritten, path_in}
 use Rattle.meat_engine.specs.Completeness.{IsComplete}
 
 -- what a sink received, where that is known; and how often it failed
@@ -21,15 +21,15 @@ abbrev pub sink_state : Option (List ℕ) → ℕ → SinkState
 sink_state written faults = record { written = written; faults = faults }
 
 -- a front of a line was received by the sink of faults, the whole of it where its count did not rise
-abbrev pub TellsLine : SinkState → SinkState → List ℕ → Type 0
-TellsLine old new = IsLineTold old.written new.written old.faults new.faults
+abbrev pub WritesLine : SinkState → SinkState → List ℕ → Type 0
+WritesLine old new = IsLineWritten old.written new.written old.faults new.faults
 
 -- a run of these words within these limits gives this report, over files that stood so before it and after it, with a sink
 -- for the answer and one for the fault that stood so
 pub record IsRun (limits : Limits) (words : List (List ℕ)) (report : Report) (before after : FilesState) (out out_after err err_after : SinkState) : Type 0 where
   -- the status is that of the fault, and the fault is that of the run
   pub status : report.status.0 ≡ status_of report.fault
-  pub outcome : Outcome before.files limits words report out.written out_after.written (TellsLine err err_after) report.fault
+  pub outcome : Outcome before.files limits words report out.written out_after.written (WritesLine err err_after) report.fault
   -- where there is no fault no line of one is written
   pub quiet : report.fault ≡ None → Keeps err.written err_after.written
   pub same : after.files ≡ before.files

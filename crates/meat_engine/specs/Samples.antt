@@ -35,13 +35,13 @@ abbrev pub sample_alpha : ℕ
 sample_alpha = 200
 
 -- the findings and the text are those of a plan, how many connections the window has and how many legs the graph has
-abbrev pub TellsSampled : ℕ → Problem → Findings → List ℕ → Query → Moment → Type 0
-TellsSampled size p found text query worst =
+abbrev pub AnswersSampled : ℕ → Problem → Findings → List ℕ → Query → Moment → Type 0
+AnswersSampled size p found text query worst =
     (graph : PlanGraph) × (bounds : Interval) × (found ≡ sample_findings query worst graph bounds (count p.timetable.network))
     × IsPlanned p.timetable.network query graph bounds × (text ≡ sample_text size (count p.timetable.network) (leg_count graph) bounds)
 
 abbrev pub IsSampled : ℕ → Problem → Findings → List ℕ → Type 0
-IsSampled size p found text = InQuery p sample_journey.start sample_alpha (TellsSampled size p found text)
+IsSampled size p found text = InQuery p sample_journey.start sample_alpha (AnswersSampled size p found text)
 
 -- the files of the made timetable are some of which this holds
 abbrev pub OverMade : ℕ → (FileMap → Type 0) → Type 0

@@ -6,10 +6,10 @@ ghost use Rattle.journey_model.specs.Sites.{IsTellable};
 ghost use Rattle.journey_problem.specs.Files.{path_of, HasCauses};
 ghost use Rattle.journey_problem.specs.Problems.{InProblem};
 ghost use Rattle.meat_engine.specs.Asks.{own_paths, AnswersAsk, FailsAsk, FailsCheck, FailsJourney, FailsReplay, FailsScore};
-ghost use Rattle.journey_problem.specs.Paths.{graph_path, proof_path};
+ghost use Rattle.journey_problem.specs.Paths.{graph_path, certificate_path};
 ghost use Rattle.journey_problem.specs.GraphFiles.{InGraphFile};
-ghost use Rattle.journey_problem.specs.CertificateFiles.{InProofFile};
-ghost use Rattle.journey_answers.specs.Trips.{IsTripTold};
+ghost use Rattle.journey_problem.specs.CertificateFiles.{InCertificateFile};
+ghost use Rattle.journey_answers.specs.Trips.{AnswersReplay};
 ghost use Rattle.journey_answers.specs.Scores.{IsEnclosed};
 ghost use Rattle.journey_answers.specs.Checks.{IsHeld};
 ghost use Rattle.command_line.specs.Jobs.{late_in};
@@ -22,8 +22,8 @@ use command_line::{Ask, Journey};
 use csv_rows::Limits;
 use file_ports::Files;
 use journey_answers::{
-    ReadGraph, ReadProof, certify_over, check_over, departures_over, expand_over, latest_over,
-    plan_over, punctual_over, safe_over, score_over, trip_over,
+    ReadCertificate, ReadGraph, certify_over, check_over, departures_over, expand_over,
+    latest_over, plan_over, punctual_over, safe_over, score_over, trip_over,
 };
 use journey_model::{Fault, Percent, Problem, Start};
 use journey_problem::{problem_of, read_certificate_file, read_graph_file};
@@ -42,7 +42,7 @@ fn replay_over<F: Files>(
     limits: &Limits,
 ) -> Result<Answer, Fault>
     ensures answer { IfOk result (λ a. InGraphFile (F.state files.old).files limits.now start.moment.0
-        graph.now problem.now (IsTripTold problem.now (late_in late.now)
+        graph.now problem.now (AnswersReplay problem.now (late_in late.now)
         (findings_of a.report) a.text.items)) }
     ensures fault { IfErr result (λ fault. fault ≢ Fault.NoMemory
         → FailsReplay (F.state files.old).files limits.now start.moment.0 graph.now (late_in late.now)
@@ -92,21 +92,28 @@ fn check_certificate_over<F: Files>(
     files: &mut F,
     problem: &Problem,
     start: Start,
-    proof: &str,
+    path: &str,
     limits: &Limits,
 ) -> Result<Answer, Fault>
-    ensures answer { IfOk result (λ a. InProofFile (F.state files.old).files limits.now start.moment.0
-        proof.now problem.now (IsHeld problem.now (findings_of a.report) a.text.items)) }
+    ensures answer { IfOk result (λ a. InCertificateFile (F.state files.old).files limits.now start.moment.0
+        path.now problem.now (IsHeld problem.now (findings_of a.report) a.text.items)) }
     ensures fault { IfErr result (λ fault. fault ≢ Fault.NoMemory
-        → FailsCheck (F.state files.old).files limits.now start.moment.0 proof.now problem.now fault) }
+        → FailsCheck (F.state files.old).files limits.now start.moment.0 path.now problem.now fault) }
     ensures tellable { IfErr result (IsTellable (Some (parts_of problem.now))) }
-    ensures causes { HasCauses (proof_path proof.now) (F.state files.old) (F.state files.new) result }
+    ensures causes { HasCauses (certificate_path path.now) (F.state files.old) (F.state files.new) result }
 {
-    let (query, proof) = read_certificate_file(alloc, files, proof, problem, start.moment, limits)?;
-    let read = ReadProof {
+    let (query, certificate) = read_certificate_file(
+        alloc,
+        files,
+        path,
+        problem,
+        start.moment,
+        limits,
+    )?;
+    let read = ReadCertificate {
         problem,
         query,
-        proof,
+        certificate,
     };
     check_over(alloc, read)
 }

@@ -13,7 +13,7 @@ ghost use Rattle.journey_problem.specs.Files.{HasCauses};
 ghost use Rattle.journey_model.specs.Known.{parts_of};
 ghost use Rattle.journey_report.specs.Findings.{findings_of, no_findings};
 ghost use Rattle.meat_engine.specs.Refusals.{known_of, IsRefusalBy, by_fault};
-ghost use Rattle.meat_engine.specs.Received.{path_in, AnswersJob, FailsJob, IsLineTold, IsWritten, IsRefusedWith};
+ghost use Rattle.meat_engine.specs.Received.{path_in, AnswersJob, FailsJob, IsLineWritten, IsWritten, IsRefusedWith};
 ghost use Rattle.meat_engine.specs.RunPromises.{IsRun, sink_state};
 
 use crate::asks::journey_over;
@@ -51,7 +51,7 @@ fn answer_of<F: Files>(
 
 /// Writes a line, or a front of it if the sink fails.
 fn put_line<E: Sink>(err: &mut E, line: &[u8])
-    ensures { IsLineTold (E.written err.old) (E.written err.new) (E.faults err.old) (E.faults err.new)
+    ensures { IsLineWritten (E.written err.old) (E.written err.new) (E.faults err.old) (E.faults err.new)
         line.now }
 {
     // A fault of the sink changes nothing.
@@ -114,7 +114,7 @@ fn tell<O: Sink, E: Sink>(answer: Answer, out: &mut O, err: &mut E) -> Report
     ensures out { IsWritten (O.written out.old) (O.written out.new) answer.text.items result.fault }
     ensures quiet { result.fault ≡ None → Keeps (E.written err.old) (E.written err.new) }
     ensures told { (known : Optional NamedParts) → result.fault ≡ Some Fault.Write
-        → IsLineTold (E.written err.old) (E.written err.new) (E.faults err.old) (E.faults err.new)
+        → IsLineWritten (E.written err.old) (E.written err.new) (E.faults err.old) (E.faults err.new)
         (line_of known Fault.Write) }
     ensures write { result.fault ≡ Some Fault.Write → Rose (O.faults out.old) (O.faults out.new) }
     ensures grew { O.faults out.old < O.faults out.new → result.fault ≡ Some Fault.Write }

@@ -36,7 +36,7 @@ use Rattle.journey_answers.specs.Departures.{query_until}
 use Rattle.meat_engine.specs.Asks.{AnswersAsk, EndsAsk, FailsJourney}
 use Rattle.meat_engine.specs.Ends.{EndsByGraphFile, EndsByWalk}
 use Rattle.meat_engine.specs.Received.{AnswersJob, Outcome}
-use Rattle.meat_engine.specs.RunPromises.{TellsLine}
+use Rattle.meat_engine.specs.RunPromises.{WritesLine}
 use Rattle.meat_engine.proofs.Undisturbed.{fails as job_fails}
 use Rattle.journey_model.specs.Sites.{NamedParts}
 use Rattle.run_laws.specs.OneRun.{EndsWell, IsCalmRun}
@@ -387,9 +387,9 @@ module _ (limits : Limits) (r s : RunModel) (first : IsRunWithin limits r) (seco
 
   first_fault : FaultsAreTold → FaultIsFirst limits r
   first_fault told files old said j path text p f calm asks is there small fails =
-      let by : Option FileMap → Option Fault → Type 0 = λ contents e. Outcome contents limits r.words r.report r.before.out.written r.after.out.written (TellsLine r.before.err r.after.err) e in
+      let by : Option FileMap → Option Fault → Type 0 = λ contents e. Outcome contents limits r.words r.report r.before.out.written r.after.out.written (WritesLine r.before.err r.after.err) e in
       let outcome = subst (by (Some files)) fails (subst (λ (c : Option FileMap). by c r.report.fault) calm.tells first.outcome) in
-      let (known, why) = job_fails (Some files) limits r.words r.report r.before.out.written r.after.out.written (TellsLine r.before.err r.after.err) (fault.GraphFile f) outcome (λ e. cc) (λ e. cc) (Ask j (CheckGraph path)) asks in
+      let (known, why) = job_fails (Some files) limits r.words r.report r.before.out.written r.after.out.written (WritesLine r.before.err r.after.err) (fault.GraphFile f) outcome (λ e. cc) (λ e. cc) (Ask j (CheckGraph path)) asks in
       of_journey told files j path text p f known is why there small
 
   pub agree : FaultsAreTold → Agree limits r s

@@ -26,11 +26,11 @@ use Rattle.journey_model.specs.declared.problem.Problem.{Problem}
 use Rattle.journey_report.specs.Findings.{Findings}
 use Rattle.journey_problem.proofs.NoFaults.{none_unread}
 use Rattle.journey_problem.specs.Files.{bytes_of}
-use Rattle.journey_answers.specs.Trips.{IsTripTold, IsTripFault, trip_by}
+use Rattle.journey_answers.specs.Trips.{AnswersReplay, IsTripFault, trip_by}
 use Rattle.journey_answers.specs.Scores.{IsEnclosed, IsUnsafeGraph}
 use Rattle.journey_answers.specs.Checks.{IsHeld, IsBroken}
 use Rattle.journey_problem.specs.GraphFiles.{graph_in, InGraphFile, FailsGraph, FailsReplay, FailsScore}
-use Rattle.journey_problem.specs.CertificateFiles.{FailsText, FailsFile, FailsCheck, FailsProof, InProofFile}
+use Rattle.journey_problem.specs.CertificateFiles.{FailsText, FailsFile, FailsCheck, FailsCertificate, InCertificateFile}
 use Rattle.journey_answers.specs.Answers.{IsNoSafe}
 use Rattle.meat_engine.specs.Asks.{AnswersAsk, FailsAsk}
 use Rattle.run_laws.proofs.FirstFaults.{NotRead}
@@ -104,13 +104,13 @@ module _ (p : Problem) (files : FileMap) (limits : Limits) (start : ℕ) where
     one_replay_fault late a b m n (inr is) (inl also) = absurd (of_graph (IsTripFault p late a) b n also is)
     one_replay_fault late a b m n (inr is) (inr also) = in_graph p files limits start path (IsTripFault p late a) (IsTripFault p late b) (a ≡ b) (one_trip_fault late a b) is also
 
-    told_or_stopped : (late : List ℕ) (found : Findings) (text : List ℕ) (a : Fault) (head : Head) (graph : PlanGraph) → IsTripTold p late found text head graph → IsTripFault p late a head graph → ⊥
+    told_or_stopped : (late : List ℕ) (found : Findings) (text : List ℕ) (a : Fault) (head : Head) (graph : PlanGraph) → AnswersReplay p late found text head graph → IsTripFault p late a head graph → ⊥
     told_or_stopped late found text a head graph told stopped = never_both (trip_by p head graph late) told.trace stopped.stop told.trip stopped.trip
 
-    replayed : (late : List ℕ) (found : Findings) (text : List ℕ) (a : Fault) → NotRead a → InGraphFile (Some files) limits start path p (IsTripTold p late found text)
+    replayed : (late : List ℕ) (found : Findings) (text : List ℕ) (a : Fault) → NotRead a → InGraphFile (Some files) limits start path p (AnswersReplay p late found text)
         → FailsReplay (Some files) limits start path late p a → ⊥
-    replayed late found text a m told (inl is) = of_graph (IsTripTold p late found text) a m is told
-    replayed late found text a m told (inr is) = in_graph p files limits start path (IsTripTold p late found text) (IsTripFault p late a) ⊥ (told_or_stopped late found text a) told is
+    replayed late found text a m told (inl is) = of_graph (AnswersReplay p late found text) a m is told
+    replayed late found text a m told (inr is) = in_graph p files limits start path (AnswersReplay p late found text) (IsTripFault p late a) ⊥ (told_or_stopped late found text a) told is
 
     one_unsafe : (a b : Fault) (head : Head) (graph : PlanGraph) → IsUnsafeGraph p a head graph → IsUnsafeGraph p b head graph → a ≡ b
     one_unsafe a b head graph (place, moment, is, unsafe) (other, later, also, more) =
@@ -133,7 +133,7 @@ module _ (p : Problem) (files : FileMap) (limits : Limits) (start : ℕ) where
 
     -- ---- proof files
 
-    proof_fault : (fault : Fault) → NotRead fault → FailsProof (Some files) limits start path p fault → FailsFile p start bytes_read fault
+    proof_fault : (fault : Fault) → NotRead fault → FailsCertificate (Some files) limits start path p fault → FailsFile p start bytes_read fault
     proof_fault fault never fails = subst (λ (u : Option Input). FailsFile p start (bytes_of limits.bytes input.Proof u (file_at files path)) fault) (none_unread fault never) fails.1
 
     free : (text : List ℕ) (first : ProofFault) → (first ≡ NoRoom → ⊥) → ◌≢◌ {A = Result (Query × LowerBounds) ProofFault} (Err first) (Err NoRoom)
@@ -161,7 +161,7 @@ module _ (p : Problem) (files : FileMap) (limits : Limits) (start : ℕ) where
         cc
     text_or_fault (Err e) text q proof a there told fails = cc
 
-    of_proof : (P : Query → LowerBounds → Type 0) (a : Fault) → NotRead a → FailsProof (Some files) limits start path p a → InProofFile (Some files) limits start path p P → ⊥
+    of_proof : (P : Query → LowerBounds → Type 0) (a : Fault) → NotRead a → FailsCertificate (Some files) limits start path p a → InCertificateFile (Some files) limits start path p P → ⊥
     of_proof P a m fails (q, proof, is, holds) = text_or_fault bytes_read is.text q proof a is.reads is.tells (proof_fault a m fails)
 
     one_broken : (a b : Fault) (q : Query) (proof : LowerBounds) → IsBroken p a q proof → IsBroken p b q proof → a ≡ b
@@ -179,7 +179,7 @@ module _ (p : Problem) (files : FileMap) (limits : Limits) (start : ℕ) where
     held_or_broken : (found : Findings) (text : List ℕ) (a : Fault) (q : Query) (proof : LowerBounds) → IsHeld p found text q proof → IsBroken p a q proof → ⊥
     held_or_broken found text a q proof held (c, is, last) = last.fault (held.accepted c.0 last.there last.board)
 
-    checked : (found : Findings) (text : List ℕ) (a : Fault) → NotRead a → InProofFile (Some files) limits start path p (IsHeld p found text) → FailsCheck (Some files) limits start path p a → ⊥
+    checked : (found : Findings) (text : List ℕ) (a : Fault) → NotRead a → InCertificateFile (Some files) limits start path p (IsHeld p found text) → FailsCheck (Some files) limits start path p a → ⊥
     checked found text a m told (inl is) = of_proof (IsHeld p found text) a m is told
     checked found text a m told (inr is) = in_proof p files limits start path (IsHeld p found text) (IsBroken p a) ⊥ (held_or_broken found text a) told is
 

@@ -19,8 +19,8 @@ use Rattle.journey_report.specs.declared.report.Report.{Report}
 use Rattle.journey_answers.specs.Departures.{query_until}
 use Rattle.meat_engine.specs.Asks.{AnswersAsk}
 use Rattle.meat_engine.specs.Received.{AnswersJob, AnswersWords, HasAnswer, Outcome}
-use Rattle.meat_engine.specs.Samples.{sample_journey, sample_alpha, TellsSampled, IsSampled}
-use Rattle.meat_engine.specs.RunPromises.{TellsLine}
+use Rattle.meat_engine.specs.Samples.{sample_journey, sample_alpha, AnswersSampled, IsSampled}
+use Rattle.meat_engine.specs.RunPromises.{WritesLine}
 use Rattle.run_laws.specs.OneAnswer.{IsOneAnswer}
 use Rattle.run_laws.proofs.Plans.{one_planned}
 use Rattle.run_laws.proofs.Queries.{in_one_query}
@@ -48,7 +48,7 @@ module _ (found others : Findings) (text other : List ℕ) where
   one_ask files limits start p (Departures until last) = one_departures_answer p (query_until p start until) last found others text other
   one_ask files limits start p (Latest until) = one_latest_answer p found others text other (query_until p start until)
 
-  one_sample_told : (size : ℕ) (p : Problem) (q : Query) (w : Moment) → TellsSampled size p found text q w → TellsSampled size p others other q w → One
+  one_sample_told : (size : ℕ) (p : Problem) (q : Query) (w : Moment) → AnswersSampled size p found text q w → AnswersSampled size p others other q w → One
   one_sample_told size p q w (graph, bounds, is, plan, text_is) (graphs, spans, is_other, plan_other, text_other) =
       let both = one_planned p.timetable.network q graph graphs bounds spans plan plan_other in
       record {
@@ -58,7 +58,7 @@ module _ (found others : Findings) (text other : List ℕ) where
 
   one_sample : (size : ℕ) (p : Problem) → IsSampled size p found text → IsSampled size p others other → One
   one_sample size p (q, w, is, tells) (r, v, also, told) =
-      one_sample_told size p q w tells (in_one_query p sample_journey.start sample_alpha (TellsSampled size p others other) q r w v is also told)
+      one_sample_told size p q w tells (in_one_query p sample_journey.start sample_alpha (AnswersSampled size p others other) q r w v is also told)
 
   module _ (one_problem : HasOneProblem) where
     one_job : (files : FileMap) (limits : Limits) (job : JobModel) → AnswersJob (Some files) limits job found text → AnswersJob (Some files) limits job others other → One
@@ -86,7 +86,7 @@ pub answer_of : (files : FileMap) (limits : Limits) (words : List (List ℕ)) (r
     → HasAnswer (Some files) limits words report (Appends (Some old) new)
 answer_of files limits words report old new ends =
     let by : Option FileMap → Option (List ℕ) → Option (List ℕ) → Option Fault → Type 0 = λ contents had has fault.
-    Outcome contents limits words report had has (TellsLine ends.err ends.err_after) fault in
+    Outcome contents limits words report had has (WritesLine ends.err ends.err_after) fault in
     let over = subst (λ (c : Option FileMap). by c ends.out.written ends.out_after.written report.fault) ends.tells ends.run.outcome in
     let from = subst (λ (w : Option (List ℕ)). by (Some files) w ends.out_after.written report.fault) ends.had over in
     let to = subst (λ (w : Option (List ℕ)). by (Some files) (Some old) w report.fault) ends.has from in

@@ -13,7 +13,7 @@ use Rattle.journey_model.specs.declared.problem.Problem.{Problem}
 use Rattle.journey_report.specs.Findings.{Findings, certify_findings, check_findings}
 use Rattle.journey_report.specs.AnswerTexts.{holds_text}
 use Rattle.journey_answers.specs.Checks.{IsHeld}
-use Rattle.journey_problem.specs.CertificateFiles.{InProofFile}
+use Rattle.journey_problem.specs.CertificateFiles.{InCertificateFile}
 use Rattle.journey_answers.specs.Answers.{InQuery}
 use Rattle.journey_answers.specs.Certified.{TellsCertificate}
 use Rattle.run_laws.specs.OneAnswer.{IsOneAnswer}
@@ -49,6 +49,6 @@ module _ (p : Problem) (found others : Findings) (text other : List ℕ) where
         text_is = tells.text_is ∙ ap (holds_text (place_name p.timetable.names p.source.0) (place_name p.timetable.names p.target.0) q) same ∙ sym told.text_is;
       }
 
-  pub one_check_answer : (files : FileMap) (limits : Limits) (start : ℕ) (path : List ℕ) → InProofFile (Some files) limits start path p (IsHeld p found text)
-      → InProofFile (Some files) limits start path p (IsHeld p others other) → One
+  pub one_check_answer : (files : FileMap) (limits : Limits) (start : ℕ) (path : List ℕ) → InCertificateFile (Some files) limits start path p (IsHeld p found text)
+      → InCertificateFile (Some files) limits start path p (IsHeld p others other) → One
   one_check_answer files limits start path = in_proof p files limits start path (IsHeld p found text) (IsHeld p others other) One one_held

@@ -23,10 +23,10 @@ use Rattle.journey_model.specs.declared.faults.Input.TheVariants as input
 use Rattle.journey_model.specs.declared.problem.Problem.{Problem}
 use Rattle.journey_report.specs.Findings.{Findings}
 use Rattle.journey_problem.specs.Files.{bytes_of}
-use Rattle.journey_problem.specs.CertificateFiles.{FailsFile, TellsProof}
+use Rattle.journey_problem.specs.CertificateFiles.{FailsFile, IsCertificateText}
 use Rattle.journey_answers.specs.Answers.{InQuery}
 use Rattle.journey_answers.specs.Certified.{TellsCertificate}
-use Rattle.meat_engine.specs.Ends.{EndsByProofFile, EndsByVerdict}
+use Rattle.meat_engine.specs.Ends.{EndsByCertificateFile, EndsByVerdict}
 
 -- the bytes of a file that is there and short enough
 pub bytes_there : (most : ℕ) (files : FileMap) (path text : List ℕ) → file_at files path ≡ Some text → length text ≤ most → bytes_of most input.Proof None (file_at files path) ≡ Ok text
@@ -38,7 +38,7 @@ same_text : (a b : List ℕ) (r : Result (List ℕ) Fault) → r ≡ Ok a → r 
 same_text a b r x y = cc
 
 pub printed_certificate : (limits : Limits) (files : FileMap) (start alpha : ℕ) (p : Problem) (found : Findings) (text path : List ℕ) (status : ℕ)
-    → InQuery p start alpha (TellsCertificate p found text) → file_at files path ≡ Some text → length text ≤ limits.bytes → EndsByProofFile limits files start path p status → status ≡ 0
+    → InQuery p start alpha (TellsCertificate p found text) → file_at files path ≡ Some text → length text ≤ limits.bytes → EndsByCertificateFile limits files start path p status → status ≡ 0
 printed_certificate limits files start alpha p found text path status (q, worst, asked, certified) there small (inl (query, proof, is, verdict)) =
     by_verdict verdict
   where
@@ -48,8 +48,8 @@ printed_certificate limits files start alpha p found text path status (q, worst,
     one : is.text ≡ text
     one = same_text is.text text (bytes_of limits.bytes input.Proof None (file_at files path)) is.reads bytes
 
-    told : TellsProof p start text query proof
-    told = subst (λ (t : List ℕ). TellsProof p start t query proof) one is.tells
+    told : IsCertificateText p start text query proof
+    told = subst (λ (t : List ℕ). IsCertificateText p start t query proof) one is.tells
 
     back : (query ≡ q) × (proof.values ≡ certified.proof.values)
     back = certified.reads_back (Ok (query, proof)) (rw (asked.source, asked.target, asked.start_is) told)

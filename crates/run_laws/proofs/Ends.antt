@@ -22,7 +22,7 @@ use Rattle.journey_report.specs.Findings.{Findings, findings_of, no_findings}
 use Rattle.journey_report.specs.declared.report.Report.{Report}
 use Rattle.meat_engine.specs.Asks.{FailsAsk, FailsJourney}
 use Rattle.meat_engine.specs.Received.{Ending, AnswersJob, AnswersWords, FailsJob, IsExplained, IsRefused, Outcome, OutcomeBy}
-use Rattle.meat_engine.specs.RunPromises.{TellsLine}
+use Rattle.meat_engine.specs.RunPromises.{WritesLine}
 use Rattle.meat_engine.specs.Samples.{sample_journey, sample_alpha}
 use Rattle.meat_engine.proofs.Outcomes.{refused_ending}
 use Rattle.run_laws.specs.OneRun.{IsCalmRun, IsOneEnd, HasOneEnd}
@@ -158,7 +158,7 @@ module _ (limits : Limits) (files : FileMap) where
 
     module _ (report : Report) (new line : Option (List ℕ)) (run : IsCalmRun files limits words report old said new line) where
       abbrev Tells : List ℕ → Type 0
-      Tells = TellsLine run.err run.err_after
+      Tells = WritesLine run.err run.err_after
 
       -- what it comes to, by what the files hold and the sinks received
       outcome : (fault : Option Fault) → report.fault ≡ fault → Outcome (Some files) limits words report (Some old) new Tells fault

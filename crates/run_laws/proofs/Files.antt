@@ -14,7 +14,7 @@ use Rattle.journey_model.specs.declared.problem.Problem.{Problem}
 use Rattle.journey_report.specs.Findings.{Findings, replay_findings, score_findings, latest_findings}
 use Rattle.journey_report.specs.AnswerTexts.{trace_text, encloses_text}
 use Rattle.journey_report.specs.DepartureTexts.{latest_text}
-use Rattle.journey_answers.specs.Trips.{IsTripTold}
+use Rattle.journey_answers.specs.Trips.{AnswersReplay}
 use Rattle.journey_answers.specs.Scores.{IsEnclosed}
 use Rattle.journey_problem.specs.GraphFiles.{InGraphFile}
 use Rattle.journey_answers.specs.Departures.{SafeOf, TellsLatest}
@@ -45,7 +45,7 @@ module _ (p : Problem) (found others : Findings) (text other : List ℕ) where
         text_is = text_is ∙ ap (latest_text (place_name p.timetable.names q.source.0) (place_name p.timetable.names q.target.0) q) same ∙ sym text_other;
       }
 
-  one_trip : (late : List ℕ) (head : Head) (graph : PlanGraph) → IsTripTold p late found text head graph → IsTripTold p late others other head graph → One
+  one_trip : (late : List ℕ) (head : Head) (graph : PlanGraph) → AnswersReplay p late found text head graph → AnswersReplay p late others other head graph → One
   one_trip late head graph tells told =
       let both : Ok tells.trace ≡ Ok told.trace = sym tells.trip ∙ told.trip in
       let same : tells.trace ≡ told.trace = cc in
@@ -63,9 +63,9 @@ module _ (p : Problem) (found others : Findings) (text other : List ℕ) where
       }
 
   module _ (files : FileMap) (limits : Limits) (start : ℕ) (path : List ℕ) where
-    pub one_trip_answer : (late : List ℕ) → InGraphFile (Some files) limits start path p (IsTripTold p late found text)
-        → InGraphFile (Some files) limits start path p (IsTripTold p late others other) → One
-    one_trip_answer late = in_graph p files limits start path (IsTripTold p late found text) (IsTripTold p late others other) One (one_trip late)
+    pub one_trip_answer : (late : List ℕ) → InGraphFile (Some files) limits start path p (AnswersReplay p late found text)
+        → InGraphFile (Some files) limits start path p (AnswersReplay p late others other) → One
+    one_trip_answer late = in_graph p files limits start path (AnswersReplay p late found text) (AnswersReplay p late others other) One (one_trip late)
 
     pub one_score_answer : InGraphFile (Some files) limits start path p (IsEnclosed p found text)
         → InGraphFile (Some files) limits start path p (IsEnclosed p others other) → One

@@ -14,7 +14,7 @@ use Rattle.journey_model.specs.declared.faults.Fault.{Fault}
 use Rattle.journey_model.specs.declared.problem.Problem.{Problem}
 use Rattle.journey_problem.specs.Files.{bytes_of}
 use Rattle.journey_problem.specs.GraphFiles.{graph_in, InGraphFile}
-use Rattle.journey_problem.specs.CertificateFiles.{InProofFile}
+use Rattle.journey_problem.specs.CertificateFiles.{InCertificateFile}
 
 pub one_ok : {A E : Type 0} (r : Result A E) (a b : A) → r ≡ Ok a → r ≡ Ok b → a ≡ b
 one_ok r a b one two = cc
@@ -42,7 +42,7 @@ module _ (p : Problem) (files : FileMap) (limits : Limits) (start : ℕ) (path :
   Reads = IsProofRead p.timetable.network p.timetable.names p.source.0 p.target.0 start
 
   pub in_proof : (P Q : Query → LowerBounds → Type 0) (R : Type 0) → ((q : Query) (proof : LowerBounds) → P q proof → Q q proof → R)
-      → InProofFile (Some files) limits start path p P → InProofFile (Some files) limits start path p Q → R
+      → InCertificateFile (Some files) limits start path p P → InCertificateFile (Some files) limits start path p Q → R
   in_proof P Q R both (q, proof, is, holds) (r, more, also, others) =
       let text : also.text ≡ is.text = one_ok read_bytes also.text is.text also.reads is.reads in
       let told : Reads is.text (Ok (r, more)) = subst (λ (t : List ℕ). Reads t (Ok (r, more))) text also.tells in

@@ -11,7 +11,7 @@ use Rattle.plan_graph.specs.PickedRows.{pick_after, pick_at}
 use Rattle.plan_graph.specs.Unfold.{unfold_expanded, unfold_plan}
 use Rattle.decision_graph.specs.Expanded.{IsExpanded}
 use Rattle.decision_graph.specs.Planned.{IsPlanned}
-use Rattle.run_laws.specs.Wholes.{IsTold, IsOneStrategy}
+use Rattle.run_laws.specs.Wholes.{HasEveryRow, IsOneStrategy}
 use Rattle.run_laws.proofs.Agree.{start_same}
 use Rattle.run_laws.proofs.OneStrategy.{IsTheMean, the_best, one_best}
 use Rattle.run_laws.proofs.RideTables.{one_told}
@@ -29,7 +29,7 @@ module _ (n : NetworkModel) (q : Query) where
       let both = one_best n q (unfold_plan a n q) (unfold_plan b n q) s t (of_plan a s plan) (of_plan b t other) in
       (one_tidy n q a b plan.tidy other.tidy (q.deadline.0, plan.best.safe) both.0, both.1)
 
-  told : (graph : ExpandedGraph) (bounds : Interval) → IsExpanded n q graph bounds → IsTold n q graph
+  told : (graph : ExpandedGraph) (bounds : Interval) → IsExpanded n q graph bounds → HasEveryRow n q graph
   told graph bounds is = record { ready = is.ready; busy = is.busy; whole = is.whole; arrivals = is.arrivals }
 
   pub one_expanded : (a b : ExpandedGraph) (s t : Interval) → IsExpanded n q a s → IsExpanded n q b t → (a ≡ b) × (s ≡ t)

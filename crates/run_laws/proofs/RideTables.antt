@@ -19,7 +19,7 @@ use Rattle.plan_graph.proofs.Tables.{one_found}
 use Rattle.plan_graph.proofs.Rides.{rows_after-own}
 use Rattle.leg_extract.specs.Extracted.{HasArrivals}
 use Rattle.plan_model.proofs.Lists.{Contains-nil, Contains-cons_cases, Contains-map, Contains-from_map, AllPairs-head, AllPairs-tail}
-use Rattle.run_laws.specs.Wholes.{IsTold}
+use Rattle.run_laws.specs.Wholes.{HasEveryRow}
 use Rattle.run_laws.proofs.Rising.{HasAll, one_rising}
 use Rattle.run_laws.proofs.Agree.{start_same, agree_from}
 use Rattle.run_laws.proofs.PlaceTables.{Sooner, row_same}
@@ -92,7 +92,7 @@ module _ (n : NetworkModel) (q : Query) where
   same_moments r s arrivals others is =
       arrivals ∙ sym (subst (λ (leg : Leg). HasArrivals n target (ride_with leg s.after)) is others)
 
-  module _ (a b : ExpandedGraph) (start : Leg) (starts : a.start ≡ Some start) (starts_other : b.start ≡ Some start) (told : IsTold n q a) (told_other : IsTold n q b)
+  module _ (a b : ExpandedGraph) (start : Leg) (starts : a.start ≡ Some start) (starts_other : b.start ≡ Some start) (told : HasEveryRow n q a) (told_other : HasEveryRow n q b)
       (differ : q.source.0 ≢ target) (same : unfold_expanded a n q ≡ unfold_expanded b n q) where
     agree : (leg : Leg) → Stands leg (unfold_expanded a n q) → end_of n leg ≢ target → (o : Outcome) → Contains (outcomes_of n leg) o
         → pick_after a.rides leg (arrival_of n leg o.delay) ≡ pick_after b.rides leg (arrival_of n leg o.delay)
@@ -123,7 +123,7 @@ module _ (n : NetworkModel) (q : Query) where
         let next = one_found (pick_after b.rides r.leg x) found.0.leg row.leg second (sym both ∙ first) in
         subst (λ (w : GraphRow). Contains s.after w) (row_same found.0 row found.2 next) found.1
 
-  one_ride : (a b : ExpandedGraph) (start : Leg) → a.start ≡ Some start → b.start ≡ Some start → IsTold n q a → IsTold n q b → q.source.0 ≢ target
+  one_ride : (a b : ExpandedGraph) (start : Leg) → a.start ≡ Some start → b.start ≡ Some start → HasEveryRow n q a → HasEveryRow n q b → q.source.0 ≢ target
       → unfold_expanded a n q ≡ unfold_expanded b n q → HasAll a.rides b.rides
   one_ride a b start starts others told tolds differ same r has =
       let stands = subst (λ (t : Tree). Stands r.leg t) same (All-contains (λ t. Stands t.leg (unfold_expanded a n q)) a.rides r told.busy.stands has) in
@@ -135,7 +135,7 @@ module _ (n : NetworkModel) (q : Query) where
       (row_there b a start others starts tolds told differ (sym same) s r there has (sym leg)) in
       subst (λ (t : Ride). Contains b.rides t) (ap₂ ride_with leg (sym rows)) there
 
-  by_start : (a b : ExpandedGraph) (s t : Option Leg) → a.start ≡ s → b.start ≡ t → IsTold n q a → IsTold n q b → unfold_expanded a n q ≡ unfold_expanded b n q
+  by_start : (a b : ExpandedGraph) (s t : Option Leg) → a.start ≡ s → b.start ≡ t → HasEveryRow n q a → HasEveryRow n q b → unfold_expanded a n q ≡ unfold_expanded b n q
       → MatchOption s (q.source.0 ≡ q.target.0) (λ leg. (q.source.0 ≢ q.target.0) × IsLegOf n leg)
       → MatchOption t (q.source.0 ≡ q.target.0) (λ leg. (q.source.0 ≢ q.target.0) × IsLegOf n leg) → a ≡ b
   by_start a b None None is other told tolds same none nothing =
@@ -150,5 +150,5 @@ module _ (n : NetworkModel) (q : Query) where
       ap₂ graph_of starts (one_rising before one_way a.rides b.rides told.ready.rising tolds.ready.rising
       (one_ride a b s is there told tolds fit.0 same) (one_ride b a s there is tolds told fit.0 (sym same)))
 
-  pub one_told : (a b : ExpandedGraph) → IsTold n q a → IsTold n q b → unfold_expanded a n q ≡ unfold_expanded b n q → a ≡ b
+  pub one_told : (a b : ExpandedGraph) → HasEveryRow n q a → HasEveryRow n q b → unfold_expanded a n q ≡ unfold_expanded b n q → a ≡ b
   one_told a b told tolds same = by_start a b a.start b.start refl refl told tolds same told.ready.starts tolds.ready.starts

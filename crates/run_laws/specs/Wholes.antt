@@ -10,7 +10,7 @@ use Rattle.plan_graph.specs.Ready.{IsReady, IsBusy}
 use Rattle.leg_extract.specs.Extracted.{HasArrivals, HasEachRide}
 
 -- its rides are those that stand in its tree, each with a row for each outcome
-pub record IsTold (network : NetworkModel) (query : Query) (graph : ExpandedGraph) : Type 0 where
+pub record HasEveryRow (network : NetworkModel) (query : Query) (graph : ExpandedGraph) : Type 0 where
   pub ready : IsReady network query graph
   pub busy : IsBusy network query graph
   pub whole : HasEachRide network query graph

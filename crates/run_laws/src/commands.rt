@@ -24,7 +24,7 @@ ghost use Rattle.journey_answers.specs.Departures.{query_until};
 ghost use Rattle.lower_proof.specs.Certificates.{IsLeastAtStart};
 ghost use Rattle.lower_proof.specs.Promises.{IsBestCertificate};
 ghost use Rattle.journey_answers.specs.Certified.{TellsCertificate};
-ghost use Rattle.meat_engine.specs.Ends.{EndsByProofFile, EndsByDepartures, EndsByLatest};
+ghost use Rattle.meat_engine.specs.Ends.{EndsByCertificateFile, EndsByDepartures, EndsByLatest};
 ghost use Rattle.run_laws.specs.Printed.{ArrivesByFile, KeepsUpperBound};
 
 /// Where a file holds what `plan` prints of a problem, `check` of this graph over the problem ends with 0.
@@ -65,7 +65,7 @@ pub fn a_printed_certificate_is_accepted()
     ensures { (limits : Most) (files : FileMap) (start alpha : ℕ) (p : Parts) (found : Findings) (text path : Bytes ℕ)
         (status : ℕ) →
         InQuery p start alpha (TellsCertificate p found text) → file_at files path ≡ Some text → length text ≤ limits.bytes →
-        EndsByProofFile limits files start path p status → status ≡ 0 }
+        EndsByCertificateFile limits files start path p status → status ≡ 0 }
 {}
 
 /// The value at the start of the certificate of `certify` is at most the upper bound of `plan`; and the lower bound of

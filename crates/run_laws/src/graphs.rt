@@ -13,7 +13,7 @@ ghost use Rattle.plan_model.specs.declared.model.ConnectionId.{ConnectionId as I
 ghost use Rattle.plan_model.specs.Order.{IsScanOrder};
 ghost use Rattle.decision_graph.specs.Planned.{IsPlanned};
 ghost use Rattle.decision_graph.specs.Expanded.{IsExpanded};
-ghost use Rattle.run_laws.specs.Wholes.{IsTold, IsOneStrategy};
+ghost use Rattle.run_laws.specs.Wholes.{HasEveryRow, IsOneStrategy};
 
 /// A tidy graph by place follows from its tree, if that is safe: two that unfold to one are the same.
 pub fn one_tidy_graph()
@@ -26,7 +26,7 @@ pub fn one_tidy_graph()
 /// the same.
 pub fn one_whole_graph()
     ensures { (n : NetworkModel) (q : QueryParts) (a b : GraphByRide)
-        → IsTold n q a → IsTold n q b → unfold_expanded a n q ≡ unfold_expanded b n q → a ≡ b }
+        → HasEveryRow n q a → HasEveryRow n q b → unfold_expanded a n q ≡ unfold_expanded b n q → a ≡ b }
 {}
 
 /// A network has one scan order.

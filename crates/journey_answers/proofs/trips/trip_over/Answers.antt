@@ -20,7 +20,7 @@ returns-in-Err c =
     subst (λ (delays : List ℕ). IsAnswer (Err fault) (trip_by p c.args.read.head c.args.read.graph delays)) (c.as_slice.ensures.value ∙ c.in_ok-delays.ensures) c.in-Err.ensures.walk in
     let named : replay_as fault ≡ c.fault_of.result = sym c.fault_of.ensures in
     record {
-      told = tt;
+      answer = tt;
       fault = subst (λ (f : Fault). f ≢ NoMemory → IsTripFault p late f c.args.read.head c.args.read.graph) named (trip_fault p c.args.read.head c.args.read.graph late fault is c.in-Err.ensures.safe);
       tellable = subst (IsTellable (Some (parts_of p))) named
           (stuck_tellable p c.args.read.head.query c.args.read.source_in c.args.read.start fault c.in-Err.ensures.stuck);

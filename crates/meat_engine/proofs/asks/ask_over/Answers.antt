@@ -34,9 +34,9 @@ returns-in-Certify g c =
 
 pub returns-in-CheckProof : goal.returns-in-CheckProof
 returns-in-CheckProof g c =
-    let e = c.check_proof_over.ensures in
-    let h = answered-asked (g.F.Files.state c.args.files.now).files c.args.limits.now c.args.start.moment.0 c.args.problem.now c.check_proof_over.result c.in-CheckProof.is e.answer e.fault in
-    record { answer = h.answer; fault = h.fault; tellable = e.tellable; causes = causes-asked c.check_proof_over.result c.in-CheckProof.is e.causes }
+    let e = c.check_certificate_over.ensures in
+    let h = answered-asked (g.F.Files.state c.args.files.now).files c.args.limits.now c.args.start.moment.0 c.args.problem.now c.check_certificate_over.result c.in-CheckProof.is e.answer e.fault in
+    record { answer = h.answer; fault = h.fault; tellable = e.tellable; causes = causes-asked c.check_certificate_over.result c.in-CheckProof.is e.causes }
 
 pub returns-in-CheckGraph : goal.returns-in-CheckGraph
 returns-in-CheckGraph g c =
