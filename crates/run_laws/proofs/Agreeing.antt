@@ -39,7 +39,7 @@ use Rattle.meat_engine.specs.Received.{AnswersJob, Outcome}
 use Rattle.meat_engine.specs.RunPromises.{WritesLine}
 use Rattle.meat_engine.proofs.Undisturbed.{fails as job_fails}
 use Rattle.journey_model.specs.Sites.{NamedParts}
-use Rattle.run_laws.specs.OneRun.{EndsWell, IsCalmRun}
+use Rattle.run_laws.specs.OneRun.{KnownRun, EndsWell, IsCalmRun}
 use Rattle.run_laws.specs.Pairs.{RunModel, IsRunWithin, IsUntroubled, AskBoth, IsKept, OrStatus9, EndAlike, PlanIsAccepted, PlanIsReplayed, CertificateIsAccepted, LeaveAlike, LeaveByWorst, CertificateIsWithin, ShareStrategy, PromiseIsSure, WorstIsKept, LaterIsNoWorse, LatestIsOfLastRow, FaultIsFirst, Agree}
 use Rattle.decision_graph.proofs.Deadlines.{worst_kept, no_worse}
 use Rattle.departure_table.proofs.Latest.{of_last_row}
@@ -113,9 +113,9 @@ as_text (Err (reader.OtherQuery line)) f is = cc
 as_text (Err reader.NoMemory) f is = absurd (cc)
 
 module _ (limits : Limits) (files : FileMap) (old said : List ℕ) (r : RunModel) (run : IsRunWithin limits r) (calm : IsUntroubled files old said r) where
-  -- the run of which nothing failed, by its states
-  calm_run : r.report.fault ≢ Some fault.NoMemory → IsCalmRun files limits r.words r.report old said r.after.out.written r.after.err.written
-  calm_run memory = record {
+  -- the run, by its states
+  known_run : KnownRun files limits r.words r.report old r.after.out.written
+  known_run = record {
     before = r.before.files;
     after = r.after.files;
     out = r.before.out;
@@ -126,6 +126,12 @@ module _ (limits : Limits) (files : FileMap) (old said : List ℕ) (r : RunModel
     tells = calm.tells;
     had = calm.had;
     has = refl;
+  }
+
+  -- and that nothing failed in it
+  calm_run : r.report.fault ≢ Some fault.NoMemory → IsCalmRun files limits r.words r.report old said r.after.out.written r.after.err.written
+  calm_run memory = record {
+    known = known_run;
     had_said = calm.had_said;
     has_said = refl;
     files_calm = calm.files_calm;
@@ -145,19 +151,7 @@ module _ (limits : Limits) (files : FileMap) (old said : List ℕ) (r : RunModel
 
     answered : r.report.fault ≡ None → Answered
     answered none =
-        let ends : EndsWell files limits r.words r.report old r.after.out.written = record {
-          before = r.before.files;
-          after = r.after.files;
-          out = r.before.out;
-          out_after = r.after.out;
-          err = r.before.err;
-          err_after = r.after.err;
-          run = run;
-          tells = calm.tells;
-          had = calm.had;
-          has = refl;
-          no_fault = none;
-        } in
+        let ends : EndsWell files limits r.words r.report old r.after.out.written = record { known = known_run; no_fault = none } in
         let (text, (wanted, is, answers), written) = answer_of files limits r.words r.report old r.after.out.written ends in
         let (p, has, there, told) = subst (λ (w : JobModel). AnswersJob (Some files) limits w (findings_of r.report) text) (same_job r.words j a wanted is asks) answers in
         record { text = text; written = written; p = p; is_problem = there; answers = told }

@@ -29,7 +29,7 @@ use Rattle.run_laws.proofs.Departures.{one_departures_answer}
 use Rattle.run_laws.proofs.Texts.{one_safe_answer, one_plan_answer, one_expanded_answer}
 use Rattle.run_laws.proofs.Punctuals.{one_punctual_answer}
 use Rattle.run_laws.proofs.Files.{one_trip_answer, one_score_answer, one_latest_answer}
-use Rattle.run_laws.specs.OneRun.{EndsWell, HasOneRun}
+use Rattle.run_laws.specs.OneRun.{KnownRun, EndsWell, HasOneRun}
 
 module _ (found others : Findings) (text other : List ℕ) where
   abbrev One : Type 0
@@ -81,16 +81,22 @@ one_written old text other None now same first second = absurd first
 one_written old text other (Some new) None same first second = absurd second
 one_written old text other (Some new) (Some now) same first second = ap (λ (xs : List ℕ). Some xs) (first ∙ ap (λ (xs : List ℕ). old ++ xs) same ∙ sym second)
 
+-- what a run comes to, by what the files hold and the sink received
+pub outcome_of : (files : FileMap) (limits : Limits) (words : List (List ℕ)) (report : Report) (old : List ℕ) (new : Option (List ℕ)) (run : KnownRun files limits words report old new)
+    → Outcome (Some files) limits words report (Some old) new (WritesLine run.err run.err_after) report.fault
+outcome_of files limits words report old new run =
+    let by : Option FileMap → Option (List ℕ) → Option (List ℕ) → Type 0 = λ contents had has.
+    Outcome contents limits words report had has (WritesLine run.err run.err_after) report.fault in
+    let over = subst (λ (c : Option FileMap). by c run.out.written run.out_after.written) run.tells run.run.outcome in
+    let from = subst (λ (w : Option (List ℕ)). by (Some files) w run.out_after.written) run.had over in
+    subst (λ (w : Option (List ℕ)). by (Some files) (Some old) w) run.has from
+
 -- the answer of a run that ends well
 pub answer_of : (files : FileMap) (limits : Limits) (words : List (List ℕ)) (report : Report) (old : List ℕ) (new : Option (List ℕ)) → EndsWell files limits words report old new
     → HasAnswer (Some files) limits words report (Appends (Some old) new)
 answer_of files limits words report old new ends =
-    let by : Option FileMap → Option (List ℕ) → Option (List ℕ) → Option Fault → Type 0 = λ contents had has fault.
-    Outcome contents limits words report had has (WritesLine ends.err ends.err_after) fault in
-    let over = subst (λ (c : Option FileMap). by c ends.out.written ends.out_after.written report.fault) ends.tells ends.run.outcome in
-    let from = subst (λ (w : Option (List ℕ)). by (Some files) w ends.out_after.written report.fault) ends.had over in
-    let to = subst (λ (w : Option (List ℕ)). by (Some files) (Some old) w report.fault) ends.has from in
-    subst (λ (f : Option Fault). by (Some files) (Some old) new f) ends.no_fault to
+    subst (λ (f : Option Fault). Outcome (Some files) limits words report (Some old) new (WritesLine ends.known.err ends.known.err_after) f) ends.no_fault
+    (outcome_of files limits words report old new ends.known)
 
 pub one_run : HasOneProblem → HasOneRun
 one_run one_problem files limits words report second old new now ends other =

@@ -26,7 +26,7 @@ use Rattle.meat_engine.specs.RunPromises.{WritesLine}
 use Rattle.meat_engine.specs.Samples.{sample_journey, sample_alpha}
 use Rattle.meat_engine.proofs.Outcomes.{refused_ending}
 use Rattle.run_laws.specs.OneRun.{IsCalmRun, IsOneEnd, HasOneEnd}
-use Rattle.run_laws.proofs.Asks.{one_words, one_written}
+use Rattle.run_laws.proofs.Asks.{one_words, one_written, outcome_of}
 use Rattle.run_laws.proofs.AskFaults.{one_ask_fault, answered_or_not}
 use Rattle.run_laws.proofs.FirstFaults.{NotRead, one_first_fault}
 use Rattle.run_laws.proofs.Queries.{not_none}
@@ -158,33 +158,28 @@ module _ (limits : Limits) (files : FileMap) where
 
     module _ (report : Report) (new line : Option (List ℕ)) (run : IsCalmRun files limits words report old said new line) where
       abbrev Tells : List ℕ → Type 0
-      Tells = WritesLine run.err run.err_after
+      Tells = WritesLine run.known.err run.known.err_after
 
-      -- what it comes to, by what the files hold and the sinks received
       outcome : (fault : Option Fault) → report.fault ≡ fault → Outcome (Some files) limits words report (Some old) new Tells fault
       outcome fault is =
-          let by : Option FileMap → Option (List ℕ) → Option (List ℕ) → Option Fault → Type 0 = λ contents had has f. Outcome contents limits words report had has Tells f in
-          let told = subst (λ (c : Option FileMap). by c run.out.written run.out_after.written report.fault) run.tells run.run.outcome in
-          let from = subst (λ (w : Option (List ℕ)). by (Some files) w run.out_after.written report.fault) run.had told in
-          let to = subst (λ (w : Option (List ℕ)). by (Some files) (Some old) w report.fault) run.has from in
-          subst (λ (f : Option Fault). by (Some files) (Some old) new f) is to
+          subst (λ (f : Option Fault). Outcome (Some files) limits words report (Some old) new Tells f) is (outcome_of files limits words report old new run.known)
 
       keeps_err : report.fault ≡ None → Keeps (Some said) line
       keeps_err none =
-          subst (λ (w : Option (List ℕ)). Keeps (Some said) w) run.has_said (subst (λ (w : Option (List ℕ)). Keeps w run.err_after.written) run.had_said (run.run.quiet none))
+          subst (λ (w : Option (List ℕ)). Keeps (Some said) w) run.has_said (subst (λ (w : Option (List ℕ)). Keeps w run.known.err_after.written) run.had_said (run.known.run.quiet none))
 
       tells_err : (text : List ℕ) → Tells text → Appends (Some said) line text
       tells_err text tells =
-          subst (λ (w : Option (List ℕ)). Appends (Some said) w text) run.has_said (subst (λ (w : Option (List ℕ)). Appends w run.err_after.written text) run.had_said (tells.1 run.err_calm))
+          subst (λ (w : Option (List ℕ)). Appends (Some said) w text) run.has_said (subst (λ (w : Option (List ℕ)). Appends w run.known.err_after.written text) run.had_said (tells.1 run.err_calm))
 
       calm_fault : (fault : Fault) → report.fault ≡ Some fault → IsCalm fault
       calm_fault fault is = record {
-        read = λ i read. run.files_calm (run.run.read i (is ∙ ap (λ (f : Fault). Some f) read));
+        read = λ i read. run.files_calm (run.known.run.read i (is ∙ ap (λ (f : Fault). Some f) read));
         memory = λ none. run.memory (is ∙ ap (λ (f : Fault). Some f) none);
       }
 
       not_write : (fault : Fault) → report.fault ≡ Some fault → fault ≢ Write
-      not_write fault is write = run.out_calm (run.run.write (is ∙ ap (λ (f : Fault). Some f) write))
+      not_write fault is write = run.out_calm (run.known.run.write (is ∙ ap (λ (f : Fault). Some f) write))
 
       settled : (fault : Option Fault) → report.fault ≡ fault → Answers report new line ⊎ Refuses report new line
       settled None is =
@@ -219,7 +214,7 @@ one_end by files limits words report second old said new now line other run also
         let one = one_words (findings_of report) (findings_of second) a.text b.text by files limits words a.answers b.answers in
         record {
           fault = a.none ∙ sym b.none;
-          status = run.run.status ∙ ap status_of (a.none ∙ sym b.none) ∙ sym also.run.status;
+          status = run.known.run.status ∙ ap status_of (a.none ∙ sym b.none) ∙ sym also.known.run.status;
           findings = one.found;
           out = one_written old a.text b.text new now one.text_is a.out b.out;
           err = one_kept said line other a.err b.err;
@@ -231,7 +226,7 @@ one_end by files limits words report second old said new now line other run also
         let same : report.fault ≡ second.fault = a.some ∙ ap (λ (f : Fault). Some f) one.same ∙ sym b.some in
         record {
           fault = same;
-          status = run.run.status ∙ ap status_of same ∙ sym also.run.status;
+          status = run.known.run.status ∙ ap status_of same ∙ sym also.known.run.status;
           findings = a.findings ∙ sym b.findings;
           out = one_kept old new now a.out b.out;
           err = one_written said (line_of a.known a.fault) (line_of b.known b.fault) line other one.line a.err b.err;

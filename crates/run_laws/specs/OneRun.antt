@@ -8,8 +8,8 @@ use Rattle.journey_report.specs.declared.report.Report.{Report}
 use Rattle.journey_report.specs.Findings.{findings_of}
 use Rattle.meat_engine.specs.RunPromises.{IsRun, SinkState}
 
--- a run of the words, over files with these bytes, ends without a fault; its sink had received the old bytes and then has the new ones
-pub record EndsWell (files : FileMap) (limits : Limits) (words : List (List ℕ)) (report : Report) (old : List ℕ) (new : Option (List ℕ)) : Type 0 where
+-- a run of the words, over files with these bytes; its sink for answers had received the old bytes and then has the new ones
+pub record KnownRun (files : FileMap) (limits : Limits) (words : List (List ℕ)) (report : Report) (old : List ℕ) (new : Option (List ℕ)) : Type 0 where
   pub before : FilesState
   pub after : FilesState
   pub out : SinkState
@@ -20,26 +20,21 @@ pub record EndsWell (files : FileMap) (limits : Limits) (words : List (List ℕ)
   pub tells : before.files ≡ Some files
   pub had : out.written ≡ Some old
   pub has : out_after.written ≡ new
+
+-- such a run that ends without a fault
+pub record EndsWell (files : FileMap) (limits : Limits) (words : List (List ℕ)) (report : Report) (old : List ℕ) (new : Option (List ℕ)) : Type 0 where
+  pub known : KnownRun files limits words report old new
   pub no_fault : report.fault ≡ None
 
--- a run of the words, over files with these bytes, with sinks that had received the first and then have received the last; no file
--- failed to be read, no sink failed, and there was memory enough
+-- such a run whose sink for faults had received the one and then has the other; no file failed to be read, no sink failed, and
+-- there was memory enough
 pub record IsCalmRun (files : FileMap) (limits : Limits) (words : List (List ℕ)) (report : Report) (old said : List ℕ) (new line : Option (List ℕ)) : Type 0 where
-  pub before : FilesState
-  pub after : FilesState
-  pub out : SinkState
-  pub out_after : SinkState
-  pub err : SinkState
-  pub err_after : SinkState
-  pub run : IsRun limits words report before after out out_after err err_after
-  pub tells : before.files ≡ Some files
-  pub had : out.written ≡ Some old
-  pub has : out_after.written ≡ new
-  pub had_said : err.written ≡ Some said
-  pub has_said : err_after.written ≡ line
-  pub files_calm : ¬ Rose before.faults after.faults
-  pub out_calm : ¬ Rose out.faults out_after.faults
-  pub err_calm : ¬ Rose err.faults err_after.faults
+  pub known : KnownRun files limits words report old new
+  pub had_said : known.err.written ≡ Some said
+  pub has_said : known.err_after.written ≡ line
+  pub files_calm : ¬ Rose known.before.faults known.after.faults
+  pub out_calm : ¬ Rose known.out.faults known.out_after.faults
+  pub err_calm : ¬ Rose known.err.faults known.err_after.faults
   pub memory : report.fault ≢ Some NoMemory
 
 -- they end with one status, one fault and one report, and both sinks have then received the same
