@@ -8,13 +8,14 @@ use Rattle.plan_model.specs.NetworkModel.{NetworkModel}
 use Rattle.plan_model.specs.Network.{IsValid}
 use Rattle.plan_model.specs.Tree.{Tree, Done, Ride, Stuck}
 use Rattle.plan_model.specs.Strategy.{IsSafeFromStart}
+use Rattle.decision_graph.specs.Expanded.{IsNoneSafe}
 use Rattle.departure_table.specs.declared.DepartureRow.{DepartureRow}
 use Rattle.departure_table.specs.Departures.{IsNoneSafeFrom, SafeFrom, IsBestFrom, IsDepartureRow, IsGreatestMoment, IsTable, first_row_by}
 use Rattle.journey_model.specs.Sites.{last_printable}
 use Rattle.journey_model.specs.declared.problem.Problem.{Problem}
 use Rattle.plan_model.specs.declared.model.Query.{Query}
 use Rattle.journey_answers.specs.ByRules.{AreByRules}
-use Rattle.journey_answers.specs.Departures.{SafeOf, AreDepartures, HasSafeFor, HasNoneFor}
+use Rattle.journey_answers.specs.Departures.{SafeOf, AreDepartures, HasSafeFor}
 
 module _ (n : NetworkModel) (source target deadline : ℕ) where
   -- whoever is at the target has arrived
@@ -51,7 +52,7 @@ module _ (p : Problem) (q : Query) where
       leaves_early p.timetable.network q.source.0 q.target.0 q.deadline.0 p.timetable.valid small is.1.0 moment.0 is.1.1
 
   -- where no departure is found nothing is safe
-  pub none_leaves : (last : ℕ) (rows : List DepartureRow) → q.start.0 ≤ last → IsTable p.timetable.network (SafeOf p q) q.start.0 last rows → length rows ≡ 0 → HasNoneFor p q
+  pub none_leaves : (last : ℕ) (rows : List DepartureRow) → q.start.0 ≤ last → IsTable p.timetable.network (SafeOf p q) q.start.0 last rows → length rows ≡ 0 → IsNoneSafe p.timetable.network q
   none_leaves last [] early is none = is.answers q.start.0 (omega arith) early
   none_leaves last (row ∷ rows) early is none = absurd (omega (arith, none))
 

@@ -4,6 +4,7 @@ use Rattle.plan_model.specs.declared.model.Moment.{Moment}
 use Rattle.plan_model.specs.declared.model.Query.{Query}
 use Rattle.plan_model.specs.Tree.{Tree}
 use Rattle.plan_model.specs.Strategy.{IsSafeFor}
+use Rattle.decision_graph.specs.Expanded.{IsNoneSafe}
 use Rattle.departure_table.specs.declared.DepartureRow.{DepartureRow}
 use Rattle.departure_table.specs.Departures.{SafeFrom, IsTable, IsGreatestMoment}
 use Rattle.journey_answers.specs.ByRules.{AreByRules}
@@ -26,10 +27,6 @@ SafeOf p query = SafeFrom p.timetable.network query.source.0 query
 abbrev pub HasSafeFor : Problem → Query → Type 0
 HasSafeFor p query = (tree : Tree) × IsSafeFor p.timetable.network query tree
 
--- none is
-abbrev pub HasNoneFor : Problem → Query → Type 0
-HasNoneFor p query = (tree : Tree) → IsSafeFor p.timetable.network query tree → ⊥
-
 -- the departures from the start of the query to a last moment, as the rules of the scan give them; none where source and target are one place
 pub record AreDepartures (p : Problem) (query : Query) (last : ℕ) (rows : List DepartureRow) : Type 0 where
   pub at_once : query.source.0 ≡ query.target.0 → rows ≡ []
@@ -50,7 +47,7 @@ TellsLatest p query found text =
 
 -- why there are no departures: no tree is safe from the first moment
 abbrev pub FailsDepartures : Problem → Query → Fault → Type 0
-FailsDepartures p query fault = (fault ≡ NoSafe) × HasNoneFor p query
+FailsDepartures p query fault = (fault ≡ NoSafe) × IsNoneSafe p.timetable.network query
 
 -- why there is no latest moment: no tree is safe from any moment on
 abbrev pub FailsLatest : Problem → Query → Fault → Type 0

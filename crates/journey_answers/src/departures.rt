@@ -1,6 +1,7 @@
 //! The departures of a journey, and the latest moment at which one can leave.
 ghost use Rattle.std.specs.Prelude.{◌≡◌, ◌≢◌, ◌<◌, ◌≤◌, length, Some, IfOk, IfErr, MatchOption};
 ghost use Rattle.command_line.specs.Ranges.{IsLater};
+ghost use Rattle.decision_graph.specs.Expanded.{IsNoneSafe};
 ghost use Rattle.departure_table.specs.Departures.{IsExtendedFor, IsGreatestMoment, IsTable};
 ghost use Rattle.meat_scan.specs.Solves.{Solves};
 ghost use Rattle.value_laws.specs.Means.{mean_scoring};
@@ -8,7 +9,7 @@ ghost use Rattle.command_line.specs.Values.{last_until};
 ghost use Rattle.journey_model.specs.Wants.{OrNoMemory};
 ghost use Rattle.plan_model.specs.View.{extended as with_added};
 ghost use Rattle.journey_answers.specs.ByRules.{IsRuled, AreByRules, added_query};
-ghost use Rattle.journey_answers.specs.Departures.{query_until, SafeOf, AreDepartures, HasSafeFor, HasNoneFor, IsUntil, TellsDepartures, TellsLatest, FailsDepartures, FailsLatest};
+ghost use Rattle.journey_answers.specs.Departures.{query_until, SafeOf, AreDepartures, HasSafeFor, IsUntil, TellsDepartures, TellsLatest, FailsDepartures, FailsLatest};
 ghost use Rattle.journey_report.specs.Findings.{findings_of};
 
 use departure_table::{DepartureRow, extended, greatest, says_of_source, table};
@@ -127,7 +128,7 @@ fn departures_of(
 ) -> Result<Option<List<DepartureRow>>, NoMemory>
     requires { asked.now.query.start.0 ≤ last.0 }
     ensures { IfOk result (λ found. MatchOption found
-        (HasNoneFor asked.now.problem.now asked.now.query)
+        (IsNoneSafe asked.now.problem.now.timetable.network asked.now.query)
         (λ rows. AreDepartures asked.now.problem.now asked.now.query last.0 rows
         × HasSafeFor asked.now.problem.now asked.now.query)) }
 {
