@@ -12,9 +12,9 @@ loop-departure-init c =
     let rows = c.args.departures.now in
     ap (λ (head : List ℕ). head ++ rows_text c.args.timetable.now.network names rows)
     (c.in_ok-text.ensures
-    ∙ ap (λ (asked : Query). departures_head c.new.result.source.now c.new.result.target.now asked c.args.last.0 (length rows)) c.new.ensures.query
-    ∙ ap (λ (name : List ℕ). departures_head name c.new.result.target.now q c.args.last.0 (length rows)) c.new.ensures.source
-    ∙ ap (λ (name : List ℕ). departures_head (place_name names q.source.0) name q c.args.last.0 (length rows)) c.new.ensures.target)
+    ∙ ap (λ (asked : Query). departures_head c.new-named.result.source.now c.new-named.result.target.now asked c.args.last.0 (length rows)) c.new-named.ensures.query
+    ∙ ap (λ (name : List ℕ). departures_head name c.new-named.result.target.now q c.args.last.0 (length rows)) c.new-named.ensures.source
+    ∙ ap (λ (name : List ℕ). departures_head (place_name names q.source.0) name q c.args.last.0 (length rows)) c.new-named.ensures.target)
 
 pub loop-departure-preserved : goal.loop-departure-preserved
 loop-departure-preserved c =
