@@ -75,7 +75,7 @@ unfolding value_in
 lacking [] option none = All-nil _
 lacking (s ∷ given) option none = lacking_at s given option (bytes_eq (option_name s.option) (option_name option)) refl none (lacking given option)
 
--- the words of settings in which no option stands twice
+-- the words of settings in which no option comes twice
 pub settings_hold : (given : List Setting) → AllPairs (λ a b. a.option ≢ b.option) given →
     IsTrue (are_settings (flat_map spelled given)) × ((option : OptionName) → value_of (flat_map spelled given) option ≡ value_in given option)
 unfolding are_settings value_of value_in

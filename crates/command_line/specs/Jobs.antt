@@ -11,7 +11,7 @@ use Rattle.command_line.specs.Settings.{value_of, text_of, are_settings}
 use Rattle.command_line.specs.Uses.{is_useless, is_missing}
 use Rattle.command_line.specs.Values.{default_alpha, default_horizon, least_size, start_of, promise_at, later_at, alpha_at, horizon_at, size_at, late_at, is_bad}
 
--- where the connections come from: a cut file, or the folder of a feed, of which so many hours are looked at
+-- where the connections come from: a cut file, or the folder of a feed, with the hours of departures that are looked at
 pub data TimetableModel : Type 0 where
   CutFile : (path : List ℕ) → TimetableModel
   FeedFolder : (folder : List ℕ) (horizon : ℕ) → TimetableModel
@@ -50,7 +50,7 @@ pub data JobModel : Type 0 where
 abbrev pub promise_of : List (List ℕ) → ℕ
 promise_of settings = unwrap_or (promise_at settings) (start_of settings)
 
--- the moment that an option tells
+-- the moment of an option
 abbrev pub later_of : List (List ℕ) → OptionName → ℕ
 later_of settings option = unwrap_or (later_at settings option) (start_of settings)
 

@@ -1,4 +1,5 @@
 pub mod Options
+pub mod FaultTexts
 pub mod Settings
 pub mod Uses
 pub mod Values

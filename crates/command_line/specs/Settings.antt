@@ -14,7 +14,7 @@ pub record Setting : Type 0 where
 abbrev pub spelled : Setting → List (List ℕ)
 spelled s = option_name s.option ∷ s.value ∷ []
 
--- the words are a command and then settings, in which no option stands twice
+-- the words are a command and then settings, in which no option comes twice
 pub record IsLine (words : List (List ℕ)) (command : List ℕ) (given : List Setting) : Type 0 where
   pub words_are : words ≡ command ∷ flat_map spelled given
   pub once : AllPairs (λ a b. a.option ≢ b.option) given

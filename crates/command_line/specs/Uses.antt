@@ -1,4 +1,4 @@
--- What a command does with each option, and which options of a line it cannot take or lacks.
+-- What a command does with each option, and which options of a line it cannot take or are missing.
 use Rattle.std.specs.Prelude.{ℕ, List, Option, Some, None, Bool, true, false, not, ◌&&◌, nat_lt}
 use Rattle.command_line.specs.declared.options.Command.{Command}
 use Rattle.command_line.specs.declared.options.Command.TheVariants as command

@@ -76,7 +76,7 @@ start_of settings = unwrap_or (start_at (text_of settings At)) first_start
 abbrev pub promise_at : List (List ℕ) → Option ℕ
 promise_at settings = moment_of (start_of settings) (start_of settings + longest_promise) (text_of settings By)
 
--- the moment that an option tells, which is not before the journey of settings begins
+-- the moment of an option, which is not before the journey of settings begins
 abbrev pub later_at : List (List ℕ) → OptionName → Option ℕ
 later_at settings option = moment_of (start_of settings) last_until (text_of settings option)
 
@@ -96,7 +96,7 @@ horizon_at text = number_at least_horizon most_horizon text
 abbrev pub size_at : List ℕ → Option ℕ
 size_at text = number_at least_size most_size text
 
--- what stands between the commas of a text
+-- what is between the commas of a text
 abbrev pub pieces : List ℕ → List (List ℕ)
 pieces text = slice_split (λ byte. byte == 44) text
 
@@ -107,7 +107,7 @@ delay_at text = whole_of longest_delay text
 abbrev pub is_delay : List ℕ → Bool
 is_delay text = is_some (delay_at text)
 
--- the delay that a text tells, and 0 where it tells none
+-- the delay of a text, and 0 if it has none
 abbrev pub delay_in : List ℕ → ℕ
 delay_in text = unwrap_or (delay_at text) 0
 
@@ -115,7 +115,7 @@ delay_in text = unwrap_or (delay_at text) 0
 abbrev pub are_delays : List (List ℕ) → Bool
 are_delays texts = nat_le (length texts) most_delays && list_all is_delay texts
 
--- the delays that a text tells: none, or those joined by commas
+-- the delays of a text: none, or those joined by commas
 abbrev pub late_at : List ℕ → Option (List ℕ)
 late_at text =
     if bytes_eq text (codes "none") then Some []

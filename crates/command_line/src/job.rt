@@ -6,18 +6,19 @@ ghost use Rattle.command_line.specs.Settings.{value_of};
 ghost use Rattle.command_line.specs.Shown.{timetable_shown, journey_shown, ask_shown, wanted_job, answer_shown};
 ghost use Rattle.command_line.specs.Values.{start_of, number_at, last_until, longest_promise, least_alpha, most_alpha, least_horizon, most_horizon, least_size, most_size};
 
-use crate::options::{Command, OptionName};
+use crate::options::{Command, OptionName, option_word};
 use crate::refusals::{first_bad, first_missing, first_useless};
 use crate::settings::{are_settings, text_of, value_of};
 use crate::values::{
     ALPHA, HORIZON, NumberRange, SIZE, read_later, read_number, read_promise, start_of,
 };
 use plan_model::Moment;
+use std::fmt;
 
-/// The percentage of a deadline where none is given.
+/// The percentage of a deadline if none is given.
 const DEFAULT_ALPHA: u32 = 200;
 
-/// The hours of a window where none are given.
+/// The hours of a window if none are given.
 const DEFAULT_HORIZON: u32 = 24;
 
 /// Why words are refused, in the order in which the refusals are answered. Options go by number.
@@ -33,6 +34,32 @@ pub enum WordsFault {
     Missing(u8),
     /// The value of this option is not of its form.
     BadValue(u8),
+}
+
+impl fmt::Display for WordsFault {
+    ghost use Rattle.std.specs.Prelude.{Some};
+    ghost use Rattle.command_line.specs.FaultTexts.{words_fault_text};
+
+    ghost output = { λ fault. Some (words_fault_text fault) };
+
+    fn fmt<W: fmt::Write>(&self, f: &mut fmt::Formatter<W>) -> fmt::Result {
+        match *self {
+            WordsFault::Line => f.write_str("words refused"),
+            WordsFault::UnknownCommand => f.write_str("unknown command"),
+            WordsFault::NotUsed(option) => {
+                let word = option_word(option);
+                write!(f, "option {word} is not used here")
+            }
+            WordsFault::Missing(option) => {
+                let word = option_word(option);
+                write!(f, "missing option {word}")
+            }
+            WordsFault::BadValue(option) => {
+                let word = option_word(option);
+                write!(f, "bad value of {word}")
+            }
+        }
+    }
 }
 
 /// Where the connections come from.
@@ -80,7 +107,7 @@ pub enum Ask<'a> {
     CheckGraph { graph: &'a str },
     /// The decision graph with the least chance of an arrival after the promised moment.
     Punctual { alpha: u32, promise: Moment },
-    /// What each departure up to the last moment promises, where one has to arrive by the deadline.
+    /// What each departure up to the last moment promises, if one has to arrive by the deadline.
     Departures { until: Moment, last: Moment },
     /// The latest moment at which one can leave and be sure to arrive by the deadline.
     Latest { until: Moment },
@@ -95,7 +122,7 @@ pub enum Job<'a> {
     Sample(u32),
 }
 
-/// The number that an option tells, or another where it tells none.
+/// The number of an option, or another if it is not given.
 fn number_of(settings: &[String], option: OptionName, range: NumberRange, other: u32) -> u32
     ensures number { result ≡ unwrap_or (option_and_then (number_at range.least range.most)
         (value_of (map string_bytes settings.now) option)) other }
@@ -171,7 +198,7 @@ fn promise_of(settings: &[String]) -> Moment
     }
 }
 
-/// The moment that an option tells, which is not before the start.
+/// The moment of an option, which is not before the start.
 fn later_of(settings: &[String], option: OptionName) -> Moment
     ensures later { result.0 ≡ later_of (map string_bytes settings.now) option }
     ensures in_range { (start_of (map string_bytes settings.now) ≤ result.0) × (result.0 ≤ last_until) }
@@ -243,7 +270,8 @@ fn job_of(command: Command, settings: &[String]) -> Job<'_>
     }
 }
 
-/// What the words ask for, or the first reason why they are refused.
+/// What the words ask for; or the first reason in the order of `WordsFault` why they are refused, and of one kind the option
+/// with the least number.
 pub fn read_job(words: &[String]) -> Result<Job<'_>, WordsFault>
     ensures job { answer_shown result ≡ job_of (map string_bytes words.now) }
     ensures in_range { IfOk result (λ job. IsJob (wanted_job job)) }

@@ -1,4 +1,7 @@
 //! The words of the command line: a command, and then pairs of an option and its value.
+//!
+//! A call that takes an allocator may answer that there is no memory, as `NoMemory` or as the variant of that name; then
+//! what it was lent is as it was, unless its own comment says otherwise.
 #![tactic(auto)]
 
 mod job;

@@ -6,7 +6,7 @@ ghost use Rattle.command_line.specs.Uses.{own_of, use_of, on_journey, on_made};
 /// What the program can be asked for.
 #[derive(Clone, Copy, Debug, PartialEq, Eq)]
 pub enum Command {
-    /// To tell the least worst arrival of a journey and its deadline.
+    /// To print the least worst arrival of a journey and its deadline.
     Safe,
     /// To make the decision graph of a journey, ride by ride.
     Expand,
@@ -16,13 +16,13 @@ pub enum Command {
     Replay,
     /// To make a certificate: lower bounds on the expected arrival of every safe strategy.
     Certify,
-    /// To check a certificate, or to tell the bounds of a decision graph.
+    /// To check a certificate, or to print the bounds of a decision graph.
     Check,
     /// To make the decision graph with the least chance of an arrival after a promised moment.
     Punctual,
-    /// To tell what each departure of a stretch of time promises.
+    /// To print what each departure of a stretch of time promises.
     Departures,
-    /// To tell how late one can leave.
+    /// To print how late one can leave.
     Latest,
     /// To plan a journey over a timetable that is made by rule.
     Sample,
@@ -101,12 +101,12 @@ pub(crate) const OPTIONS: [OptionName; 15] = [
 pub enum Use {
     /// It cannot do without it.
     Needed,
-    /// It takes it where it is given.
+    /// It takes it if it is given.
     Optional,
     /// It has no use for it.
     Unused,
     /// It needs one of this option and the other. Where both are given it has no use for the one with the
-    /// lesser number, and where neither is it asks for the one with the greater.
+    /// lesser number, and if neither is it asks for the one with the greater.
     OneOf(OptionName),
     /// It takes it beside the other option, and has no use for it without.
     With(OptionName),
@@ -279,7 +279,7 @@ impl OptionName {
         }
     }
 
-    /// The number of an option, from 1 on.
+    /// The number of the option, from 1 on. Refusals that name an option name the one with the least number.
     pub fn number(self) -> u8
         ensures { result ≡ option_number self }
     {
@@ -320,7 +320,7 @@ fn option_numbered(number: u8) -> Option<OptionName>
         .find(|option| option.number() == number)
 }
 
-/// The word of the option of this number, and nothing where none has it.
+/// The word of the option with this number; the empty text if no option has it.
 pub fn option_word(number: u8) -> &'static str
     ensures { result.now ≡ option_word number }
 {

@@ -25,7 +25,7 @@ pub(crate) fn is_given(settings: &[String], option: OptionName) -> bool
     value_of(settings, option).is_some()
 }
 
-/// The value of an option, and nothing where it has none.
+/// The value of an option; `None` if it is not given.
 pub(crate) fn text_of(settings: &[String], option: OptionName) -> &str
     ensures { result.now ≡ text_of (map string_bytes settings.now) option }
 {
@@ -35,7 +35,7 @@ pub(crate) fn text_of(settings: &[String], option: OptionName) -> &str
     }
 }
 
-/// Whether words are pairs of an option and a value, in which no option stands twice.
+/// Whether words are pairs of an option and a value, in which no option comes twice.
 pub(crate) fn are_settings(settings: &[String]) -> bool
     ensures { result ≡ are_settings (map string_bytes settings.now) }
 {
@@ -48,8 +48,8 @@ pub(crate) fn are_settings(settings: &[String]) -> bool
     }
 }
 
-/// Words are read as the one line that they are: a command and settings, in which no option stands
-/// twice; and the value of an option is that of its setting.
+/// A law, with no code: words are accepted exactly if they are a command followed by pairs of an option and a value, no
+/// option twice; and the value of an option is the one in its pair.
 pub fn line_is_a_command_and_its_settings()
     ensures accepted { (words : List (List ℕ)) (command : List ℕ) (given : List Setting) →
         IsLine words command given → (rest : List (List ℕ)) → words ≡ command ∷ rest →

@@ -7,7 +7,7 @@ ghost use Rattle.command_line.specs.Jobs.{late_in};
 use crate::options::OptionName;
 use crate::settings::text_of;
 use clock_text::{read_moment, read_whole};
-use plan_model::Moment;
+use plan_model::{Moment, SECONDS_PER_DAY};
 use std::alloc::{AllocError, Global};
 
 /// The first moment at which a journey may begin: 1970-01-08T00:00:00.
@@ -45,12 +45,12 @@ pub(crate) const SIZE: NumberRange = NumberRange {
 };
 
 /// The longest delay, in seconds: a day.
-const LONGEST_DELAY: u32 = 86_400;
+const LONGEST_DELAY: u32 = SECONDS_PER_DAY;
 
 /// How many delays are taken at most.
 const MOST_DELAYS: usize = 4_096;
 
-/// The moment that a text tells, if it is of this range.
+/// The moment of a text, if it is of this range.
 fn read_moment_of(text: &[u8], first: u64, last: u64) -> Option<Moment>
     ensures moment { option_map (λ moment. moment.0) result ≡ moment_of first last text.now }
     ensures in_range { IfSome result (λ moment. (first ≤ moment.0) × (moment.0 ≤ last)) }
@@ -89,7 +89,7 @@ pub(crate) fn read_promise(settings: &[String]) -> Option<Moment>
     read_moment_of(text.as_bytes(), start.0, start.0 + LONGEST_PROMISE)
 }
 
-/// The moment that an option tells, if it is of its form: from the start of the journey on.
+/// The moment of an option, if it is of its form: from the start of the journey on.
 pub(crate) fn read_later(settings: &[String], option: OptionName) -> Option<Moment>
     ensures later { option_map (λ moment. moment.0) result ≡ later_at (map string_bytes settings.now) option }
     ensures in_range { IfSome result (λ moment. (start_of (map string_bytes settings.now) ≤ moment.0)
@@ -123,7 +123,7 @@ fn is_delay(text: &str) -> bool
     read_whole(text.as_bytes(), LONGEST_DELAY).is_some()
 }
 
-/// The delay that a text tells, and 0 where it tells none.
+/// The delay of a text, and 0 if it has none.
 fn delay_in(text: &str) -> u32
     ensures { result ≡ delay_in text.now }
 {
@@ -140,7 +140,7 @@ fn are_delays(text: &str) -> bool
     text.split(',').count() <= MOST_DELAYS && text.split(',').all(|piece| is_delay(piece))
 }
 
-/// Whether a text tells which delays were met.
+/// Whether a text says which delays were met.
 fn is_late(text: &str) -> bool
     ensures { result ≡ is_some (late_at text.now) }
 {
