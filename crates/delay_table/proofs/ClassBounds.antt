@@ -2,8 +2,8 @@
 use Rattle.std.proofs.Common.{◌≡◌, ℕ, ◌+◌, ◌<◌, ◌==◌, List, length, slice_index, Option, Some, None, IfSome, option_map, refl, arith, unwrap_or}
 use Rattle.std.specs.Option.{option_or}
 use Rattle.csv_rows.proofs.FirstLemmas.{place_by-some}
-use Rattle.delay_table.specs.DelayLists.{DelayLists, class_for, hour_class, hour_of, other_class, route_class, type_class, type_place}
-use Rattle.delay_table.specs.Groups.{Group, group_place}
+use Rattle.delay_table.specs.DelayLists.{DelayLists, class_for, hour_class, hour_of, other_class, route_class, type_class, type_index}
+use Rattle.delay_table.specs.Groups.{Group, group_index}
 use Rattle.delay_table.specs.Slots.{AreDelays}
 use Rattle.delay_table.proofs.GroupFacts.{group-here}
 
@@ -20,8 +20,8 @@ module _ (n : ℕ) where
   chosen None some h = some
   chosen (Some x) some h = h
 
-type-inside : (types : List ℕ) (route k : ℕ) → type_place types route ≡ Some k → k < length types
-unfolding type_place
+type-inside : (types : List ℕ) (route k : ℕ) → type_index types route ≡ Some k → k < length types
+unfolding type_index
 type-inside types route k h = (place_by-some (λ i. slice_index types i == route) (length types) k h).0
 
 shifted : (o : Option ℕ) (by n : ℕ) → ((k : ℕ) → o ≡ Some k → by + k < n) → IfSome (option_map (λ k. by + k) o) (λ k. k < n)
@@ -40,7 +40,7 @@ module _ (d : DelayLists) (s : AreDelays d) where
   some = omega (arith, s.each)
 
   other-inside : (group : Group) → Inside (other_class d group)
-  other-inside group = shifted (group_place group d.others) (length d.types + 1) (length d.classes) (λ k e. omega (arith, s.each, (group-here group d.others k e).0))
+  other-inside group = shifted (group_index group d.others) (length d.types + 1) (length d.classes) (λ k e. omega (arith, s.each, (group-here group d.others k e).0))
 
   route-inside : (route : Option (List ℕ)) (hour : Option ℕ) → Inside (route_class d route hour)
   route-inside None hour = tt
@@ -48,7 +48,7 @@ module _ (d : DelayLists) (s : AreDelays d) where
 
   type-class-inside : (class : Option ℕ) → Inside (type_class d class)
   type-class-inside None = some
-  type-class-inside (Some route) = raised (type_place d.types route) (length d.classes) (λ k e. omega (arith, s.each, type-inside d.types route k e))
+  type-class-inside (Some route) = raised (type_index d.types route) (length d.classes) (λ k e. omega (arith, s.each, type-inside d.types route k e))
 
   pub class_for-inside : (class : Option ℕ) (route : Option (List ℕ)) (arr : ℕ) → class_for d class route arr < length d.classes
   unfolding class_for

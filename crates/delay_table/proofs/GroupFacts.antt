@@ -7,7 +7,7 @@ use Rattle.std.proofs.lemmas.Slice.Eq.{bytes_eq-Decides}
 use Rattle.std.specs.Option.{option_or}
 use Rattle.csv_rows.specs.First.{first_below}
 use Rattle.csv_rows.proofs.FirstLemmas.{absent_by, first-same, first-suc, found_by, place_by-none, place_by-some}
-use Rattle.delay_table.specs.Groups.{Group, same_if, same_number, same_group, of_class, group_in, group_place}
+use Rattle.delay_table.specs.Groups.{Group, same_if, same_number, same_group, of_class, group_in, group_index}
 use Rattle.delay_table.specs.Read.{AreApart}
 
 pub same_if-equal : {A : Type 0} (same : A → A → Bool) → ((a b : A) → same a b ≡ true → a ≡ b) → (x y : Option A) → same_if same x y ≡ true → x ≡ y
@@ -47,29 +47,29 @@ same-false a b h = false_from_ne_true (same_group a b) (λ t. h (same-equal a b 
 pub false-same : (a b : Group) → same_group a b ≡ false → a ≡ b → ⊥
 false-same a b f e = let t = same-true a b e in absurd (cc)
 
--- what stands at the place of a group
-pub group-here : (group : Group) (groups : List Group) (k : ℕ) → group_place group groups ≡ Some k → (k < length groups) × (group_in groups k ≡ group)
-unfolding group_place
+-- what stands at the index of a group
+pub group-here : (group : Group) (groups : List Group) (k : ℕ) → group_index group groups ≡ Some k → (k < length groups) × (group_in groups k ≡ group)
+unfolding group_index
 group-here group groups k h =
     let w = place_by-some (λ k. same_group (group_in groups k) group) (length groups) k h in (w.0, same-equal (group_in groups k) group w.1)
 
--- a group that has no place stands nowhere
-pub nowhere : (group : Group) (groups : List Group) → group_place group groups ≡ None → (k : ℕ) → k < length groups → group_in groups k ≡ group → ⊥
-unfolding group_place
+-- a group that has no index stands nowhere
+pub nowhere : (group : Group) (groups : List Group) → group_index group groups ≡ None → (k : ℕ) → k < length groups → group_in groups k ≡ group → ⊥
+unfolding group_index
 nowhere group groups h k l = false-same (group_in groups k) group (place_by-none (λ k. same_group (group_in groups k) group) (length groups) h k l)
 
-pub none-place : (group : Group) (groups : List Group) → ((k : ℕ) → k < length groups → group_in groups k ≡ group → ⊥) → group_place group groups ≡ None
-unfolding group_place
-none-place group groups h = absent_by (λ k. same_group (group_in groups k) group) (length groups) (λ k l. same-false (group_in groups k) group (h k l))
+pub none-index : (group : Group) (groups : List Group) → ((k : ℕ) → k < length groups → group_in groups k ≡ group → ⊥) → group_index group groups ≡ None
+unfolding group_index
+none-index group groups h = absent_by (λ k. same_group (group_in groups k) group) (length groups) (λ k l. same-false (group_in groups k) group (h k l))
 
--- the first place at which it stands
-pub place-first : (group : Group) (groups : List Group) (k : ℕ) → k < length groups → group_in groups k ≡ group → ((j : ℕ) → j < k → group_in groups j ≡ group → ⊥) → group_place group groups ≡ Some k
-unfolding group_place
-place-first group groups k l e first =
+-- the first index at which it stands
+pub index-first : (group : Group) (groups : List Group) (k : ℕ) → k < length groups → group_in groups k ≡ group → ((j : ℕ) → j < k → group_in groups j ≡ group → ⊥) → group_index group groups ≡ Some k
+unfolding group_index
+index-first group groups k l e first =
     found_by (λ k. same_group (group_in groups k) group) (length groups) k l (same-true (group_in groups k) group e)
     (λ j less. same-false (group_in groups j) group (first j less))
 
--- groups that stand at two places differ
+-- groups that stand at two indexes differ
 pub apart-ne : (groups : List Group) → AreApart groups → (j k : ℕ) → j < length groups → k < length groups → (j ≡ k → ⊥) → group_in groups j ≡ group_in groups k → ⊥
 apart-ne groups apart j k inside within ne e = elim (cases_order j k) [
   | inl same ↦ ne same
@@ -77,15 +77,15 @@ apart-ne groups apart j k inside within ne e = elim (cases_order j k) [
   | inr (inr less) ↦ false-same (group_in groups k) (group_in groups j) (apart k j less inside) (sym e)
 ]
 
--- and each has its own place
-pub place-at : (groups : List Group) → AreApart groups → (k : ℕ) → k < length groups → group_place (group_in groups k) groups ≡ Some k
-place-at groups apart k l =
-    place-first (group_in groups k) groups k l refl (λ j less. false-same (group_in groups j) (group_in groups k) (apart j k less l))
+-- and each has its own index
+pub index-at : (groups : List Group) → AreApart groups → (k : ℕ) → k < length groups → group_index (group_in groups k) groups ≡ Some k
+index-at groups apart k l =
+    index-first (group_in groups k) groups k l refl (λ j less. false-same (group_in groups j) (group_in groups k) (apart j k less l))
 
 -- one more group
-pub place-push : (group : Group) (groups : List Group) (x : Group) → group_place group (groups ++ x ∷ []) ≡ option_or (group_place group groups)
+pub place-push : (group : Group) (groups : List Group) (x : Group) → group_index group (groups ++ x ∷ []) ≡ option_or (group_index group groups)
     (if same_group x group then Some (length groups) else None)
-unfolding group_place
+unfolding group_index
 place-push group groups x =
     let n = length groups in
     let size : length (groups ++ x ∷ []) ≡ n + 1 = length-append groups (x ∷ []) in
@@ -97,10 +97,10 @@ place-push group groups x =
     (y : Group). if same_group y group then Some k else None) (get_or_append_left groups (x ∷ []) (of_class None) k l)))
     (ap (λ (y : Group). if same_group y group then Some n else None) (get_or_push groups x (of_class None) n refl))
 
-pub push-none : (group : Group) (groups : List Group) (x : Group) → group_place group (groups ++ x ∷ []) ≡ None → (group_place group groups ≡ None) × (x ≡ group → ⊥)
+pub push-none : (group : Group) (groups : List Group) (x : Group) → group_index group (groups ++ x ∷ []) ≡ None → (group_index group groups ≡ None) × (x ≡ group → ⊥)
 push-none group groups x h =
     let n = length groups in
     let size : length (groups ++ x ∷ []) ≡ n + 1 = length-append groups (x ∷ []) in (
-      none-place group groups (λ k l e. nowhere group (groups ++ x ∷ []) h k (omega arith) (get_or_append_left groups (x ∷ []) (of_class None) k l ∙ e)),
+      none-index group groups (λ k l e. nowhere group (groups ++ x ∷ []) h k (omega arith) (get_or_append_left groups (x ∷ []) (of_class None) k l ∙ e)),
       λ e. nowhere group (groups ++ x ∷ []) h n (omega arith) (get_or_push groups x (of_class None) n refl ∙ e),
     )

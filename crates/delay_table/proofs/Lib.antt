@@ -2,7 +2,7 @@ pub mod LineFacts
 pub mod GroupFacts
 pub mod RouteFacts
 pub mod NumberedFacts
-pub mod PlaceFacts
+pub mod IndexFacts
 pub mod LineGroups
 pub mod ReadFacts
 pub mod Starts

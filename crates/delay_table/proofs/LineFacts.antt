@@ -60,15 +60,15 @@ pub formed_at : (t : List (List (List ℕ))) (i : ℕ) → IfSome (line_at t i) 
 unfolding line_at
 formed_at t i = line_formed (field t Class i) (field t Delay i) (field t Weight i) (field t RouteId i) (field t Hour i)
 
--- the row at a place, by its fields
+-- the row at a index, by its fields
 pub line_here : (t : List (List (List ℕ))) (i : ℕ) (a b c d e : List ℕ) → a ≡ field t Class i → b ≡ field t Delay i → c ≡ field t Weight i → d ≡ field t RouteId i → e ≡ field t Hour i
     → line_from a b c d e ≡ line_at t i
 unfolding line_at
 line_here t i a b c d e p q r s u = λ j. line_from (p j) (q j) (r j) (s j) (u j)
 
 -- a field under a column
-pub field_is : (t : List (List (List ℕ))) (i : ℕ) (a : List ℕ) (place own : Option ℕ) → a ≡ field_at t place i → place ≡ own → a ≡ field_at t own i
-field_is t i a place own e f = e ∙ ap (λ o. field_at t o i) f
+pub field_is : (t : List (List (List ℕ))) (i : ℕ) (a : List ℕ) (index own : Option ℕ) → a ≡ field_at t index i → index ≡ own → a ≡ field_at t own i
+field_is t i a index own e f = e ∙ ap (λ o. field_at t o i) f
 
 -- what holds of a value of another form
 pub of-mapped : {X Y : Type 0} (f : X → Y) (P : Y → Type 0) (o : Option X) (m : Option Y) → option_map f o ≡ m → IfSome m P → IfSome o (λ x. P (f x))

@@ -7,10 +7,10 @@ use Rattle.std.proofs.lemmas.List.Folds.{list_any_at}
 use Rattle.std.proofs.lemmas.List.Quantifiers.{position-Some}
 use Rattle.indexmap.specs.IndexSet.{insert_key}
 use Rattle.delay_table.specs.declared.groups.LineGroup.{LineGroup}
-use Rattle.delay_table.specs.Groups.{Group, same_if, same_number, same_group, of_class, group_in, group_place, with_group}
+use Rattle.delay_table.specs.Groups.{Group, same_if, same_number, same_group, of_class, group_in, group_index, with_group}
 use Rattle.delay_table.specs.Numbered.{line_group, same_line, same_text}
-use Rattle.delay_table.proofs.GroupFacts.{none-place, place-first, same-equal, same-true}
-use Rattle.delay_table.proofs.PlaceFacts.{any-position}
+use Rattle.delay_table.proofs.GroupFacts.{none-index, index-first, same-equal, same-true}
+use Rattle.delay_table.proofs.IndexFacts.{any-position}
 
 abbrev no_line : LineGroup
 no_line = record { class = None; route = None; hour = None }
@@ -53,39 +53,39 @@ module _ (key : LineGroup) (keys : List LineGroup) where
   forth : (k : ℕ) → k < length keys → same_line key (key_at k) ≡ true → group_in groups k ≡ line_group key
   forth k l t = at k l ∙ sym (same-equal (line_group key) (line_group (key_at k)) (sym (same-shown key (key_at k)) ∙ t))
 
-  by-place : (o : Option ℕ) → position (same_line key) keys ≡ o → o ≡ group_place (line_group key) groups
-  by-place None e = sym (none-place (line_group key) groups (λ k l g.
+  by-index : (o : Option ℕ) → position (same_line key) keys ≡ o → o ≡ group_index (line_group key) groups
+  by-index None e = sym (none-index (line_group key) groups (λ k l g.
       let inside : k < length keys = omega (arith, size) in
       let t = list_any_at (same_line key) keys k no_line inside (back k inside g) in
       let f : false ≡ true = ap is_some (sym e) ∙ any-position (same_line key) keys ∙ t in cc))
-  by-place (Some i) e =
+  by-index (Some i) e =
       let w = position-Some (same_line key) keys i no_line e in
-      sym (place-first (line_group key) groups i (omega (arith, size, w.0)) (forth i w.0 w.1) (λ k less g.
+      sym (index-first (line_group key) groups i (omega (arith, size, w.0)) (forth i w.0 w.1) (λ k less g.
       let t = back k (omega (arith, w.0)) g in
       let f = w.2 k less in cc))
 
   -- where the group of a line stands
-  pub line-place : position (same_line key) keys ≡ group_place (line_group key) groups
-  line-place = by-place (position (same_line key) keys) refl
+  pub line-index : position (same_line key) keys ≡ group_index (line_group key) groups
+  line-index = by-index (position (same_line key) keys) refl
 
-  some-place : is_some (group_place (line_group key) groups) ≡ list_any (same_line key) keys
-  some-place = ap is_some (sym line-place) ∙ any-position (same_line key) keys
+  some-index : is_some (group_index (line_group key) groups) ≡ list_any (same_line key) keys
+  some-index = ap is_some (sym line-index) ∙ any-position (same_line key) keys
 
-  there-place : (o : Option ℕ) (place : ℕ) → position (same_line key) keys ≡ o → is_some o ≡ true → place ≡ position_or_len (same_line key) keys → Some place ≡ position (same_line key) keys
-  there-place None place e h p = absurd (cc)
-  there-place (Some i) place e h p =
+  there-index : (o : Option ℕ) (index : ℕ) → position (same_line key) keys ≡ o → is_some o ≡ true → index ≡ position_or_len (same_line key) keys → Some index ≡ position (same_line key) keys
+  there-index None index e h p = absurd (cc)
+  there-index (Some i) index e h p =
       ap Some p ∙ held (nat_lt (position_or_len (same_line key) keys) (length keys)) (position_or_len (same_line key) keys) i e ∙ sym e
 
-  no-place : (o : Option ℕ) → is_some o ≡ false → None ≡ o
-  no-place None h = refl
-  no-place (Some i) h = absurd (cc)
+  no-index : (o : Option ℕ) → is_some o ≡ false → None ≡ o
+  no-index None h = refl
+  no-index (Some i) h = absurd (cc)
 
   -- the number of a line's group, if it was there
-  pub line-new : list_any (same_line key) keys ≡ false → None ≡ group_place (line_group key) groups
-  line-new h = no-place (group_place (line_group key) groups) (some-place ∙ h)
+  pub line-new : list_any (same_line key) keys ≡ false → None ≡ group_index (line_group key) groups
+  line-new h = no-index (group_index (line_group key) groups) (some-index ∙ h)
 
-  pub line-there : (place : ℕ) → list_any (same_line key) keys ≡ true → place ≡ position_or_len (same_line key) keys → Some place ≡ group_place (line_group key) groups
-  line-there place h p = there-place (position (same_line key) keys) place refl (any-position (same_line key) keys ∙ h) p ∙ line-place
+  pub line-there : (index : ℕ) → list_any (same_line key) keys ≡ true → index ≡ position_or_len (same_line key) keys → Some index ≡ group_index (line_group key) groups
+  line-there index h p = there-index (position (same_line key) keys) index refl (any-position (same_line key) keys ∙ h) p ∙ line-index
 
   shown-if : (b : Bool) → map line_group (if b then keys else keys ++ key ∷ []) ≡ (if b then groups else groups ++ line_group key ∷ [])
   shown-if true = refl
@@ -96,11 +96,11 @@ module _ (key : LineGroup) (keys : List LineGroup) where
   lines-next new e =
       ap (map line_group) e
       ∙ shown-if (list_any (same_line key) keys)
-      ∙ ap (λ (b : Bool). if b then groups else groups ++ line_group key ∷ []) (sym some-place)
+      ∙ ap (λ (b : Bool). if b then groups else groups ++ line_group key ∷ []) (sym some-index)
 
   -- what `insert_full` tells
-  pub told-new : not (list_any (same_line key) keys) ≡ true → None ≡ group_place (line_group key) groups
+  pub told-new : not (list_any (same_line key) keys) ≡ true → None ≡ group_index (line_group key) groups
   told-new h = line-new (turned (list_any (same_line key) keys) true h)
 
-  pub told-there : (place : ℕ) → not (list_any (same_line key) keys) ≡ false → place ≡ position_or_len (same_line key) keys → Some place ≡ group_place (line_group key) groups
-  told-there place h = line-there place (turned (list_any (same_line key) keys) false h)
+  pub told-there : (index : ℕ) → not (list_any (same_line key) keys) ≡ false → index ≡ position_or_len (same_line key) keys → Some index ≡ group_index (line_group key) groups
+  told-there index h = line-there index (turned (list_any (same_line key) keys) false h)

@@ -11,10 +11,10 @@ use Rattle.plan_model.specs.NameLists.{AreDistinct}
 use Rattle.csv_rows.specs.Tables.{place_in}
 use Rattle.csv_rows.proofs.IdLemmas.{place-here}
 use Rattle.delay_table.specs.declared.numbered.NumberedGroup.{NumberedGroup}
-use Rattle.delay_table.specs.Groups.{Group, same_if, same_number, of_class, group_in, group_place, numbered_route, routes_of, with_route}
+use Rattle.delay_table.specs.Groups.{Group, same_if, same_number, of_class, group_in, group_index, numbered_route, routes_of, with_route}
 use Rattle.delay_table.specs.Numbered.{no_group, named_group, same_numbered, AreNumbers, IsNumber, IsNumbering}
 use Rattle.delay_table.proofs.RouteFacts.{routes-distinct, routes-next, with_route-cases, with_route-distinct}
-use Rattle.delay_table.proofs.GroupFacts.{none-place, nowhere, place-first, same_if-equal, same_if-self}
+use Rattle.delay_table.proofs.GroupFacts.{none-index, nowhere, index-first, same_if-equal, same_if-self}
 
 pub numbered-equal : (a b : NumberedGroup) → same_numbered a b ≡ true → a ≡ b
 numbered-equal a b h =
@@ -32,7 +32,7 @@ numbered-true a b e =
     (and_from (same_if same_number a.route a.route) (same_if same_number a.hour a.hour) (self a.route) (self a.hour)) in
     subst (λ (x : NumberedGroup). same_numbered a x ≡ true) e here
 
--- a name of a list whose names differ stands at one place
+-- a name of a list whose names differ stands at one index
 pub one_index : (names : List (List ℕ)) → AreDistinct names → (m n : ℕ) → m < length names → n < length names → slice_index_or names m [] ≡ slice_index_or names n [] → m ≡ n
 one_index names distinct m n a b e = elim (cases_order m n) [
   | inl same ↦ same
@@ -74,21 +74,21 @@ module _ (routes : List (List ℕ)) (keys : List NumberedGroup) (distinct : AreD
     forth k l e = at k l ∙ ap (named_group routes) (sym e) ∙ is
 
     -- where it stands
-    pub found-place : (o : Option ℕ) → o ≡ position (same_numbered key) keys → is_some o ≡ list_any (same_numbered key) keys → o ≡ group_place group groups
-    found-place None e f = sym (none-place group groups (λ k l g.
+    pub found-index : (o : Option ℕ) → o ≡ position (same_numbered key) keys → is_some o ≡ list_any (same_numbered key) keys → o ≡ group_index group groups
+    found-index None e f = sym (none-index group groups (λ k l g.
         let inside : k < length keys = omega (arith, size) in
         let t = list_any_at (same_numbered key) keys k no_group inside (numbered-true key (key_at k) (back k inside g)) in
         let z : false ≡ true = f ∙ t in cc))
-    found-place (Some i) e f =
+    found-index (Some i) e f =
         let w = position-Some (same_numbered key) keys i no_group (sym e) in
         let here = forth i w.0 (numbered-equal key (key_at i) w.1) in
-        sym (place-first group groups i (omega (arith, size)) here (λ k less g.
+        sym (index-first group groups i (omega (arith, size)) here (λ k less g.
         let inside : k < length keys = omega arith in
         let t = numbered-true key (key_at k) (back k inside g) in
         let z = w.2 k less in cc))
 
     -- a group that is new has a new key
-    pub new-key : group_place group groups ≡ None → list_any (same_numbered key) keys ≡ false
+    pub new-key : group_index group groups ≡ None → list_any (same_numbered key) keys ≡ false
     new-key h = false_from_ne_true (list_any (same_numbered key) keys) (λ t.
         let w = Any-from_list_any (same_numbered key) keys t in
         let inside : w.0 < length keys = w.2 in
@@ -136,16 +136,16 @@ stays routes keys groups h (Some id) =
     })
 
 -- where a group stands, by the number of its route
-pub place-is : (routes : List (List ℕ)) (keys : List NumberedGroup) (distinct : AreDistinct routes) (numbers : AreNumbers routes keys) (all : List Group)
+pub index-is : (routes : List (List ℕ)) (keys : List NumberedGroup) (distinct : AreDistinct routes) (numbers : AreNumbers routes keys) (all : List Group)
     (class number hour : Option ℕ) (route : Option (List ℕ)) → map (named_group routes) keys ≡ all → IfSome number (λ n. n < length routes)
     → option_map (λ k. slice_index_or routes k []) number ≡ route → (o : Option ℕ)
     → o ≡ position (same_numbered (record { class = class; route = number; hour = hour })) keys
-    → is_some o ≡ list_any (same_numbered (record { class = class; route = number; hour = hour })) keys → o ≡ group_place (record { class = class; route = route; hour = hour }) all
-place-is routes keys distinct numbers all class number hour route view inside is o here found =
+    → is_some o ≡ list_any (same_numbered (record { class = class; route = number; hour = hour })) keys → o ≡ group_index (record { class = class; route = route; hour = hour }) all
+index-is routes keys distinct numbers all class number hour route view inside is o here found =
     let key : NumberedGroup = record { class = class; route = number; hour = hour } in
     let group : Group = record { class = class; route = route; hour = hour } in
     let named : named_group routes key ≡ group = λ i. record { class = class; route = is i; hour = hour } in
-    found-place routes keys distinct numbers key group inside named o here found ∙ ap (group_place group) view
+    found-index routes keys distinct numbers key group inside named o here found ∙ ap (group_index group) view
 
 -- the number of a route is that of its id
 pub number-is : (routes : List (List ℕ)) (id : List ℕ) (n : ℕ) → place_in id routes ≡ Some n → IsNumber routes (Some n) (Some id)
@@ -163,8 +163,8 @@ module _ (routes : List (List ℕ)) (keys : List NumberedGroup) (distinct : AreD
   own-named = λ i. record { class = class; route = is.is i; hour = hour }
 
   -- the key of a group that is new is new
-  pub key-is-new : group_place own_group all ≡ None → list_any (same_numbered own_key) keys ≡ false
-  key-is-new h = new-key routes keys distinct numbers own_key own_group is.inside own-named (ap (group_place own_group) view ∙ h)
+  pub key-is-new : group_index own_group all ≡ None → list_any (same_numbered own_key) keys ≡ false
+  key-is-new h = new-key routes keys distinct numbers own_key own_group is.inside own-named (ap (group_index own_group) view ∙ h)
 
   -- and it goes last
   pub groups-last : (more : List NumberedGroup) → more ≡ keys ++ own_key ∷ [] → map (named_group routes) more ≡ all ++ own_group ∷ []
@@ -193,7 +193,7 @@ module _ (routes : List (List ℕ)) (keys : List NumberedGroup) (groups : List G
   differ : AreDistinct new
   differ = subst AreDistinct (sym (named ∙ ap (λ xs. with_route xs group.route) were.named)) (with_route-distinct (routes_of groups) group.route (routes-distinct groups))
 
-  pub numbering-new : group_place group groups ≡ None → list_any (same_numbered next) keys ≡ false
+  pub numbering-new : group_index group groups ≡ None → list_any (same_numbered next) keys ≡ false
   numbering-new = key-is-new new keys differ so.numbers groups group.class number group.hour group.route so.are is
 
   pub numbering-next : (more : List NumberedGroup) → more ≡ keys ++ next ∷ [] → IsNumbering new more (groups ++ group ∷ [])

@@ -4,10 +4,10 @@ use Rattle.std.proofs.Common.{◌≡◌, ℕ, zero, suc, ◌+◌, ◌<◌, Bool,
 use Rattle.std.proofs.lemmas.List.{map-append}
 use Rattle.std.proofs.lemmas.List.Elements.{All-nil, All-cons, All-append}
 use Rattle.plan_model.specs.declared.model.Outcome.{Outcome}
-use Rattle.delay_table.specs.Groups.{Group, group_in, is_plain, of_class, group_place}
+use Rattle.delay_table.specs.Groups.{Group, group_in, is_plain, of_class, group_index}
 use Rattle.delay_table.specs.Delays.{if_other, others}
 use Rattle.delay_table.specs.Read.{AreApart}
-use Rattle.delay_table.proofs.GroupFacts.{apart-ne, none-place}
+use Rattle.delay_table.proofs.GroupFacts.{apart-ne, none-index}
 
 pub others-zero : (groups : List Group) → others groups 0 ≡ []
 unfolding others
@@ -41,27 +41,27 @@ other-rows-next rows groups n init old new f g =
 
 -- each of the others is one of the groups
 pub record IsFrom (groups : List Group) (n : ℕ) (x : Group) : Type 0 where
-  pub place : ℕ
-  pub inside : place < n
-  pub is : x ≡ group_in groups place
+  pub index : ℕ
+  pub inside : index < n
+  pub is : x ≡ group_in groups index
   pub other : is_plain x ≡ false
 
 if_from : (groups : List Group) (n : ℕ) (b : Bool) → is_plain (group_in groups n) ≡ b → All (IsFrom groups (n + 1)) (if b then [] else group_in groups n ∷ [])
 if_from groups n true e = All-nil (IsFrom groups (n + 1))
-if_from groups n false e = All-cons (IsFrom groups (n + 1)) (group_in groups n) [] (record { place = n; inside = omega arith; is = refl; other = e }) (All-nil (IsFrom groups (n + 1)))
+if_from groups n false e = All-cons (IsFrom groups (n + 1)) (group_in groups n) [] (record { index = n; inside = omega arith; is = refl; other = e }) (All-nil (IsFrom groups (n + 1)))
 
 pub others-from : (groups : List Group) (n : ℕ) → All (IsFrom groups n) (others groups n)
 others-from groups zero = subst (All (IsFrom groups 0)) (sym (others-zero groups)) (All-nil (IsFrom groups 0))
 others-from groups (suc n) =
     let wider : All (IsFrom groups (n + 1)) (others groups n) = λ k d l. let w =
-    others-from groups n k d l in record { place = w.place; inside = omega (arith, w.inside); is = w.is; other = w.other } in
+    others-from groups n k d l in record { index = w.index; inside = omega (arith, w.inside); is = w.is; other = w.other } in
     let all : All (IsFrom groups (n + 1)) (others groups (n + 1)) = subst (All (IsFrom groups (n + 1))) (sym (others-next groups n))
     (All-append (IsFrom groups (n + 1)) (others groups n) (if_other (group_in groups n) (group_in groups n)) wider (if_from groups n (is_plain (group_in groups n)) refl)) in
     subst (λ (m : ℕ). All (IsFrom groups m) (others groups m)) (add-one n) all
 
 -- a group is not among the others before it
-pub others-new : (groups : List Group) → AreApart groups → (n : ℕ) → n < length groups → group_place (group_in groups n) (others groups n) ≡ None
+pub others-new : (groups : List Group) → AreApart groups → (n : ℕ) → n < length groups → group_index (group_in groups n) (others groups n) ≡ None
 others-new groups apart n l =
-    none-place (group_in groups n) (others groups n) (λ k inside e.
+    none-index (group_in groups n) (others groups n) (λ k inside e.
     let w = others-from groups n k (of_class None) inside in
-    apart-ne groups apart w.place n (omega (arith, w.inside)) l (λ z. omega (arith, z, w.inside)) (sym w.is ∙ e))
+    apart-ne groups apart w.index n (omega (arith, w.inside)) l (λ z. omega (arith, z, w.inside)) (sym w.is ∙ e))

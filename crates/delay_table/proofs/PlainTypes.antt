@@ -16,7 +16,7 @@ use Rattle.std.proofs.lemmas.Map.Made.{IsDistinct-from_AllPairs}
 use Rattle.plan_model.specs.declared.model.Outcome.{Outcome}
 use Rattle.delay_table.specs.declared.reading.GroupRows.{GroupRows}
 use Rattle.delay_table.specs.DelayBounds.{end_of_types}
-use Rattle.delay_table.specs.Groups.{Group, group_in, is_plain, listed, of_class, group_place, plain_type, plain_types}
+use Rattle.delay_table.specs.Groups.{Group, group_in, is_plain, listed, of_class, group_index, plain_type, plain_types}
 use Rattle.delay_table.specs.Delays.{if_other, route_types_below, others, type_rows}
 use Rattle.delay_table.specs.Read.{AreApart, IsRead, outcomes_at, read_outcomes}
 use Rattle.delay_table.proofs.GroupFacts.{apart-ne, group-here}
@@ -64,20 +64,20 @@ kind-none g e = subst (λ (x : Group). length (listed (plain_type x)) + length (
 
 -- what these route types are
 record ArePlain (groups : List Group) (n : ℕ) (types : List ℕ) : Type 0 where
-  own : All (λ r. (place : ℕ) × (place < n) × (group_in groups place ≡ of_class (Some r))) types
-  all : (place r : ℕ) → place < n → group_in groups place ≡ of_class (Some r) → Contains types r
+  own : All (λ r. (index : ℕ) × (index < n) × (group_in groups index ≡ of_class (Some r))) types
+  all : (index r : ℕ) → index < n → group_in groups index ≡ of_class (Some r) → Contains types r
   apart : AllPairs (λ a b. a ≢ b) types
 
 module _ (groups : List Group) (apart : AreApart groups) where
   skipped : (n : ℕ) (types : List ℕ) → ArePlain groups n types → plain_type (group_in groups n) ≡ None → ArePlain groups (suc n) types
   skipped n types s none = record {
     own = λ k d l. let w = s.own k d l in (w.0, omega (arith, w.1), w.2);
-    all = λ place r l e.
-        ⊎_elim (λ (before : place < n). s.all place r before e)
-        (λ (end : n ≤ place).
-        let same : place ≡ n = omega arith in
+    all = λ index r l e.
+        ⊎_elim (λ (before : index < n). s.all index r before e)
+        (λ (end : n ≤ index).
+        let same : index ≡ n = omega arith in
         let never : None ≡ Some r = sym none ∙ ap plain_type (sym (ap (group_in groups) same) ∙ e) in absurd (cc))
-        (cases_lt place n);
+        (cases_lt index n);
     apart = s.apart;
   }
 
@@ -85,15 +85,15 @@ module _ (groups : List Group) (apart : AreApart groups) where
   added n types r inside s here =
       let is : group_in groups n ≡ of_class (Some r) = plain-some (group_in groups n) r here in
       record {
-        own = All-push (λ r. (place : ℕ) × (place < suc n) × (group_in groups place ≡ of_class (Some r))) types r
+        own = All-push (λ r. (index : ℕ) × (index < suc n) × (group_in groups index ≡ of_class (Some r))) types r
             (λ k d l. let w = s.own k d l in (w.0, omega (arith, w.1), w.2)) (n, omega arith, is);
-        all = λ place t l e.
-            ⊎_elim (λ (before : place < n). Contains-append_left types (r ∷ []) t (s.all place t before e))
-            (λ (end : n ≤ place).
-            let same : place ≡ n = omega arith in
+        all = λ index t l e.
+            ⊎_elim (λ (before : index < n). Contains-append_left types (r ∷ []) t (s.all index t before e))
+            (λ (end : n ≤ index).
+            let same : index ≡ n = omega arith in
             let equal : Some r ≡ Some t = ap (λ (g : Group). g.class) (sym is ∙ sym (ap (group_in groups) same) ∙ e) in
             subst (Contains (types ++ r ∷ [])) (same_Some r t equal) (Contains-push types r))
-            (cases_lt place n);
+            (cases_lt index n);
         apart = all_pairs_push (λ a b. a ≢ b) types r s.apart (λ k d l e.
             let w = s.own k d l in
             apart-ne groups apart w.0 n (omega (arith, w.1)) inside (λ z. omega (arith, z, w.1)) (w.2 ∙ ap (λ t. of_class (Some t)) e ∙ sym is));
@@ -105,7 +105,7 @@ module _ (groups : List Group) (apart : AreApart groups) where
 
   are-plain : (n : ℕ) → n ≤ length groups → ArePlain groups n (plain_types groups n)
   unfolding plain_types
-  are-plain zero l = record { own = λ k d h. absurd (omega arith); all = λ place r h e. absurd (omega arith); apart = λ i j d less h. absurd (omega arith) }
+  are-plain zero l = record { own = λ k d h. absurd (omega arith); all = λ index r h e. absurd (omega arith); apart = λ i j d less h. absurd (omega arith) }
   are-plain (suc n) l = step n (plain_types groups n) (plain_type (group_in groups n)) (omega arith) (are-plain n (omega arith)) refl
 
   -- how many there are, with the others
@@ -145,7 +145,7 @@ somewhere rows (Some k) h = (k, refl)
 pub is-there : (groups : List Group) (rows : List GroupRows) (group : Group) → 0 < length (read_outcomes groups rows group) → (k : ℕ) × (k < length groups) × (group_in groups k ≡ group)
 unfolding read_outcomes
 is-there groups rows group h =
-    let w = somewhere rows (group_place group groups) h in
+    let w = somewhere rows (group_index group groups) h in
     let here = group-here group groups w.0 w.1 in (w.0, here.0, here.1)
 
 module _ (groups : List Group) (rows : List GroupRows) (is : IsRead groups rows) (sorted : List ℕ)

@@ -7,14 +7,14 @@ use Rattle.plan_model.specs.declared.model.Outcome.{Outcome}
 use Rattle.delay_table.specs.declared.reading.GroupRows.{GroupRows}
 use Rattle.delay_table.specs.declared.faults.DelayFault.{DelayFault}
 use Rattle.delay_table.specs.declared.faults.DelayFault.TheVariants.{BadField}
-use Rattle.delay_table.specs.Groups.{Group, same_group, of_class, group_in, group_place}
+use Rattle.delay_table.specs.Groups.{Group, same_group, of_class, group_in, group_index}
 use Rattle.delay_table.specs.Delays.{Line, of_group, group_outcomes, line_at, fault_of, fault_after, line_fault, begins, if_begins, firsts, group_of, groups_at}
 use Rattle.delay_table.specs.Read.{no_rows, group_rows_at, outcomes_at, read_outcomes, AreApart, IsPushed, AddsRow, IsReadTo}
 use Rattle.csv_rows.specs.Tables.{field}
 use Rattle.csv_rows.specs.declared.columns.Column.TheVariants.{RouteId}
 use Rattle.delay_table.specs.DelayBounds.{end_of_types}
 use Rattle.delay_table.proofs.LineFacts.{IsFormed, formed_at}
-use Rattle.delay_table.proofs.GroupFacts.{same-true, same-false, group-here, nowhere, apart-ne, place-at, push-none}
+use Rattle.delay_table.proofs.GroupFacts.{same-true, same-false, group-here, nowhere, apart-ne, index-at, push-none}
 
 outcomes-zero : (t : List (List (List ℕ))) (group : Group) → group_outcomes t 0 group ≡ []
 unfolding group_outcomes
@@ -50,7 +50,7 @@ begins-some [] i h = absurd (omega arith)
 begins-some (o ∷ os) i h = refl
 
 rows_by : (t : List (List (List ℕ))) (n : ℕ) (groups : List Group) (rows : List GroupRows) → IsReadTo t n groups rows → (group : Group) (o : Option ℕ)
-    → group_place group groups ≡ o → outcomes_at rows o ≡ group_outcomes t n group
+    → group_index group groups ≡ o → outcomes_at rows o ≡ group_outcomes t n group
 rows_by t n groups rows r group None e = sym (r.absent group e)
 rows_by t n groups rows r group (Some k) e = let w = group-here group groups k e in r.each k w.0 ∙ ap (group_outcomes t n) w.1
 
@@ -58,18 +58,18 @@ rows_by t n groups rows r group (Some k) e = let w = group-here group groups k e
 pub rows-are : (t : List (List (List ℕ))) (n : ℕ) (groups : List Group) (rows : List GroupRows) → IsReadTo t n groups rows → (group : Group)
     → read_outcomes groups rows group ≡ group_outcomes t n group
 unfolding read_outcomes
-rows-are t n groups rows r group = rows_by t n groups rows r group (group_place group groups) refl
+rows-are t n groups rows r group = rows_by t n groups rows r group (group_index group groups) refl
 
--- the outcomes of the group at a place
+-- the outcomes of the group at a index
 pub rows-here : (groups : List Group) (rows : List GroupRows) → AreApart groups → (k : ℕ) → k < length groups → read_outcomes groups rows (group_in groups k) ≡ (group_rows_at rows k).outcomes
 unfolding read_outcomes
-rows-here groups rows apart k l = ap (outcomes_at rows) (place-at groups apart k l)
+rows-here groups rows apart k l = ap (outcomes_at rows) (index-at groups apart k l)
 
-pub rows-known : (groups : List Group) (rows : List GroupRows) (group : Group) (k : ℕ) → Some k ≡ group_place group groups → (group_rows_at rows k).outcomes ≡ read_outcomes groups rows group
+pub rows-known : (groups : List Group) (rows : List GroupRows) (group : Group) (k : ℕ) → Some k ≡ group_index group groups → (group_rows_at rows k).outcomes ≡ read_outcomes groups rows group
 unfolding read_outcomes
 rows-known groups rows group k e = ap (outcomes_at rows) e
 
-pub rows-new : (groups : List Group) (rows : List GroupRows) (group : Group) → None ≡ group_place group groups → [] ≡ read_outcomes groups rows group
+pub rows-new : (groups : List Group) (rows : List GroupRows) (group : Group) → None ≡ group_index group groups → [] ≡ read_outcomes groups rows group
 unfolding read_outcomes
 rows-new groups rows group e = ap (outcomes_at rows) e
 
@@ -120,7 +120,7 @@ module _ (t : List (List (List ℕ))) (i : ℕ) (line : Line) (here : Some line 
 
   module _ (groups : List Group) (rows new : List GroupRows) (r : IsReadTo t i groups rows) where
     -- a row of a group that is there
-    known_next : (k : ℕ) → group_place line.group groups ≡ Some k → IsPushed rows new k line.outcome → IsReadTo t (i + 1) groups new
+    known_next : (k : ℕ) → group_index line.group groups ≡ Some k → IsPushed rows new k line.outcome → IsReadTo t (i + 1) groups new
     known_next k e p =
         let w = group-here line.group groups k e in
         let own : group_outcomes t i line.group ≡ (group_rows_at rows k).outcomes = sym (r.each k w.0 ∙ ap (group_outcomes t i) w.1) in
@@ -144,7 +144,7 @@ module _ (t : List (List (List ℕ))) (i : ℕ) (line : Line) (here : Some line 
         }
 
     -- the first row of a group
-    fresh_next : (more : List Group) → group_place line.group groups ≡ None → more ≡ groups ++ line.group ∷ []
+    fresh_next : (more : List Group) → group_index line.group groups ≡ None → more ≡ groups ++ line.group ∷ []
         → new ≡ rows ++ (record { line = i + 2; outcomes = line.outcome ∷ [] }) ∷ [] → IsReadTo t (i + 1) more new
     fresh_next more e g f =
         let n = length groups in
@@ -189,13 +189,13 @@ module _ (t : List (List (List ℕ))) (i : ℕ) (line : Line) (here : Some line 
         } in
         subst (λ (gs : List Group). IsReadTo t (i + 1) gs new) (sym g) (subst (IsReadTo t (i + 1) (groups ++ line.group ∷ [])) (sym f) goal)
 
-    by_place : (more : List Group) (o : Option ℕ) → group_place line.group groups ≡ o → AddsRow groups rows line (i + 2) more new → IsReadTo t (i + 1) more new
-    by_place more None e a = let w = a.fresh e in fresh_next more e w.0 w.1
-    by_place more (Some k) e a = let w = a.known k e in subst (λ (gs : List Group). IsReadTo t (i + 1) gs new) (sym w.0) (known_next k e w.1)
+    by_index : (more : List Group) (o : Option ℕ) → group_index line.group groups ≡ o → AddsRow groups rows line (i + 2) more new → IsReadTo t (i + 1) more new
+    by_index more None e a = let w = a.fresh e in fresh_next more e w.0 w.1
+    by_index more (Some k) e a = let w = a.known k e in subst (λ (gs : List Group). IsReadTo t (i + 1) gs new) (sym w.0) (known_next k e w.1)
 
     -- after one more row
     pub read-next : (more : List Group) → AddsRow groups rows line (i + 2) more new → IsReadTo t (i + 1) more new
-    read-next more a = by_place more (group_place line.group groups) refl a
+    read-next more a = by_index more (group_index line.group groups) refl a
 
 -- the fault of a row
 pub fault_here : (t : List (List (List ℕ))) (i : ℕ) (r : List Outcome) (line : Line) (number : ℕ) (o : Option DelayFault)

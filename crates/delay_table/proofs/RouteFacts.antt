@@ -11,10 +11,10 @@ use Rattle.plan_model.proofs.Texts.{AreDistinct-push}
 use Rattle.csv_rows.specs.Tables.{place_in}
 use Rattle.csv_rows.proofs.IdLemmas.{got, place-contained, place-here}
 use Rattle.delay_table.specs.DelayLists.{DelayLists, class_at, class_for, hour_class, hour_of, route_class, type_class}
-use Rattle.delay_table.specs.Groups.{Group, group_in, group_place, numbered_route, routes_of, with_route}
-use Rattle.delay_table.proofs.GroupFacts.{none-place}
+use Rattle.delay_table.specs.Groups.{Group, group_in, group_index, numbered_route, routes_of, with_route}
+use Rattle.delay_table.proofs.GroupFacts.{none-index}
 
--- whether a route has a place
+-- whether a route has a index
 stands : (id : List ℕ) (routes : List (List ℕ)) (o : Option ℕ) → place_in id routes ≡ o → (is_some o ≡ true → Contains routes id) × (is_some o ≡ false → ¬ Contains routes id)
 stands id routes None e = (λ t. absurd (cc), λ f c. place-contained id routes c e)
 stands id routes (Some k) e = let w = place-here id routes k e in (λ t. (k, w.0, sym (get_or_default routes k [] id w.0) ∙ w.1), λ f. absurd (cc))
@@ -63,7 +63,7 @@ all-distinct : (routes : List (List ℕ)) (groups : List Group) → AreDistinct 
 all-distinct routes [] h = h
 all-distinct routes (g ∷ gs) h = all-distinct (step routes g) gs (with_route-distinct routes g.route h)
 
--- no route stands twice
+-- no route comes twice
 pub routes-distinct : (groups : List Group) → AreDistinct (routes_of groups)
 unfolding routes_of
 routes-distinct groups = all-distinct [] groups (λ i j l inside. absurd (omega arith))
@@ -74,18 +74,18 @@ unfolding routes_of
 routes-next groups group = fold-append step [] groups (group ∷ [])
 
 -- no group has a route that is not among them
-pub unnamed-place : (groups : List Group) (id : List ℕ) → (Contains (routes_of groups) id → ⊥) → (class hour : Option ℕ)
-    → group_place (record { class = class; route = Some id; hour = hour }) groups ≡ None
+pub unnamed-index : (groups : List Group) (id : List ℕ) → (Contains (routes_of groups) id → ⊥) → (class hour : Option ℕ)
+    → group_index (record { class = class; route = Some id; hour = hour }) groups ≡ None
 unfolding routes_of
-unnamed-place groups id absent class hour =
-    none-place (record { class = class; route = Some id; hour = hour }) groups (λ k l e. absent (named [] groups k id l (ap (λ (g : Group). g.route) e)))
+unnamed-index groups id absent class hour =
+    none-index (record { class = class; route = Some id; hour = hour }) groups (λ k l e. absent (named [] groups k id l (ap (λ (g : Group). g.route) e)))
 
 -- so a connection of such a route has the class of one without a route
 pub unnamed-class : (d : DelayLists) (id : List ℕ) → (Contains (routes_of d.others) id → ⊥) → (class : Option ℕ) (arr : ℕ) → class_for d class (Some id) arr ≡ class_for d class None arr
 unfolding class_for
 unnamed-class d id absent class arr =
     let n = length d.types + 1 in
-    let none : (hour : Option ℕ) → route_class d (Some id) hour ≡ None = λ hour. ap (option_map (λ k. n + k)) (unnamed-place d.others id absent None hour) in
+    let none : (hour : Option ℕ) → route_class d (Some id) hour ≡ None = λ hour. ap (option_map (λ k. n + k)) (unnamed-index d.others id absent None hour) in
     let rest = option_or (hour_class d class (hour_of arr)) (option_or (type_class d class) (hour_class d None (hour_of arr))) in
     ap (λ o. unwrap_or (option_or o (option_or (route_class d (Some id) None) rest)) 0) (none (Some (hour_of arr)))
     ∙ ap (λ o. unwrap_or (option_or o rest) 0) (none None)

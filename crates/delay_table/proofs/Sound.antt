@@ -101,8 +101,8 @@ module _ (groups : List Group) (read : List GroupRows) (is : IsRead groups read)
   others_valid = All-map IsValidRow own (others groups (length groups)) (λ k d l.
       let w = others-from groups (length groups) k d l in
       let e = w.is in
-      let valid = valid_row (own (group_in groups w.place)) (is.starts (group_in groups w.place)) (is.some w.place w.inside)
-      (group_right w.place w.inside (subst (λ (g : Group). is_plain g ≡ false) e w.other)) in
+      let valid = valid_row (own (group_in groups w.index)) (is.starts (group_in groups w.index)) (is.some w.index w.inside)
+      (group_right w.index w.inside (subst (λ (g : Group). is_plain g ≡ false) e w.other)) in
       subst (λ (g : Group). IsValidRow (own g)) (sym e) valid)
 
   default_there : 0 < length (class_rows own None)

@@ -1,4 +1,4 @@
--- The place of a route type among those that are named, and the greatest delay of a class.
+-- The index of a route type among those that are named, and the greatest delay of a class.
 use Rattle.std.proofs.Common.{◌≡◌, slice_get, ℕ, zero, suc, ◌+◌, ◌-◌, ◌<◌, ◌≤◌, ◌==◌, List, length, get_or, slice_index, slice_index_or, Option, Some, None}
 use Rattle.std.proofs.Common.{option_map, sym, ap, ◌∙◌, subst, arith, ⊎_elim, eq-or-lt_of_le, Contains, All, eq-eqb, ne_eqb, unwrap_or}
 use Rattle.std.proofs.lemmas.Bool.{cases_lt}
@@ -7,7 +7,7 @@ use Rattle.std.proofs.lemmas.Option.{slice_get_within, get_or_from_slice_get}
 use Rattle.plan_model.specs.declared.model.Outcome.{Outcome}
 use Rattle.plan_model.specs.DelayRows.{IsValidRow}
 use Rattle.csv_rows.proofs.FirstLemmas.{absent_by, found_by}
-use Rattle.delay_table.specs.DelayLists.{DelayLists, class_at, hour_class, route_class, type_class, type_place}
+use Rattle.delay_table.specs.DelayLists.{DelayLists, class_at, hour_class, route_class, type_class, type_index}
 use Rattle.std.specs.Option.{option_or}
 use Rattle.delay_table.specs.Slots.{AreDelays, IsClassOf}
 
@@ -36,37 +36,37 @@ greatest_last r last v k d l =
     subst Q same (omega arith))
     (cases_lt k (length r - 1)))
 
-no_place : (types : List ℕ) (route : ℕ) → ¬ Contains types route → type_place types route ≡ None
-unfolding type_place
-no_place types route h =
+no_index : (types : List ℕ) (route : ℕ) → ¬ Contains types route → type_index types route ≡ None
+unfolding type_index
+no_index types route h =
     absent_by (λ k. slice_index types k == route) (length types) (λ k l. ne_eqb (slice_index types k) route (λ e. h
     (k, l, get_or_default types k route 0 l ∙ e)))
 
-own_place : (types : List ℕ) → ((i j : ℕ) → i < j → j < length types → get_or types i 0 < get_or types j 0) → (route j : ℕ) → slice_get types j ≡ Some route → type_place types route ≡ Some j
-unfolding type_place
-own_place types rising route j h =
+own_index : (types : List ℕ) → ((i j : ℕ) → i < j → j < length types → get_or types i 0 < get_or types j 0) → (route j : ℕ) → slice_get types j ≡ Some route → type_index types route ≡ Some j
+unfolding type_index
+own_index types rising route j h =
     let here = get_or_from_slice_get types j route 0 h in
     let inside = slice_get_within types j route h in
     found_by (λ k. slice_index types k == route) (length types) j inside (eq-eqb (slice_index types j) route here)
     (λ k l. ne_eqb (slice_index types k) route (λ e. let less = rising k j l inside in omega (arith, less, e, here)))
 
--- the place of a route type, by its class
-pub class-place : (types : List ℕ) → ((i j : ℕ) → i < j → j < length types → get_or types i 0 < get_or types j 0) → (route k : ℕ)
-    → IsClassOf types route k → (k ≡ 0 → type_place types route ≡ None) × ((j : ℕ) → k ≡ j + 1 → type_place types route ≡ Some j)
-class-place types rising route zero h = (λ e. no_place types route h, λ j e. absurd (omega (arith, e)))
-class-place types rising route (suc j) h = (
+-- the index of a route type, by its class
+pub class-index : (types : List ℕ) → ((i j : ℕ) → i < j → j < length types → get_or types i 0 < get_or types j 0) → (route k : ℕ)
+    → IsClassOf types route k → (k ≡ 0 → type_index types route ≡ None) × ((j : ℕ) → k ≡ j + 1 → type_index types route ≡ Some j)
+class-index types rising route zero h = (λ e. no_index types route h, λ j e. absurd (omega (arith, e)))
+class-index types rising route (suc j) h = (
   λ e. absurd (omega (arith, e)),
   λ i e. let same : j ≡ i =
-      omega (arith, e) in subst (λ (x : ℕ). type_place types route ≡ Some x) same (own_place types rising route j h),
+      omega (arith, e) in subst (λ (x : ℕ). type_index types route ≡ Some x) same (own_index types rising route j h),
 )
 
 pub class-none : (d : DelayLists) → AreDelays d → (route k : ℕ) → IsClassOf d.types route k → k ≡ 0 → None ≡ type_class d (Some route)
-class-none d s route k h e = sym (ap (option_map (λ n. n + 1)) ((class-place d.types s.rising route k h).0 e))
+class-none d s route k h e = sym (ap (option_map (λ n. n + 1)) ((class-index d.types s.rising route k h).0 e))
 
 pub class-some : (d : DelayLists) → AreDelays d → (route k : ℕ) → IsClassOf d.types route k → (k ≡ 0 → ⊥) → Some k ≡ type_class d (Some route)
 class-some d s route k h e =
     let n : k ≡ (k - 1) + 1 = grind (arith, e) in
-    ap Some n ∙ sym (ap (option_map (λ n. n + 1)) ((class-place d.types s.rising route k h).1 (k - 1) n))
+    ap Some n ∙ sym (ap (option_map (λ n. n + 1)) ((class-index d.types s.rising route k h).1 (k - 1) n))
 
 -- the class is that of the first of these that is there
 pub class-is : (d : DelayLists) (class : Option ℕ) (route : Option (List ℕ)) (hour : ℕ) → {a b c e f : Option ℕ}

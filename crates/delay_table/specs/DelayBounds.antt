@@ -1,17 +1,21 @@
--- The bounds of what a delay file tells, as numbers.
+-- The bounds of a delay file's numbers.
 use Rattle.std.specs.Prelude.{ℕ}
+use Rattle.plan_model.specs.declared.units.TheConstants.{HOURS_PER_DAY, SECONDS_PER_HOUR, WHOLE_WEIGHT}
+use Rattle.delay_table.specs.declared.lines.TheConstants.{LAST_HOUR, LAST_TYPE}
+use Rattle.delay_table.specs.declared.reading.TheConstants.{MOST_ROWS}
+use Rattle.delay_table.specs.declared.sums.TheConstants.{MOST_GROUPS}
 
--- as many rows as a group may have
+-- the most rows of a group
 abbrev pub most_rows : ℕ
-most_rows = 64
+most_rows = MOST_ROWS
 
--- as many groups as a file may have
+-- the most groups of a file
 abbrev pub most_groups : ℕ
-most_groups = 65536
+most_groups = MOST_GROUPS
 
 -- the greatest route type
 abbrev pub last_type : ℕ
-last_type = 65534
+last_type = LAST_TYPE
 
 -- each route type is below it
 abbrev pub end_of_types : ℕ
@@ -19,14 +23,14 @@ end_of_types = 65535
 
 -- the weights of a group add up to it, so none is above it
 abbrev pub whole_weight : ℕ
-whole_weight = 10000
+whole_weight = WHOLE_WEIGHT
 
 abbrev pub seconds_per_hour : ℕ
-seconds_per_hour = 3600
+seconds_per_hour = SECONDS_PER_HOUR
 
 abbrev pub hours_per_day : ℕ
-hours_per_day = 24
+hours_per_day = HOURS_PER_DAY
 
 -- the last hour of a day
 abbrev pub last_hour : ℕ
-last_hour = 23
+last_hour = LAST_HOUR

@@ -1,4 +1,4 @@
--- Where the columns of a delay file stand.
+-- The indexes of the columns of a delay file.
 use Rattle.std.specs.Prelude.{◌≡◌, ℕ, List}
 use Rattle.csv_rows.specs.declared.columns.Column.TheVariants.{Class, Delay, Weight, RouteId, Hour}
 use Rattle.csv_rows.specs.Tables.{place_of}

@@ -4,7 +4,7 @@ use Rattle.std.specs.Option.{option_or}
 use Rattle.plan_model.specs.declared.model.Outcome.{Outcome}
 use Rattle.csv_rows.specs.First.{first_below}
 use Rattle.delay_table.specs.DelayBounds.{seconds_per_hour, hours_per_day}
-use Rattle.delay_table.specs.Groups.{Group, group_place}
+use Rattle.delay_table.specs.Groups.{Group, group_index}
 
 -- the named route types, rising; the groups that name a route or an hour; and the outcomes of class 0, of each route type
 -- and of each such group
@@ -17,20 +17,20 @@ pub record DelayLists : Type 0 where
 abbrev pub hour_of : ℕ → ℕ
 hour_of moment = (moment / seconds_per_hour) % hours_per_day
 
--- where a route type stands among those that are named
-unfoldable pub type_place : List ℕ → ℕ → Option ℕ
-type_place types route = first_below (λ k. if slice_index types k == route then Some k else None) (length types)
+-- the index of a route type among those that are named
+unfoldable pub type_index : List ℕ → ℕ → Option ℕ
+type_index types route = first_below (λ k. if slice_index types k == route then Some k else None) (length types)
 
 -- the class of a route type, where it is named, or of `*`
 abbrev pub type_class : DelayLists → Option ℕ → Option ℕ
 type_class d None = Some 0
-type_class d (Some route) = option_map (λ k. k + 1) (type_place d.types route)
+type_class d (Some route) = option_map (λ k. k + 1) (type_index d.types route)
 
 -- the class of a group that names a route or an hour, where it is there
 abbrev pub other_class : DelayLists → Group → Option ℕ
-other_class d group = option_map (λ k. length d.types + 1 + k) (group_place group d.others)
+other_class d group = option_map (λ k. length d.types + 1 + k) (group_index group d.others)
 
--- the class of a route, at an hour where one is told
+-- the class of a route, at an hour if there is one
 abbrev pub route_class : DelayLists → Option (List ℕ) → Option ℕ → Option ℕ
 route_class d None hour = None
 route_class d (Some route) hour = other_class d (record { class = None; route = Some route; hour = hour })

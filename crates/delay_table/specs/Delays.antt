@@ -45,7 +45,7 @@ abbrev pub not_zero : Option ℕ → Option ℕ
 not_zero None = None
 not_zero (Some n) = if n == 0 then None else Some n
 
--- a route, which a row of the class `*` alone may tell
+-- a route, which only a row of the class `*` may have
 abbrev pub route_in : Option ℕ → List ℕ → Option (Option (List ℕ))
 route_in class text = if length text == 0 then Some None else if is_none class then option_map Some (name_in text) else None
 
@@ -158,7 +158,7 @@ type_rows rows route = class_rows rows (Some route)
 abbrev pub class_sum : (Group → List Outcome) → Option ℕ → Option DelayFault
 class_sum rows class = option_map (WeightSum (class_name class)) (other_sum (class_rows rows class))
 
--- that of the route type at a place among these
+-- that of the route type at a index among these
 abbrev pub type_sum_at : (Group → List Outcome) → List ℕ → ℕ → Option DelayFault
 type_sum_at rows types k = class_sum rows (Some (slice_index types k))
 

@@ -4,7 +4,7 @@ use Rattle.std.specs.Str.{bytes_eq}
 use Rattle.csv_rows.specs.First.{first_below}
 use Rattle.csv_rows.specs.Tables.{place_in}
 
--- what the rows are of: the route type of the class, and none for `*`; a route and an hour, where they are told
+-- what the rows are of: the route type of the class, and none for `*`; a route and an hour, if there are
 pub record Group : Type 0 where
   pub class : Option ℕ
   pub route : Option (List ℕ)
@@ -38,9 +38,9 @@ plain_type group = if is_plain group then group.class else None
 abbrev pub group_in : List Group → ℕ → Group
 group_in groups k = slice_index_or groups k (of_class None)
 
--- where a group stands among others
-unfoldable pub group_place : Group → List Group → Option ℕ
-group_place group groups = first_below (λ k. if same_group (group_in groups k) group then Some k else None) (length groups)
+-- the index of a group among others
+unfoldable pub group_index : Group → List Group → Option ℕ
+group_index group groups = first_below (λ k. if same_group (group_in groups k) group then Some k else None) (length groups)
 
 -- one element, where there is one
 abbrev pub listed : Option ℕ → List ℕ
@@ -52,7 +52,7 @@ unfoldable pub plain_types : List Group → ℕ → List ℕ
 plain_types groups zero = []
 plain_types groups (suc n) = plain_types groups n ++ listed (plain_type (group_in groups n))
 
--- one more route goes last, unless none is told or it is there
+-- one more route goes last, unless there is none or it is among them
 abbrev pub with_route : List (List ℕ) → Option (List ℕ) → List (List ℕ)
 with_route routes None = routes
 with_route routes (Some id) = if is_some (place_in id routes) then routes else routes ++ id ∷ []
@@ -61,10 +61,10 @@ with_route routes (Some id) = if is_some (place_in id routes) then routes else r
 unfoldable pub routes_of : List Group → List (List ℕ)
 routes_of groups = fold (λ routes (group : Group). with_route routes group.route) [] groups
 
--- the route of a number, where one is told
+-- the route of a number, if there is one
 abbrev pub numbered_route : List (List ℕ) → Option ℕ → Option (List ℕ)
 numbered_route routes number = option_map (λ k. slice_index_or routes k []) number
 
 -- one more group goes last, unless it is there
 abbrev pub with_group : List Group → Group → List Group
-with_group groups group = if is_some (group_place group groups) then groups else groups ++ group ∷ []
+with_group groups group = if is_some (group_index group groups) then groups else groups ++ group ∷ []

@@ -1,6 +1,7 @@
 pub mod DelayBounds
 pub mod Groups
 pub mod DelayLists
+pub mod FaultTexts
 pub mod Delays
 pub mod DelayColumns
 pub mod Numbered

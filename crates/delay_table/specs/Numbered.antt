@@ -33,9 +33,9 @@ named_group routes g = record { class = g.class; route = numbered_route routes g
 abbrev pub same_numbered : NumberedGroup → NumberedGroup → Bool
 same_numbered a b = same_if same_number a.class b.class && (same_if same_number a.route b.route && same_if same_number a.hour b.hour)
 
--- each group is found at its place
-abbrev pub AreAtPlaces : numbered.Inside → Type 0
-AreAtPlaces s = (group : NumberedGroup) → get same_numbered s.places group ≡ position (same_numbered group) s.list.items
+-- each group is found at its index
+abbrev pub AreAtIndexes : numbered.Inside → Type 0
+AreAtIndexes s = (group : NumberedGroup) → get same_numbered s.indexes group ≡ position (same_numbered group) s.list.items
 
 abbrev pub groups_of : Inside → List Group
 groups_of s = map (named_group s.routes) s.groups
@@ -53,7 +53,7 @@ pub record IsNumbering (routes : List (List ℕ)) (keys : List NumberedGroup) (g
 abbrev pub AreNumbered : Inside → Type 0
 AreNumbered s = IsNumbering s.routes s.groups (groups_of s)
 
--- this is the number of a route, where one is told
+-- this is the number of a route, if there is one
 pub record IsNumber (routes : List (List ℕ)) (number : Option ℕ) (route : Option (List ℕ)) : Type 0 where
   pub inside : IfSome number (λ n. n < length routes)
   pub is : numbered_route routes number ≡ route

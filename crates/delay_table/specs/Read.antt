@@ -3,7 +3,7 @@ use Rattle.std.specs.Prelude.{◌≡◌, ℕ, ◌+◌, ◌<◌, false, List, [],
 use Rattle.plan_model.specs.declared.model.Outcome.{Outcome}
 use Rattle.delay_table.specs.declared.reading.GroupRows.{GroupRows}
 use Rattle.delay_table.specs.Delays.{Line, group_outcomes, firsts, groups_at}
-use Rattle.delay_table.specs.Groups.{Group, group_in, same_group, group_place}
+use Rattle.delay_table.specs.Groups.{Group, group_in, same_group, group_index}
 use Rattle.delay_table.specs.DelayBounds.{end_of_types}
 use Rattle.delay_table.specs.Slots.{IsGroupStart}
 
@@ -19,23 +19,23 @@ outcomes_at rows (Some k) = (group_rows_at rows k).outcomes
 
 -- the outcomes of a group, which are none where it is not there
 unfoldable pub read_outcomes : List Group → List GroupRows → Group → List Outcome
-read_outcomes groups rows group = outcomes_at rows (group_place group groups)
+read_outcomes groups rows group = outcomes_at rows (group_index group groups)
 
--- no group stands twice
+-- no group comes twice
 abbrev pub AreApart : List Group → Type 0
 AreApart groups = (i j : ℕ) → i < j → j < length groups → same_group (group_in groups i) (group_in groups j) ≡ false
 
--- one more outcome of the group at a place
-pub record IsPushed (old new : List GroupRows) (place : ℕ) (outcome : Outcome) : Type 0 where
+-- one more outcome of the group at a index
+pub record IsPushed (old new : List GroupRows) (index : ℕ) (outcome : Outcome) : Type 0 where
   pub size : length new ≡ length old
   pub lines : (k : ℕ) → (group_rows_at new k).line ≡ (group_rows_at old k).line
-  pub here : (group_rows_at new place).outcomes ≡ (group_rows_at old place).outcomes ++ outcome ∷ []
-  pub others : (k : ℕ) → (k ≡ place → ⊥) → (group_rows_at new k).outcomes ≡ (group_rows_at old k).outcomes
+  pub here : (group_rows_at new index).outcomes ≡ (group_rows_at old index).outcomes ++ outcome ∷ []
+  pub others : (k : ℕ) → (k ≡ index → ⊥) → (group_rows_at new k).outcomes ≡ (group_rows_at old k).outcomes
 
 -- one more row, of a group that is there or of a new one
 pub record AddsRow (groups : List Group) (rows : List GroupRows) (line : Line) (number : ℕ) (more : List Group) (new : List GroupRows) : Type 0 where
-  pub known : (k : ℕ) → group_place line.group groups ≡ Some k → (more ≡ groups) × IsPushed rows new k line.outcome
-  pub fresh : group_place line.group groups ≡ None → (more ≡ groups ++ line.group ∷ []) × (new ≡ rows ++ (record { line = number; outcomes = line.outcome ∷ [] }) ∷ [])
+  pub known : (k : ℕ) → group_index line.group groups ≡ Some k → (more ≡ groups) × IsPushed rows new k line.outcome
+  pub fresh : group_index line.group groups ≡ None → (more ≡ groups ++ line.group ∷ []) × (new ≡ rows ++ (record { line = number; outcomes = line.outcome ∷ [] }) ∷ [])
 
 -- these are the groups of the first n rows, and their outcomes
 pub record IsReadTo (t : List (List (List ℕ))) (n : ℕ) (groups : List Group) (rows : List GroupRows) : Type 0 where
@@ -45,7 +45,7 @@ pub record IsReadTo (t : List (List (List ℕ))) (n : ℕ) (groups : List Group)
   pub lines : (k : ℕ) → k < length groups → (group_rows_at rows k).line ≡ slice_index (firsts t n) k + 2
   pub each : (k : ℕ) → k < length groups → (group_rows_at rows k).outcomes ≡ group_outcomes t n (group_in groups k)
   pub some : (k : ℕ) → k < length groups → 0 < length (group_rows_at rows k).outcomes
-  pub absent : (group : Group) → group_place group groups ≡ None → group_outcomes t n group ≡ []
+  pub absent : (group : Group) → group_index group groups ≡ None → group_outcomes t n group ≡ []
 
 abbrev pub line_at : List GroupRows → ℕ → ℕ
 line_at rows k = (group_rows_at rows k).line

@@ -23,7 +23,7 @@ pub record AreDelays (f : DelayLists) : Type 0 where
   pub each : length f.classes ≡ length f.types + 1 + length f.others
   pub rows : (k : ℕ) → k < length f.classes → IsValidRow (slice_index_or f.classes k [])
 
--- 0 where the route type is not named, and else its place among the named ones, from 1 on
+-- 0 where the route type is not named, and else its index among the named ones, from 1 on
 abbrev pub IsClassOf : List ℕ → ℕ → ℕ → Type 0
 IsClassOf types route zero = ¬ Contains types route
 IsClassOf types route (suc k) = slice_get types k ≡ Some route

@@ -1,6 +1,6 @@
-//! Groups of the rows of a delay file, in the order in which they first stand.
+//! Groups of the rows of a delay file, in the order of their first rows.
 ghost use Rattle.std.specs.Prelude.{◌≡◌, ◌<◌, [], length, IfOk, OnOk, option_map};
-ghost use Rattle.delay_table.specs.Groups.{group_in, group_place, is_plain, of_class, plain_type, with_group};
+ghost use Rattle.delay_table.specs.Groups.{group_in, group_index, is_plain, of_class, plain_type, with_group};
 ghost use Rattle.delay_table.specs.Numbered.{line_group};
 
 use indexmap::IndexSet;
@@ -49,9 +49,9 @@ impl<'a> Groups<'a> {
         self.groups.len()
     }
 
-    /// The place of the group of a class alone, if it is there.
-    pub(crate) fn class_place(&self, class: Option<u16>) -> Option<usize>
-        ensures { result ≡ group_place (of_class class) self.now }
+    /// The index of the group of a class alone; `None` if there is none.
+    pub(crate) fn class_index(&self, class: Option<u16>) -> Option<usize>
+        ensures { result ≡ group_index (of_class class) self.now }
     {
         self.groups.get_index_of(&LineGroup {
             class,
@@ -60,43 +60,43 @@ impl<'a> Groups<'a> {
         })
     }
 
-    /// The place of a group that is there. One that is not goes last.
+    /// The index of a group that was added before. One that is new goes last, and the answer is `None`.
     pub(crate) fn number(&mut self, group: LineGroup<'a>) -> Result<Option<usize>, NoMemory>
-        ensures place { IfOk result (λ place. place ≡ group_place (line_group group.entry) self.old) }
+        ensures index { IfOk result (λ index. index ≡ group_index (line_group group.entry) self.old) }
         ensures groups { OnOk result (self.new ≡ with_group self.old (line_group group.entry)) }
     {
-        let (place, is_new) = self.groups.insert_full(group)?;
+        let (index, is_new) = self.groups.insert_full(group)?;
         if is_new {
             return Ok(None);
         }
-        Ok(Some(place))
+        Ok(Some(index))
     }
 
-    /// The group at a place.
-    pub(crate) fn at(&self, place: usize) -> LineGroup<'a>
-        requires { place < length self.now }
-        ensures { line_group result ≡ group_in self.now place }
+    /// The group at an index.
+    pub(crate) fn at(&self, index: usize) -> LineGroup<'a>
+        requires { index < length self.now }
+        ensures { line_group result ≡ group_in self.now index }
     {
-        self.groups.as_slice()[place]
+        self.groups.as_slice()[index]
     }
 
     /// Whether a group names neither a route nor an hour.
-    pub(crate) fn is_plain(&self, place: usize) -> bool
-        requires { place < length self.now }
-        ensures { result ≡ is_plain (group_in self.now place) }
+    pub(crate) fn is_plain(&self, index: usize) -> bool
+        requires { index < length self.now }
+        ensures { result ≡ is_plain (group_in self.now index) }
     {
-        let group = self.at(place);
+        let group = self.at(index);
         group.route.is_none() && group.hour.is_none()
     }
 
     /// The route type of a group of a route type alone.
-    pub(crate) fn plain_type(&self, place: usize) -> Option<u16>
-        requires { place < length self.now }
-        ensures { result ≡ plain_type (group_in self.now place) }
+    pub(crate) fn plain_type(&self, index: usize) -> Option<u16>
+        requires { index < length self.now }
+        ensures { result ≡ plain_type (group_in self.now index) }
     {
-        if !self.is_plain(place) {
+        if !self.is_plain(index) {
             return None;
         }
-        self.at(place).class
+        self.at(index).class
     }
 }

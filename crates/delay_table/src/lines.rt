@@ -10,19 +10,13 @@ ghost use Rattle.delay_table.specs.DelayColumns.{AreColumns};
 use crate::faults::{ClassName, DelayFault};
 use clock_text::read_whole;
 use csv_rows::{Column, Rows, read_name};
-use plan_model::Outcome;
+use plan_model::{Outcome, SECONDS_PER_DAY, WHOLE_WEIGHT};
 
 /// The greatest route type.
 const LAST_TYPE: u32 = 65_534;
 
 /// The last hour of a day.
 const LAST_HOUR: u32 = 23;
-
-/// A weight is no more than the weights of its group together.
-const WHOLE_WEIGHT: u32 = 10_000;
-
-/// A delay is at most a day.
-const SECONDS_PER_DAY: u32 = 86_400;
 
 /// An outcome, and the class, the route and the hour of its group. The class is a route type, and none for `*`.
 #[derive(Clone, Copy)]
@@ -33,7 +27,7 @@ pub(crate) struct DelayLine<'a> {
     pub(crate) outcome: Outcome,
 }
 
-/// The places of the columns.
+/// The indexes of the columns.
 #[derive(Clone, Copy)]
 pub(crate) struct Columns {
     class: Option<usize>,
@@ -43,7 +37,7 @@ pub(crate) struct Columns {
     hour: Option<usize>,
 }
 
-/// The places of the columns in this table.
+/// The indexes of the columns in this table.
 pub(crate) fn columns_of(rows: &Rows) -> Columns
     ensures { AreColumns rows.now result }
 {
@@ -56,7 +50,7 @@ pub(crate) fn columns_of(rows: &Rows) -> Columns
     }
 }
 
-/// The rows of a delay file, and the places of its columns.
+/// The rows of a delay file, and the indexes of its columns.
 #[derive(Clone, Copy)]
 pub(crate) struct DelayRows<'a> {
     pub(crate) rows: &'a Rows,
@@ -64,7 +58,7 @@ pub(crate) struct DelayRows<'a> {
     ghost are: { AreColumns rows.now columns },
 }
 
-/// The fault of a column that is not there.
+/// `MissingColumn` of a column that is not in the header; `None` if it is.
 fn lacks(rows: &Rows, column: Column) -> Option<DelayFault>
     ensures { result ≡ lacks rows.now column }
 {
@@ -74,7 +68,7 @@ fn lacks(rows: &Rows, column: Column) -> Option<DelayFault>
     None
 }
 
-/// The fault of the first required column that is not there.
+/// `MissingColumn` of the first required column that is not in the header; `None` if all are.
 pub(crate) fn missing_column(rows: &Rows) -> Option<DelayFault>
     ensures { result ≡ missing_column rows.now }
 {
@@ -100,7 +94,7 @@ fn read_class(text: &[u8]) -> Option<Option<u16>>
     }
 }
 
-/// A route, which a row of the class `*` alone may tell.
+/// A route, which only a row of the class `*` may have.
 fn read_route(class: Option<u16>, text: &[u8]) -> Option<Option<&str>>
     ensures { option_map (option_map (λ s. s.now)) result ≡ route_in class text.now }
 {
@@ -140,7 +134,7 @@ fn read_weight(text: &[u8]) -> Option<u16>
     Some(weight as u16)
 }
 
-/// The row of these fields, where each is of its form.
+/// The row of these fields; `None` if one is not of its form.
 fn read_line<'a>(
     class: &'a [u8],
     delay: &'a [u8],
@@ -166,7 +160,7 @@ fn read_line<'a>(
     })
 }
 
-/// The row at a place, where each of its fields is of its form.
+/// The row at an index; `None` if one of its fields is not of its form.
 pub(crate) fn line_at<'a>(table: &DelayRows<'a>, row: usize) -> Option<DelayLine<'a>>
     requires { row < row_count table.now.rows.now }
     ensures line { option_map (λ l. record {

@@ -1,4 +1,4 @@
-//! Groups by the numbers of their routes, and the place of each.
+//! Groups by the numbers of their routes, and the index of each.
 ghost use Rattle.std.specs.Prelude.{◌≡◌, ◌++◌, ◌∷◌, [], OnErr, OnOk, is_some, position, false};
 ghost use Rattle.std.specs.List.{list_any};
 ghost use Rattle.delay_table.specs.Numbered.{same_numbered};
@@ -16,18 +16,18 @@ pub(crate) struct NumberedGroup {
     pub(crate) hour: Option<u8>,
 }
 
-/// Groups in the order in which they were added, and the place of each.
+/// Groups in the order in which they were added, and the index of each.
 pub(crate) struct NumberedGroups {
     list: Vec<NumberedGroup>,
-    places: HashMap<NumberedGroup, usize, HashKey>,
+    indexes: HashMap<NumberedGroup, usize, HashKey>,
 }
 
 impl Drop for NumberedGroups {
-    /// Lets go of its parts here, so that a caller lets go of one value.
+    /// Drops its parts here, so that a caller drops one value.
     fn drop(self) {
         let NumberedGroups {
             list: _list,
-            places: _places,
+            indexes: _indexes,
         } = self;
     }
 }
@@ -38,11 +38,11 @@ impl Model for NumberedGroups {
 
     ghost Value = { List Keyed };
 
-    ghost use Rattle.delay_table.specs.Numbered.{AreAtPlaces};
+    ghost use Rattle.delay_table.specs.Numbered.{AreAtIndexes};
 
     ghost view = { λ s. s.list.items };
 
-    ghost invariant = { AreAtPlaces };
+    ghost invariant = { AreAtIndexes };
 }
 
 impl NumberedGroups {
@@ -52,16 +52,16 @@ impl NumberedGroups {
     {
         NumberedGroups {
             list: Vec::new(alloc),
-            places: HashMap::with_hasher(alloc, key),
+            indexes: HashMap::with_hasher(alloc, key),
         }
     }
 
-    /// The place of a group, if it is there.
-    pub(crate) fn place(&self, group: &NumberedGroup) -> Option<usize>
-        ensures place { result ≡ position (same_numbered group.now) self.now }
+    /// The index of a group; `None` if it was not added.
+    pub(crate) fn index_of(&self, group: &NumberedGroup) -> Option<usize>
+        ensures index { result ≡ position (same_numbered group.now) self.now }
         ensures found { is_some result ≡ list_any (same_numbered group.now) self.now }
     {
-        self.places.get(group).copied()
+        self.indexes.get(group).copied()
     }
 
     /// Adds a group that is new.
@@ -71,7 +71,7 @@ impl NumberedGroups {
         ensures err { OnErr result (self.new ≡ self.old) }
     {
         self.list.reserve(1)?;
-        self.places.insert(group, self.list.len())?;
+        self.indexes.insert(group, self.list.len())?;
         self.list.push_reserved(group);
         Ok(())
     }

@@ -1,7 +1,7 @@
 //! The groups that name a route or an hour, by the numbers of their routes.
 ghost use Rattle.std.specs.Prelude.{◌≡◌, ◌+◌, ◌<◌, length, None, IfOk, IfSome, OnOk, option_map};
 ghost use Rattle.delay_table.specs.Delays.{others};
-ghost use Rattle.delay_table.specs.Groups.{group_place, numbered_route, routes_of, with_route};
+ghost use Rattle.delay_table.specs.Groups.{group_index, numbered_route, routes_of, with_route};
 ghost use Rattle.delay_table.specs.Numbered.{IsNumber, IsNumbering};
 
 use crate::numbered::{NumberedGroup, NumberedGroups};
@@ -18,7 +18,7 @@ struct Numbering<'a> {
     groups: NumberedGroups,
 }
 
-/// The number of a route, where one is told. One that is new goes last.
+/// The number of a route, if there is one. One that is new goes last.
 fn number_of<'a>(
     routes: &mut TextIndex<'a>,
     route: Option<&'a str>,
@@ -37,21 +37,21 @@ fn number_of<'a>(
     Ok(Some(number))
 }
 
-/// Adds the group at a place, where it names a route or an hour.
+/// Adds the group at an index, if it names a route or an hour.
 fn add_other<'a>(
     read: &ReadRows<'a>,
-    place: usize,
+    index: usize,
     numbering: &mut Numbering<'a>,
 ) -> Result<(), NoMemory>
-    requires place { place < length read.now.groups }
-    requires made { IsNumbering numbering.old.routes numbering.old.groups (others read.now.groups place) }
+    requires index { index < length read.now.groups }
+    requires made { IsNumbering numbering.old.routes numbering.old.groups (others read.now.groups index) }
     ensures { OnOk result (IsNumbering numbering.new.routes numbering.new.groups
-        (others read.now.groups (place + 1))) }
+        (others read.now.groups (index + 1))) }
 {
-    if read.groups.is_plain(place) {
+    if read.groups.is_plain(index) {
         return Ok(());
     }
-    let group = read.groups.at(place);
+    let group = read.groups.at(index);
     let route = number_of(&mut numbering.routes, group.route)?;
     numbering.groups.add(NumberedGroup {
         class: group.class,
@@ -73,8 +73,8 @@ fn numbering_of<'a>(
         routes: TextIndex::new(alloc, key),
         groups: NumberedGroups::with_key(alloc, key),
     };
-    for place in 0..read.groups.len() {
-        add_other(read, place, &mut numbering)?;
+    for index in 0..read.groups.len() {
+        add_other(read, index, &mut numbering)?;
     }
     Ok(numbering)
 }
@@ -86,7 +86,7 @@ pub(crate) struct OtherGroups {
 }
 
 impl Drop for OtherGroups {
-    /// Lets go of its parts here, so that a caller lets go of one value.
+    /// Drops its parts here, so that a caller drops one value.
     fn drop(self) {
         let OtherGroups {
             routes: _routes,
@@ -129,21 +129,21 @@ impl OtherGroups {
         &self.routes
     }
 
-    /// The place of a group, by the number of its route, if it is there.
-    pub(crate) fn place(
+    /// The index of a group, by the number of its route; `None` if there is no such group.
+    pub(crate) fn index_of(
         &self,
         class: Option<u16>,
         route: Option<u32>,
         hour: Option<u8>,
     ) -> Option<usize>
         requires { IfSome route (λ n. n < length (routes_of self.now)) }
-        ensures place { result ≡ group_place (record {
+        ensures index { result ≡ group_index (record {
           class = class;
           route = numbered_route (routes_of self.now) route;
           hour = hour;
         }) self.now }
-        ensures inside { IfSome result (λ place. place < length self.now) }
+        ensures inside { IfSome result (λ index. index < length self.now) }
     {
-        self.groups.place(&NumberedGroup { class, route, hour })
+        self.groups.index_of(&NumberedGroup { class, route, hour })
     }
 }

@@ -2,7 +2,7 @@
 ghost use Rattle.std.specs.Prelude.{◌≡◌, ◌≢◌, ◌+◌, ◌<◌, ◌++◌, ◌∷◌, [], length, Some, None, OnOk, IfOk, IfErr, option_map};
 ghost use Rattle.csv_rows.specs.First.{first_below};
 ghost use Rattle.csv_rows.specs.Tables.{row_count};
-ghost use Rattle.delay_table.specs.Groups.{group_in, of_class, group_place};
+ghost use Rattle.delay_table.specs.Groups.{group_in, of_class, group_index};
 ghost use Rattle.delay_table.specs.Delays.{fault_after, line_fault, line_with, too_many};
 ghost use Rattle.delay_table.specs.Read.{AddsRow, IsPushed, IsRead, IsReadTo, line_at, group_rows_at, read_outcomes};
 
@@ -15,7 +15,7 @@ use std::alloc::Global;
 /// A group has no more rows.
 const MOST_ROWS: usize = 64;
 
-/// The outcomes of a group, and the line where it begins.
+/// The outcomes of a group, and the line at which it begins.
 #[derive(Drop)]
 pub(crate) struct GroupRows {
     pub(crate) line: u64,
@@ -69,30 +69,30 @@ fn fault_after(earlier: &[Outcome], line: &DelayLine<'_>, number: u64) -> Option
     }
 }
 
-/// The outcomes of the group at a place.
-fn outcomes_at(rows: &[GroupRows], place: usize) -> &[Outcome]
-    requires { place < length rows.now }
-    ensures { result.now ≡ (group_rows_at rows.now place).outcomes }
+/// The outcomes of the group at an index.
+fn outcomes_at(rows: &[GroupRows], index: usize) -> &[Outcome]
+    requires { index < length rows.now }
+    ensures { result.now ≡ (group_rows_at rows.now index).outcomes }
 {
-    rows[place].outcomes.as_slice()
+    rows[index].outcomes.as_slice()
 }
 
 impl<'a> Reading<'a> {
-    /// Adds a row to those of a group that is there.
-    fn push(&mut self, place: usize, line: &DelayLine<'_>, number: u64) -> Result<(), DelayFault>
-        requires { place < length self.old.rows.items }
+    /// Adds a row to those of a group that has rows.
+    fn push(&mut self, index: usize, line: &DelayLine<'_>, number: u64) -> Result<(), DelayFault>
+        requires { index < length self.old.rows.items }
         ensures groups { self.new.groups ≡ self.old.groups }
-        ensures none { OnOk result (fault_after (group_rows_at self.old.rows.items place).outcomes
+        ensures none { OnOk result (fault_after (group_rows_at self.old.rows.items index).outcomes
             (line_with line.now.class (option_map (λ s. s.now) line.now.route)
             line.now.hour line.now.outcome) number ≡ None) }
         ensures pushed { OnOk result
-            (IsPushed self.old.rows.items self.new.rows.items place line.now.outcome) }
+            (IsPushed self.old.rows.items self.new.rows.items index line.now.outcome) }
         ensures err { IfErr result (λ f. f ≢ DelayFault.NoMemory
-            → fault_after (group_rows_at self.old.rows.items place).outcomes
+            → fault_after (group_rows_at self.old.rows.items index).outcomes
             (line_with line.now.class (option_map (λ s. s.now) line.now.route)
             line.now.hour line.now.outcome) number ≡ Some f) }
     {
-        let row: &mut List<Outcome> = &mut self.rows[place].outcomes;
+        let row: &mut List<Outcome> = &mut self.rows[index].outcomes;
         if let Some(fault) = fault_after(row.as_slice(), line, number) {
             return Err(fault);
         }
@@ -113,10 +113,8 @@ impl<'a> Reading<'a> {
             line: number,
             outcomes,
         };
-        match self.rows.push(row) {
-            Ok(()) => Ok(()),
-            Err(_) => Err(DelayFault::NoMemory),
-        }
+        self.rows.push(row)?;
+        Ok(())
     }
 
     /// Adds a row to those of its group.
@@ -142,14 +140,14 @@ impl<'a> Reading<'a> {
             route: line.route,
             hour: line.hour,
         };
-        let place = self.groups.number(group)?;
-        match place {
-            Some(place) => self.push(place, line, number),
+        let index = self.groups.number(group)?;
+        match index {
+            Some(index) => self.push(index, line, number),
             None => self.begin(alloc, line, number),
         }
     }
 
-    /// Adds the row at a place of a table, those before which are read.
+    /// Adds the row of this number, if those before it are read.
     fn add_line(
         &mut self,
         alloc: Global,
@@ -171,30 +169,30 @@ impl<'a> Reading<'a> {
 }
 
 impl<'a> ReadRows<'a> {
-    /// The outcomes of a class alone, none where it is not named.
+    /// The outcomes of a class alone, none if it is not named.
     pub(crate) fn class_rows(&self, class: Option<u16>) -> &[Outcome]
         ensures { result.now ≡ read_outcomes self.now.groups self.now.rows.items (of_class class) }
     {
-        match self.groups.class_place(class) {
-            Some(place) => outcomes_at(self.rows.as_slice(), place),
+        match self.groups.class_index(class) {
+            Some(index) => outcomes_at(self.rows.as_slice(), index),
             None => &[],
         }
     }
 
-    /// The outcomes of the group at a place.
-    pub(crate) fn group_rows(&self, place: usize) -> &[Outcome]
-        requires { place < length self.now.groups }
-        ensures { result.now ≡ read_outcomes self.now.groups self.now.rows.items (group_in self.now.groups place) }
+    /// The outcomes of the group at an index.
+    pub(crate) fn group_rows(&self, index: usize) -> &[Outcome]
+        requires { index < length self.now.groups }
+        ensures { result.now ≡ read_outcomes self.now.groups self.now.rows.items (group_in self.now.groups index) }
     {
-        outcomes_at(self.rows.as_slice(), place)
+        outcomes_at(self.rows.as_slice(), index)
     }
 
-    /// The line where the group at a place begins.
-    pub(crate) fn line(&self, place: usize) -> u64
-        requires { place < length self.now.groups }
-        ensures { result ≡ line_at self.now.rows.items place }
+    /// The line at which the group at an index begins.
+    pub(crate) fn line(&self, index: usize) -> u64
+        requires { index < length self.now.groups }
+        ensures { result ≡ line_at self.now.rows.items index }
     {
-        self.rows[place].line
+        self.rows[index].line
     }
 }
 

@@ -8,13 +8,10 @@ ghost use Rattle.delay_table.specs.Read.{line_at, read_outcomes};
 use crate::faults::DelayFault;
 use crate::lines::class_name;
 use crate::reading::ReadRows;
-use plan_model::Outcome;
+use plan_model::{Outcome, WHOLE_WEIGHT};
 
 /// How many groups there may be.
 const MOST_GROUPS: u64 = 1 << 16;
-
-/// The weights of a group add up to it.
-const WHOLE_WEIGHT: u32 = 10_000;
 
 /// The sum of the weights of a row.
 fn weight_sum(row: &[Outcome]) -> u32
@@ -28,7 +25,7 @@ fn weight_sum(row: &[Outcome]) -> u32
     sum
 }
 
-/// The sum of the weights of a row, where there is one and it is not the whole.
+/// The sum of the weights of a row, if there is one and it is not the whole.
 fn other_sum(row: &[Outcome]) -> Option<u32>
     requires { length row.now ≤ most_rows }
     ensures { result ≡ other_sum row.now }
@@ -58,8 +55,8 @@ fn type_fault(read: &ReadRows<'_>, types: &[u16]) -> Option<DelayFault>
     ensures { result ≡ first_below (type_sum_at (read_outcomes read.now.groups read.now.rows.items) types.now)
         (length types.now) }
 {
-    for place in 0..types.len() {
-        if let Some(fault) = class_sum(read, Some(types[place])) {
+    for index in 0..types.len() {
+        if let Some(fault) = class_sum(read, Some(types[index])) {
             return Some(fault);
         }
     }
@@ -67,16 +64,16 @@ fn type_fault(read: &ReadRows<'_>, types: &[u16]) -> Option<DelayFault>
 }
 
 /// The fault of a group, if it names a route or an hour.
-fn group_sum(read: &ReadRows<'_>, place: usize) -> Option<DelayFault>
-    requires { place < length read.now.groups }
+fn group_sum(read: &ReadRows<'_>, index: usize) -> Option<DelayFault>
+    requires { index < length read.now.groups }
     ensures { result ≡ group_sum_at (read_outcomes read.now.groups read.now.rows.items)
-        read.now.groups (line_at read.now.rows.items) place }
+        read.now.groups (line_at read.now.rows.items) index }
 {
-    if read.groups.is_plain(place) {
+    if read.groups.is_plain(index) {
         return None;
     }
-    let line = read.line(place);
-    match other_sum(read.group_rows(place)) {
+    let line = read.line(index);
+    match other_sum(read.group_rows(index)) {
         None => None,
         Some(sum) => Some(DelayFault::GroupSum(line, sum)),
     }
@@ -87,8 +84,8 @@ fn group_fault(read: &ReadRows<'_>) -> Option<DelayFault>
     ensures { result ≡ first_below (group_sum_at (read_outcomes read.now.groups read.now.rows.items)
         read.now.groups (line_at read.now.rows.items)) (length read.now.groups) }
 {
-    for place in 0..read.groups.len() {
-        if let Some(fault) = group_sum(read, place) {
+    for index in 0..read.groups.len() {
+        if let Some(fault) = group_sum(read, index) {
             return Some(fault);
         }
     }
@@ -115,7 +112,7 @@ fn too_many(count: u64) -> Option<DelayFault>
     None
 }
 
-/// The first fault of the groups, where these are the route types that are named.
+/// The first fault of the groups; these are the route types that are named.
 pub(crate) fn groups_fault(read: &ReadRows<'_>, types: &[u16]) -> Option<DelayFault>
     requires { types.now ≡ route_types_below (read_outcomes read.now.groups read.now.rows.items) end_of_types }
     ensures { result ≡ groups_fault (read_outcomes read.now.groups read.now.rows.items)

@@ -14,7 +14,9 @@ use crate::reading::{ReadRows, read_rows};
 use crate::sums::groups_fault;
 use crate::types::named_types;
 use csv_rows::Rows;
-use plan_model::{ClassId, HashKey, List, Moment, NoMemory, Outcome, TextList};
+use plan_model::{
+    ClassId, HOURS_PER_DAY, HashKey, List, Moment, NoMemory, Outcome, SECONDS_PER_HOUR, TextList,
+};
 use std::alloc::Global;
 use std::marker::Model;
 
@@ -27,7 +29,7 @@ pub struct DelayTable {
 }
 
 impl Drop for DelayTable {
-    /// Lets go of its parts here, so that a caller lets go of one value.
+    /// Drops its parts here, so that a caller drops one value.
     fn drop(self) {
         let DelayTable {
             types: _types,
@@ -90,20 +92,20 @@ fn type_classes(
     Ok(classes)
 }
 
-/// Adds the outcomes of the group at a place, where it names a route or an hour.
+/// Adds the outcomes of the group at an index, if it names a route or an hour.
 fn add_other(
     alloc: Global,
     read: &ReadRows<'_>,
-    place: usize,
+    index: usize,
     classes: &mut List<List<Outcome>>,
 ) -> Result<(), NoMemory>
-    requires { place < length read.now.groups }
+    requires { index < length read.now.groups }
     ensures { OnOk result (classes.new ≡ classes.old
-        ++ if_other (group_in read.now.groups place)
-        (read_outcomes read.now.groups read.now.rows.items (group_in read.now.groups place))) }
+        ++ if_other (group_in read.now.groups index)
+        (read_outcomes read.now.groups read.now.rows.items (group_in read.now.groups index))) }
 {
-    if !read.groups.is_plain(place) {
-        let copy = copied(alloc, read.group_rows(place))?;
+    if !read.groups.is_plain(index) {
+        let copy = copied(alloc, read.group_rows(index))?;
         classes.push(copy)?;
     }
     Ok(())
@@ -119,13 +121,13 @@ fn add_others(
         ++ map (read_outcomes read.now.groups read.now.rows.items)
         (others read.now.groups (length read.now.groups))) }
 {
-    for place in 0..read.groups.len() {
-        add_other(alloc, read, place, classes)?;
+    for index in 0..read.groups.len() {
+        add_other(alloc, read, index, classes)?;
     }
     Ok(())
 }
 
-/// The table of these outcomes, where these are the route types that are named.
+/// The table of these outcomes; these are the route types that are named.
 fn delays_in(
     alloc: Global,
     key: HashKey,
@@ -171,10 +173,8 @@ fn table_of(alloc: Global, key: HashKey, read: &ReadRows<'_>) -> Result<DelayTab
     if let Some(fault) = groups_fault(read, types.as_slice()) {
         return Err(fault);
     }
-    match delays_in(alloc, key, read, types) {
-        Ok(table) => Ok(table),
-        Err(_) => Err(DelayFault::NoMemory),
-    }
+    let table = delays_in(alloc, key, read, types)?;
+    Ok(table)
 }
 
 /// The route type of a class, and none for `*`.
@@ -187,10 +187,6 @@ fn class_type(class: ClassName) -> Option<u16>
     }
 }
 
-const SECONDS_PER_HOUR: u64 = 3_600;
-
-const HOURS_PER_DAY: u64 = 24;
-
 /// The hour of the day of a moment.
 fn hour_of(moment: Moment) -> u8
     ensures { result ≡ hour_of moment.0 }
@@ -200,7 +196,9 @@ fn hour_of(moment: Moment) -> u8
 
 impl DelayTable {
     /// The delays of a table with the columns `class`, `delay` and `weight`, or the first of its faults. A class is `*` or a
-    /// route type. Rows of one class need not stand together; they are taken in the order of the file.
+    /// route type. Rows of one class need not be neighbours; they are taken in the order of the file. The faults come in this
+    /// order: `MissingColumn`; then by line `BadField`, `TooManyRows` or `GroupRows`, `NotRising`; then `TooManyClasses`;
+    /// `WeightSum` of `*` and of the route types as they rise; `GroupSum` by first line; and `NoDefault`.
     pub fn read(alloc: Global, rows: &Rows) -> Result<DelayTable, DelayFault>
         ensures table { IfOk result (λ table. table ≡ delays_of rows.now) }
         ensures sound { IfOk result (λ table. AreDelays table) }
@@ -219,7 +217,7 @@ impl DelayTable {
         table_of(alloc, rows.key(), &read)
     }
 
-    /// The class of a route type: 0, that of `*`, where the table does not name it, and else its place among the named ones
+    /// The class of a route type: 0, that of `*`, if the table does not name it, and else its position among the named ones
     /// in rising order, from 1 on.
     pub fn class_of(&self, route_type: u16) -> ClassId
         ensures class { IsClassOf self.now.types route_type result.0 }
@@ -227,7 +225,7 @@ impl DelayTable {
         ensures sound { AreDelays self.now }
     {
         match self.types.as_slice().binary_search(&route_type) {
-            Ok(place) => ClassId(place as u16 + 1),
+            Ok(index) => ClassId(index as u16 + 1),
             Err(_) => ClassId(0),
         }
     }
@@ -241,14 +239,14 @@ impl DelayTable {
         ClassId(0)
     }
 
-    /// The routes that the rows name, each once, in the order in which they first stand.
+    /// The routes that the rows name, each once, in the order of their first rows.
     pub fn routes(&self) -> &TextList
         ensures { result.now ≡ routes_of self.now.others }
     {
         self.others.routes()
     }
 
-    /// The class of a group that names a route or an hour, where it is there.
+    /// The class of a group that names a route or an hour; `None` if there is no such group.
     fn other_class(
         &self,
         class: Option<u16>,
@@ -263,11 +261,11 @@ impl DelayTable {
         }) }
         ensures in_range { IfSome result (λ c. c.0 < length self.now.classes) }
     {
-        let place = self.others.place(class, route, hour)?;
-        Some(ClassId((self.types.len() + 1 + place) as u16))
+        let index = self.others.index_of(class, route, hour)?;
+        Some(ClassId((self.types.len() + 1 + index) as u16))
     }
 
-    /// The class of a route, where it is told and there.
+    /// The class of a route; `None` if there is no route, or no such group.
     fn route_class(&self, route: Option<u32>, hour: Option<u8>) -> Option<ClassId>
         requires { IfSome route (λ n. n < length (routes_of self.now.others)) }
         ensures class { option_map (λ c. c.0) result
@@ -280,7 +278,7 @@ impl DelayTable {
         self.other_class(None, route, hour)
     }
 
-    /// The class of `*`, or of a route type where it is named.
+    /// The class of `*`, or of a route type; `None` if that is not named.
     fn type_class(&self, class: Option<u16>) -> Option<ClassId>
         ensures class { option_map (λ c. c.0) result ≡ type_class self.now class }
         ensures in_range { IfSome result (λ c. c.0 < length self.now.classes) }
@@ -331,8 +329,8 @@ impl DelayTable {
         self.numbered_class(class_type(class), route, hour_of(arrival))
     }
 
-    /// The class of a connection, by its class, its route where it has one, and its arrival: that of the first group that is
-    /// there among those of this route and hour, of this route, of this class and hour, of this class, of `*` and this hour,
+    /// The class of a connection, by its class, its route if it has one, and its arrival: that of the first group that
+    /// exists among those of this route and hour, of this route, of this class and hour, of this class, of `*` and this hour,
     /// and of `*`. The hour is the civil hour of the arrival.
     pub fn class_for(&self, class: ClassName, route: Option<&str>, arrival: Moment) -> ClassId
         ensures class { result.0 ≡ class_for self.now (class_type class)

@@ -10,13 +10,13 @@ use crate::reading::ReadRows;
 use plan_model::NoMemory;
 use std::alloc::Global;
 
-/// Adds the route type of a group, where it is of a route type alone.
-fn add_type(types: &mut Vec<u16>, groups: &Groups<'_>, place: usize) -> Result<(), NoMemory>
-    requires { place < length groups.now }
+/// Adds the route type of a group, if it is of a route type alone.
+fn add_type(types: &mut Vec<u16>, groups: &Groups<'_>, index: usize) -> Result<(), NoMemory>
+    requires { index < length groups.now }
     ensures { OnOk result (types.new.items
-        ≡ types.old.items ++ listed (plain_type (group_in groups.now place))) }
+        ≡ types.old.items ++ listed (plain_type (group_in groups.now index))) }
 {
-    if let Some(route_type) = groups.plain_type(place) {
+    if let Some(route_type) = groups.plain_type(index) {
         types.push(route_type)?;
     }
     Ok(())
@@ -27,8 +27,8 @@ fn plain_types(alloc: Global, groups: &Groups<'_>) -> Result<Vec<u16>, NoMemory>
     ensures { IfOk result (λ types. types.items ≡ plain_types groups.now (length groups.now)) }
 {
     let mut types: Vec<u16> = Vec::new(alloc);
-    for place in 0..groups.len() {
-        add_type(&mut types, groups, place)?;
+    for index in 0..groups.len() {
+        add_type(&mut types, groups, index)?;
     }
     Ok(types)
 }

@@ -5,7 +5,7 @@ use Rattle.delay_table.proofs.NumberedFacts.{numbering-none}
 use Rattle.delay_table.proofs.Others.{others-zero}
 use Rattle.delay_table.proofs.other_groups.numbering_of.Goals as goal
 
-pub loop-place-init : goal.loop-place-init
-loop-place-init c =
+pub loop-index-init : goal.loop-index-init
+loop-index-init c =
     let P : List Group → Type 0 = λ gs. IsNumbering c.new.result c.with_key.result gs in
     subst P (sym (others-zero c.args.read.now.groups)) (numbering-none c.new.result c.with_key.result c.new.ensures c.with_key.ensures)

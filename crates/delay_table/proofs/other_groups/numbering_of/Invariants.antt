@@ -2,5 +2,5 @@ use Rattle.delay_table.specs.Delays.{others}
 use Rattle.delay_table.specs.Numbered.{IsNumbering}
 use Rattle.delay_table.proofs.other_groups.numbering_of.Given as goal
 
-abbrev pub invariant-loop-place : goal.invariant-loop-place
-invariant-loop-place l = IsNumbering l.numbering.routes l.numbering.groups (others l.read.groups l.place)
+abbrev pub invariant-loop-index : goal.invariant-loop-index
+invariant-loop-index l = IsNumbering l.numbering.routes l.numbering.groups (others l.read.groups l.index)

@@ -4,16 +4,16 @@ use Rattle.delay_table.specs.Delays.{group_sum_at}
 use Rattle.delay_table.specs.Read.{line_at, read_outcomes}
 use Rattle.delay_table.proofs.sums.group_fault.Goals as goal
 
-pub loop-place-init : goal.loop-place-init
-loop-place-init c = first-zero (group_sum_at (read_outcomes c.args.read.now.groups c.args.read.now.rows.items) c.args.read.now.groups (line_at c.args.read.now.rows.items))
+pub loop-index-init : goal.loop-index-init
+loop-index-init c = first-zero (group_sum_at (read_outcomes c.args.read.now.groups c.args.read.now.rows.items) c.args.read.now.groups (line_at c.args.read.now.rows.items))
 
 pub returns-in-Some : goal.returns-in-Some
 returns-in-Some c =
     sym (first-at (group_sum_at (read_outcomes c.args.read.now.groups c.args.read.now.rows.items) c.args.read.now.groups
-    (line_at c.args.read.now.rows.items)) c.loop-place.place (length c.args.read.now.groups) c.in-Some.fault (omega arith) c.loop-place.invariant
+    (line_at c.args.read.now.rows.items)) c.loop-index.index (length c.args.read.now.groups) c.in-Some.fault (omega arith) c.loop-index.invariant
     (sym c.in-Some.ensures))
 
-pub loop-place-preserved : goal.loop-place-preserved
-loop-place-preserved c =
+pub loop-index-preserved : goal.loop-index-preserved
+loop-index-preserved c =
     first-next (group_sum_at (read_outcomes c.args.read.now.groups c.args.read.now.rows.items) c.args.read.now.groups
-    (line_at c.args.read.now.rows.items)) c.loop-place.place None c.loop-place.invariant (sym c.in_default.ensures)
+    (line_at c.args.read.now.rows.items)) c.loop-index.index None c.loop-index.invariant (sym c.in_default.ensures)

@@ -4,5 +4,5 @@ use Rattle.delay_table.specs.Delays.{group_sum_at}
 use Rattle.delay_table.specs.Read.{line_at, read_outcomes}
 use Rattle.delay_table.proofs.sums.group_fault.Given as goal
 
-abbrev pub invariant-loop-place : goal.invariant-loop-place
-invariant-loop-place l = first_below (group_sum_at (read_outcomes l.read.groups l.read.rows.items) l.read.groups (line_at l.read.rows.items)) l.place ≡ None
+abbrev pub invariant-loop-index : goal.invariant-loop-index
+invariant-loop-index l = first_below (group_sum_at (read_outcomes l.read.groups l.read.rows.items) l.read.groups (line_at l.read.rows.items)) l.index ≡ None

@@ -3,5 +3,5 @@ use Rattle.delay_table.specs.Delays.{others}
 use Rattle.delay_table.specs.Read.{read_outcomes}
 use Rattle.delay_table.proofs.table.add_others.Given as goal
 
-abbrev pub invariant-loop-place : goal.invariant-loop-place
-invariant-loop-place l = l.classes ≡ l.initial.classes ++ map (read_outcomes l.read.groups l.read.rows.items) (others l.read.groups l.place)
+abbrev pub invariant-loop-index : goal.invariant-loop-index
+invariant-loop-index l = l.classes ≡ l.initial.classes ++ map (read_outcomes l.read.groups l.read.rows.items) (others l.read.groups l.index)

@@ -1,22 +1,22 @@
 use Rattle.std.proofs.Common.{◌∙◌, sym, ap}
-use Rattle.delay_table.specs.Groups.{group_place, with_group}
+use Rattle.delay_table.specs.Groups.{group_index, with_group}
 use Rattle.delay_table.specs.Numbered.{line_group}
 use Rattle.delay_table.proofs.LineGroups.{told-new, told-there, lines-next}
 use Rattle.delay_table.proofs.groups.Groups.number.Goals as goal
 
-pub returns-then-is_new-clause-place : goal.returns-then-is_new-clause-place
-returns-then-is_new-clause-place c =
-    told-new c.args.group c.self.inside.groups.keys (sym c.in_ok-place.ensures.added ∙ c.if-is_new.true) ∙ ap (group_place (line_group c.args.group)) c.self.view_is
+pub returns-then-is_new-clause-index : goal.returns-then-is_new-clause-index
+returns-then-is_new-clause-index c =
+    told-new c.args.group c.self.inside.groups.keys (sym c.in_ok-index.ensures.added ∙ c.if-is_new.true) ∙ ap (group_index (line_group c.args.group)) c.self.view_is
 
 pub returns-then-is_new-clause-groups : goal.returns-then-is_new-clause-groups
 returns-then-is_new-clause-groups c =
-    lines-next c.args.group c.self.inside.groups.keys c.insert_full.new.self.keys c.in_ok-place.ensures.keys ∙ ap (λ gs. with_group gs (line_group c.args.group)) c.self.view_is
+    lines-next c.args.group c.self.inside.groups.keys c.insert_full.new.self.keys c.in_ok-index.ensures.keys ∙ ap (λ gs. with_group gs (line_group c.args.group)) c.self.view_is
 
-pub returns-clause-place : goal.returns-clause-place
-returns-clause-place c =
-    told-there c.args.group c.self.inside.groups.keys c.in_ok-place.place (sym c.in_ok-place.ensures.added ∙ c.if-is_new.false) c.in_ok-place.ensures.index
-    ∙ ap (group_place (line_group c.args.group)) c.self.view_is
+pub returns-clause-index : goal.returns-clause-index
+returns-clause-index c =
+    told-there c.args.group c.self.inside.groups.keys c.in_ok-index.index (sym c.in_ok-index.ensures.added ∙ c.if-is_new.false) c.in_ok-index.ensures.index
+    ∙ ap (group_index (line_group c.args.group)) c.self.view_is
 
 pub returns-clause-groups : goal.returns-clause-groups
 returns-clause-groups c =
-    lines-next c.args.group c.self.inside.groups.keys c.insert_full.new.self.keys c.in_ok-place.ensures.keys ∙ ap (λ gs. with_group gs (line_group c.args.group)) c.self.view_is
+    lines-next c.args.group c.self.inside.groups.keys c.insert_full.new.self.keys c.in_ok-index.ensures.keys ∙ ap (λ gs. with_group gs (line_group c.args.group)) c.self.view_is

@@ -8,13 +8,13 @@ use Rattle.delay_table.proofs.reading.ReadRows.class_rows.Goals as goal
 
 pub returns-in-Some : goal.returns-in-Some
 returns-in-Some c =
-    c.outcomes_at.ensures ∙ ap (λ (xs : List GroupRows). (group_rows_at xs c.in-Some.place).outcomes) c.as_slice.ensures.value
-    ∙ rows-known c.args.self.now.groups c.args.self.now.rows.items (of_class c.args.class) c.in-Some.place c.in-Some.ensures
+    c.outcomes_at.ensures ∙ ap (λ (xs : List GroupRows). (group_rows_at xs c.in-Some.index).outcomes) c.as_slice.ensures.value
+    ∙ rows-known c.args.self.now.groups c.args.self.now.rows.items (of_class c.args.class) c.in-Some.index c.in-Some.ensures
 
 pub returns-in-None : goal.returns-in-None
 returns-in-None c = rows-new c.args.self.now.groups c.args.self.now.rows.items (of_class c.args.class) c.in-None.ensures
 
 pub outcomes_at-requires : goal.outcomes_at-requires
 outcomes_at-requires c =
-    let here = group-here (of_class c.args.class) c.args.self.now.groups c.in-Some.place (sym c.in-Some.ensures) in
+    let here = group-here (of_class c.args.class) c.args.self.now.groups c.in-Some.index (sym c.in-Some.ensures) in
     omega (arith, here.0, c.args.self.now.read.size, ap length c.as_slice.ensures.value)

@@ -1,4 +1,4 @@
--- The places of elements in a list to which one is added.
+-- The indexes of elements in a list to which one is added.
 use Rattle.std.proofs.Common.{◌≡◌, ℕ, ◌+◌, Bool, true, false, cond, List, [], ◌∷◌, ◌++◌, length, Option, Some, None, is_some, refl, sym, ap, ◌∙◌, subst, arith}
 use Rattle.std.proofs.Common.{⊎_elim, position}
 use Rattle.std.specs.List.{list_any, position_from}
@@ -15,7 +15,7 @@ module _ {X : Type 0} (test : X → Bool) where
   any-from i (x ∷ xs) =
       ⊎_elim (λ (t : test x ≡ true). rw t refl) (λ (f : test x ≡ false). rw f (any-from (i + 1) xs)) (cases_Bool (test x))
 
-  -- it has a place where one passes
+  -- it has a index where one passes
   pub any-position : (xs : List X) → is_some (position test xs) ≡ list_any test xs
   any-position xs = ap is_some (position_from-zero test xs) ∙ any-from 0 xs
 
@@ -31,26 +31,26 @@ module _ {X : Type 0} (test : X → Bool) where
       ∙ push-from 0 xs y (length xs) (omega arith)
       ∙ ap (λ o. option_or o (cond (test y) (Some (length xs)) None)) (sym (position_from-zero test xs))
 
-no-place : (o : Option ℕ) (b : Bool) → is_some o ≡ b → b ≡ false → o ≡ None
-no-place None b e f = refl
-no-place (Some n) b e f = absurd (cc)
+no-index : (o : Option ℕ) (b : Bool) → is_some o ≡ b → b ≡ false → o ≡ None
+no-index None b e f = refl
+no-index (Some n) b e f = absurd (cc)
 
 or-none : (o : Option ℕ) → option_or o None ≡ o
 or-none None = refl
 or-none (Some n) = refl
 
--- each group has its place after a new one was added
-pub places-push : (groups : List NumberedGroup) (group : NumberedGroup) (old new : NumberedGroup → Option ℕ) → list_any (same_numbered group) groups ≡ false
+-- each group has its index after a new one was added
+pub indexes-push : (groups : List NumberedGroup) (group : NumberedGroup) (old new : NumberedGroup → Option ℕ) → list_any (same_numbered group) groups ≡ false
     → ((g : NumberedGroup) → old g ≡ position (same_numbered g) groups) → ((g : NumberedGroup) → new g ≡ cond (same_numbered group g) (Some (length groups)) (old g))
     → (more : List NumberedGroup) → more ≡ groups ++ group ∷ [] → (g : NumberedGroup) → new g ≡ position (same_numbered g) more
-places-push groups group old new fresh were are more last g =
+indexes-push groups group old new fresh were are more last g =
     let n = length groups in
     let test = same_numbered g in
     let here = position test groups in
     let after : position test more ≡ option_or here (cond (test group) (Some n) None) = ap (position test) last ∙ position-push test groups group in
     ⊎_elim (λ (t : same_numbered group g ≡ true).
     let e = numbered-equal group g t in
-    let none = no-place here _ (any-position test groups) (subst (λ (x : NumberedGroup). list_any (same_numbered x) groups ≡ false) e fresh) in
+    let none = no-index here _ (any-position test groups) (subst (λ (x : NumberedGroup). list_any (same_numbered x) groups ≡ false) e fresh) in
     let same = numbered-true g group (sym e) in
     are g
     ∙ ap (λ b. cond b (Some n) (old g)) t

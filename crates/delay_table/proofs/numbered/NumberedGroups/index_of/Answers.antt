@@ -1,7 +1,7 @@
 use Rattle.std.proofs.Common.{is_some, ap, ◌∙◌, position}
 use Rattle.delay_table.specs.Numbered.{same_numbered}
-use Rattle.delay_table.proofs.PlaceFacts.{any-position}
-use Rattle.delay_table.proofs.numbered.NumberedGroups.place.Goals as goal
+use Rattle.delay_table.proofs.IndexFacts.{any-position}
+use Rattle.delay_table.proofs.numbered.NumberedGroups.index_of.Goals as goal
 
 pub returns-clause-found : goal.returns-clause-found
 returns-clause-found c =

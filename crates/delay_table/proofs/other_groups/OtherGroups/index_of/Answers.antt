@@ -2,14 +2,14 @@ use Rattle.std.proofs.Common.{◌∙◌, ap, sym, subst, IfSome, length, ℕ, Li
 use Rattle.plan_model.specs.NameLists.{AreDistinct}
 use Rattle.delay_table.specs.Groups.{numbered_route, routes_of}
 use Rattle.delay_table.proofs.RouteFacts.{routes-distinct}
-use Rattle.delay_table.proofs.NumberedFacts.{place-is}
-use Rattle.delay_table.proofs.other_groups.OtherGroups.place.Goals as goal
+use Rattle.delay_table.proofs.NumberedFacts.{index-is}
+use Rattle.delay_table.proofs.other_groups.OtherGroups.index_of.Goals as goal
 
-pub returns-clause-place : goal.returns-clause-place
-returns-clause-place c =
+pub returns-clause-index : goal.returns-clause-index
+returns-clause-index c =
     let s = c.self.inside in
     let routes = c.self.invariant.named ∙ ap routes_of c.self.view_is in
     let P : List (List ℕ) → Type 0 = λ xs. IfSome c.args.route (λ n. n < length xs) in
-    place-is s.routes s.groups (subst AreDistinct (sym routes) (routes-distinct c.args.self.now)) c.self.invariant.numbers c.args.self.now
+    index-is s.routes s.groups (subst AreDistinct (sym routes) (routes-distinct c.args.self.now)) c.self.invariant.numbers c.args.self.now
     c.args.class c.args.route c.args.hour (numbered_route (routes_of c.args.self.now) c.args.route) c.self.view_is
-    (subst P (sym routes) c.requires) (ap (λ xs. numbered_route xs c.args.route) routes) c.place.result c.place.ensures.place c.place.ensures.found
+    (subst P (sym routes) c.requires) (ap (λ xs. numbered_route xs c.args.route) routes) c.index_of.result c.index_of.ensures.index c.index_of.ensures.found

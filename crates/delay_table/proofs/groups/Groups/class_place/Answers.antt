@@ -1,9 +1,0 @@
-use Rattle.std.proofs.Common.{◌∙◌, ap, None}
-use Rattle.delay_table.specs.Groups.{group_place, of_class}
-use Rattle.delay_table.proofs.LineGroups.{line-place}
-use Rattle.delay_table.proofs.groups.Groups.class_place.Goals as goal
-
-pub returns : goal.returns
-returns c =
-    c.get_index_of.ensures.index ∙ line-place (record { class = c.args.class; route = None; hour = None }) c.self.inside.groups.keys
-    ∙ ap (group_place (of_class c.args.class)) c.self.view_is
