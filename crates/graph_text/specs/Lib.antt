@@ -4,4 +4,5 @@ pub mod Printable
 pub mod Reading
 pub mod GraphRows
 pub mod Asked
+pub mod FaultTexts
 pub mod FirstFaults

@@ -14,12 +14,13 @@ ghost use Rattle.printed_rows.specs.Fields.{is_kind};
 use crate::Head;
 use crate::version::{Version, width};
 use clock_text::{read_moment, read_nanos};
-use csv_rows::{Rows, RowsFault};
+use csv_rows::{Rows, RowsFault, at_line};
 use interval_fixed::Span;
 use plan_graph::{GraphRow, PlaceTable, PlanGraph};
 use plan_model::{Leg, List, Moment, Names, Network, NoMemory, PlaceId, Query, RunId};
 use printed_rows::{Record, connection_of, is_query, rises, whole};
 use std::alloc::Global;
+use std::fmt;
 use text_index::NameIndex;
 
 /// Why a text is no graph of a network and a question. A line is the number of a record, from 1 on.
@@ -60,6 +61,23 @@ impl From<NoMemory> for TextFault {
 
     fn from(_: NoMemory) -> Self {
         TextFault::NoMemory
+    }
+}
+
+impl fmt::Display for TextFault {
+    ghost use Rattle.graph_text.specs.FaultTexts.{graph_fault_text};
+
+    ghost output = { λ fault. Some (graph_fault_text fault) };
+
+    fn fmt<W: fmt::Write>(&self, f: &mut fmt::Formatter<W>) -> fmt::Result {
+        match *self {
+            TextFault::Row(line) => at_line(f, "graph file", line, "bad row"),
+            TextFault::UnknownName(line) => at_line(f, "graph file", line, "unknown name"),
+            TextFault::NotRising(line) => at_line(f, "graph file", line, "not rising"),
+            TextFault::NoLeg(line) => at_line(f, "graph file", line, "does not agree"),
+            TextFault::OtherQuery(line) => at_line(f, "graph file", line, "other query"),
+            TextFault::NoMemory => f.write_str("out of memory"),
+        }
     }
 }
 

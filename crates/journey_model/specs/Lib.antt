@@ -2,4 +2,5 @@ pub mod Faults
 pub mod Stages
 pub mod Sites
 pub mod Known
+pub mod FaultLines
 pub mod Wants

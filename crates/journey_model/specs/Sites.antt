@@ -1,4 +1,4 @@
--- Where in a timetable a fault is, and what is told of that.
+-- Where in a timetable a fault is, and the text of that.
 use Rattle.std.specs.Prelude.{ℕ, ◌<◌, ◌≤◌, List, [], ◌++◌, length, Option, None, Some, codes, decimal}
 use Rattle.clock_text.specs.Civil.{moment_text}
 pub use Rattle.clock_text.specs.Civil.{last_printable}
@@ -16,7 +16,7 @@ use Rattle.journey_model.specs.declared.faults.Fault.{Fault}
 use Rattle.journey_model.specs.declared.faults.Fault.TheVariants.{Words, Feed, Cut, Missing, Delays, UnknownStop, Limit, Read, NoSafe, GraphFile, Replay, ProofFile, ProofFails, Unsafe, Write}
 use Rattle.journey_model.specs.declared.faults.Fault.TheVariants.{NoMemory}
 
--- a timetable with its names, by which a line tells where a fault is
+-- a timetable with its names, by which a line says where a fault is
 pub record NamedParts : Type 0 where
   pub network : NetworkModel
   pub names : NameLists
@@ -56,7 +56,7 @@ arrival_text names place moment = codes " at " ++ (place_name names place.0 ++ (
 abbrev pub step_text : NamedParts → ℕ → List ℕ
 step_text known c = codes " at " ++ (run_name known.names (run_of known.network c) ++ (codes " step " ++ decimal (step_of known.network c)))
 
--- what is told of a site
+-- the text of a site
 abbrev pub site_text : NamedParts → Site → List ℕ
 site_text known (Arrival place moment) = arrival_text known.names place moment
 site_text known (Connection connection) = step_text known connection.0

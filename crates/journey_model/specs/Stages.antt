@@ -135,7 +135,7 @@ IsOfProofText (proof.NotRising line) = Unit {0}
 IsOfProofText (proof.OtherQuery line) = Unit {0}
 IsOfProofText proof.NoMemory = ⊥
 
--- where it is told of a file it is of what the file holds
+-- if it is of a file it is of what the file contains
 abbrev pub IsOfText : Fault → Type 0
 IsOfText (Words fault) = Unit {0}
 IsOfText (Feed fault) = IsOfFeedText fault
@@ -154,6 +154,6 @@ IsOfText (Unsafe place moment) = Unit {0}
 IsOfText Write = Unit {0}
 IsOfText NoMemory = Unit {0}
 
--- it is told of an input: that it cannot be read, is missing or too long, or of what it holds
+-- it is of an input: that it cannot be read, is missing or too long, or of what it contains
 abbrev pub IsOfInput : Input → Fault → Type 0
 IsOfInput input fault = (stage_of fault ≡ stage_of_input input) × IsOfText fault

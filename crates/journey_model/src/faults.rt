@@ -61,7 +61,7 @@ pub enum Fault {
     Feed(FeedFault),
     /// The cut file is faulty.
     Cut(CutFault),
-    /// A file is not there.
+    /// A file is missing.
     Missing(Input),
     /// The delay file is faulty.
     Delays(DelayFault),
@@ -112,7 +112,7 @@ impl Input {
         }
     }
 
-    /// The number that a process ends with where the file is missing.
+    /// The exit status of the process if the file is missing.
     fn missing_status(self) -> u8
         ensures { result ≡ missing_status self }
     {
@@ -148,7 +148,7 @@ impl From<AllocError> for Fault {
 }
 
 impl Fault {
-    /// The number that a process ends with.
+    /// The exit status of the process, as docs/FORMATS.md lists it.
     pub fn status(self) -> u8
         ensures { result ≡ status_of (Some self) }
     {
@@ -171,7 +171,8 @@ impl Fault {
         }
     }
 
-    /// Where in its timetable the fault is, for one that is at a place.
+    /// Where in its timetable the fault is: of a trip that is stuck, a certificate that fails and a graph that is not safe.
+    /// `None` for every other fault.
     pub fn site(self) -> Option<Site>
         ensures { result ≡ site_of self }
     {

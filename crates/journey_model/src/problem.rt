@@ -18,7 +18,7 @@ pub struct Problem {
 }
 
 impl Drop for Problem {
-    /// Lets go of its parts here, so that a caller lets go of one value.
+    /// Drops its parts here, so that a caller drops one value.
     fn drop(self) {
         let Problem {
             timetable: _timetable,

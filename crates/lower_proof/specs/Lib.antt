@@ -2,6 +2,7 @@ pub mod Certificates
 pub mod Promises
 pub mod Steps
 pub mod Boards
+pub mod FaultTexts
 pub mod Departures
 pub mod Minima
 pub mod CertificateTexts

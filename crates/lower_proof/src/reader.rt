@@ -7,10 +7,11 @@ ghost use Rattle.lower_proof.specs.Reading.{is_bounds, bounds_row_in, bounds_in,
 
 use crate::{LowerBounds, no_values};
 use clock_text::{read_moment, read_nanos};
-use csv_rows::{Rows, RowsFault};
+use csv_rows::{Rows, RowsFault, at_line};
 use plan_model::{ConnectionId, List, Moment, Names, Network, NoMemory, PlaceId, Query};
 use printed_rows::{Record, connection_of, is_query, rises, whole};
 use std::alloc::Global;
+use std::fmt;
 use text_index::NameIndex;
 
 /// Why a text is no certificate for a network and a question. A line is the number of a record, from 1 on.
@@ -51,6 +52,24 @@ impl From<NoMemory> for ProofFault {
 
     fn from(_: NoMemory) -> Self {
         ProofFault::NoMemory
+    }
+}
+
+impl fmt::Display for ProofFault {
+    ghost use Rattle.std.specs.Prelude.{Some};
+    ghost use Rattle.lower_proof.specs.FaultTexts.{certificate_fault_text};
+
+    ghost output = { λ fault. Some (certificate_fault_text fault) };
+
+    fn fmt<W: fmt::Write>(&self, f: &mut fmt::Formatter<W>) -> fmt::Result {
+        match *self {
+            ProofFault::Row(line) => at_line(f, "proof file", line, "bad row"),
+            ProofFault::UnknownName(line) => at_line(f, "proof file", line, "unknown name"),
+            ProofFault::NoConnection(line) => at_line(f, "proof file", line, "does not agree"),
+            ProofFault::NotRising(line) => at_line(f, "proof file", line, "not rising"),
+            ProofFault::OtherQuery(line) => at_line(f, "proof file", line, "other query"),
+            ProofFault::NoMemory => f.write_str("out of memory"),
+        }
     }
 }
 

@@ -11,7 +11,7 @@ use Rattle.journey_model.specs.declared.faults.LimitKind.{LimitKind}
 use Rattle.journey_model.specs.declared.faults.LimitKind.TheVariants.{Bytes}
 use Rattle.journey_model.specs.declared.faults.Fault.{Fault}
 use Rattle.journey_model.specs.declared.faults.Fault.TheVariants.{Missing, Limit, Read, Write, NoMemory}
-use Rattle.fault_lines.specs.FaultLines.{line_of, IsFormatted}
+use Rattle.journey_model.specs.FaultLines.{line_of, IsFormatted}
 use Rattle.journey_model.specs.Sites.{NamedParts}
 use Rattle.journey_model.specs.Stages.{stage_of_input, stage_of_limit}
 use Rattle.journey_model.specs.declared.problem.Problem.{Problem}

@@ -10,7 +10,7 @@ use Rattle.command_line.specs.Jobs.{JobModel, Ask, Sample, job_of}
 use Rattle.journey_model.specs.declared.faults.Input.{Input}
 use Rattle.journey_model.specs.declared.faults.Fault.{Fault}
 use Rattle.journey_model.specs.declared.faults.Fault.TheVariants.{Words, NoMemory}
-use Rattle.fault_lines.specs.FaultLines.{line_of, IsFormatted}
+use Rattle.journey_model.specs.FaultLines.{line_of, IsFormatted}
 use Rattle.journey_model.specs.Sites.{NamedParts}
 use Rattle.journey_model.specs.Stages.{Stage, stage_of, AtWords, AtTimetable, AtDelays, AtStops, AtWindow, AtGraphFile, AtProofFile, AtOutcome, AtOutput, AtMemory}
 use Rattle.journey_problem.specs.Files.{path_of}

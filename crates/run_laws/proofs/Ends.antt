@@ -12,7 +12,7 @@ use Rattle.journey_model.specs.Faults.{status_of}
 use Rattle.journey_model.specs.Known.{parts_of}
 use Rattle.journey_model.specs.Sites.{NamedParts}
 use Rattle.journey_model.specs.Stages.{stage_of, IsStageBeforeSearch}
-use Rattle.fault_lines.specs.FaultLines.{line_of}
+use Rattle.journey_model.specs.FaultLines.{line_of}
 use Rattle.journey_problem.specs.OneProblem.{HasOneProblem}
 use Rattle.journey_problem.proofs.NoFaults.{no_fault}
 use Rattle.journey_problem.proofs.OneProblem.{one_problem}

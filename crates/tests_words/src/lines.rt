@@ -1,8 +1,7 @@
 //! A line of each kind, and the statuses.
 use command_line::WordsFault;
 use csv_rows::{FeedFault, Table};
-use fault_lines::{fault_line, known_line};
-use journey_model::{Fault, Input, LimitKind, Which};
+use journey_model::{Fault, Input, LimitKind, Which, fault_line, known_line};
 use lower_proof::ProofFault;
 use std::test::Fail;
 

@@ -1,3 +1,4 @@
+pub mod FaultTexts
 pub mod Walk
 pub mod Positions
 pub mod Rides

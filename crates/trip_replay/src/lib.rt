@@ -23,6 +23,7 @@ pub use laws::a_safe_trip_arrives;
 use plan_graph::PlanGraph;
 use plan_model::{Leg, List, Moment, Network, NoMemory, PlaceId, Query};
 use std::alloc::Global;
+use std::fmt;
 
 /// A ride, with its delay in seconds and its arrival.
 #[derive(Clone, Copy, Debug, PartialEq, Eq)]
@@ -68,6 +69,24 @@ impl From<NoMemory> for ReplayFault {
 
     fn from(_: NoMemory) -> ReplayFault {
         ReplayFault::NoMemory
+    }
+}
+
+impl fmt::Display for ReplayFault {
+    ghost use Rattle.std.specs.Prelude.{Some};
+    ghost use Rattle.trip_replay.specs.FaultTexts.{replay_fault_text};
+
+    ghost output = { λ fault. Some (replay_fault_text fault) };
+
+    /// Writes what is wrong, but not where in the timetable.
+    fn fmt<W: fmt::Write>(&self, f: &mut fmt::Formatter<W>) -> fmt::Result {
+        match *self {
+            ReplayFault::NotADelay(number) => write!(f, "late {number} is not a delay"),
+            ReplayFault::TooFew(ridden) => write!(f, "too few delays: {ridden} ridden"),
+            ReplayFault::TooMany(ridden) => write!(f, "too many delays: {ridden} ridden"),
+            ReplayFault::Stuck(_, _) => f.write_str("stuck"),
+            ReplayFault::NoMemory => f.write_str("out of memory"),
+        }
     }
 }
 

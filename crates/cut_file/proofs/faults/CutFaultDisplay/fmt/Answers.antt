@@ -1,4 +1,4 @@
-use Rattle.fault_lines.proofs.lines.CutTextDisplay.fmt.Goals as goal
+use Rattle.cut_file.proofs.faults.CutFaultDisplay.fmt.Goals as goal
 
 pub returns-in-BadField-clause-writes : goal.returns-in-BadField-clause-writes
 returns-in-BadField-clause-writes g c = λ plain ok. rw (c.in-BadField.is, ← c.name.ensures) (c.at_line_of.ensures plain ok)

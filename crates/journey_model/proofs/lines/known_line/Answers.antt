@@ -1,7 +1,7 @@
 use Rattle.std.proofs.Common.{◌∙◌, ap, sym}
 use Rattle.journey_model.specs.declared.faults.Fault.{Fault}
-use Rattle.fault_lines.specs.FaultLines.{line_of}
-use Rattle.fault_lines.proofs.lines.known_line.Goals as goal
+use Rattle.journey_model.specs.FaultLines.{line_of}
+use Rattle.journey_model.proofs.lines.known_line.Goals as goal
 
 pub returns-in-Read-clause-line : goal.returns-in-Read-clause-line
 returns-in-Read-clause-line c = λ known. c.unread_line.ensures known ∙ ap (λ (fault : Fault). line_of known fault) (sym c.in-Read.is)

@@ -3,8 +3,8 @@ use Rattle.plan_model.specs.declared.model.Connection.{Connection}
 use Rattle.plan_model.specs.Network.{run_of, step_of}
 use Rattle.printed_rows.specs.Writers.{run_name}
 use Rattle.printed_rows.proofs.Lines.{name_is}
-use Rattle.fault_lines.proofs.Pieces.{placed}
-use Rattle.fault_lines.proofs.told.with_step.Goals as goal
+use Rattle.journey_model.proofs.Pieces.{placed}
+use Rattle.journey_model.proofs.lines.with_step.Goals as goal
 
 pub returns : goal.returns
 returns c =
