@@ -440,9 +440,9 @@ module _ (names : NameLists) (r : List (List ℕ)) (source target start : ℕ) w
 module _ (n : NetworkModel) (names : NameLists) (version : Version) (valid : IsValid n) where
   -- what is to come in a state of the reader
   abbrev IsNext : Reading → Coming → Type 0
-  IsNext s (PlaceNext last) = (s.left ≡ 0) × (option_map (λ place. place.0) s.place ≡ last)
+  IsNext s (PlaceNext last) = (s.remaining ≡ 0) × (option_map (λ place. place.0) s.place ≡ last)
   IsNext s (LegNext place more last) =
-      (s.left ≡ suc more) × (option_map (λ place. place.0) s.place ≡ Some place) × (option_map (λ moment. moment.0) s.by ≡ last)
+      (s.remaining ≡ suc more) × (option_map (λ place. place.0) s.place ≡ Some place) × (option_map (λ moment. moment.0) s.by ≡ last)
 
   place_of : (own : Option PlaceId) (place : ℕ) → option_map (λ place. place.0) own ≡ Some place → own ≡ Some (record { 0 = place })
   place_of None place is = absurd (cc)
@@ -450,17 +450,17 @@ module _ (n : NetworkModel) (names : NameLists) (version : Version) (valid : IsV
 
   -- after a leg row
   abbrev with_row : Reading → GraphRow → Reading
-  with_row s row = if s.left == 1 then after_last s row else after_row s row
+  with_row s row = if s.remaining == 1 then after_last s row else after_row s row
 
   next_after : (s : Reading) (place more : ℕ) (last : Option ℕ) (row : GraphRow) → IsNext s (LegNext place more last) → IsNext (with_row s row) (after_leg place more row.by.0)
-  next_after s place zero last row next = rw (eq-eqb s.left 1 (omega (arith, next.0))) (refl, next.1)
+  next_after s place zero last row next = rw (eq-eqb s.remaining 1 (omega (arith, next.0))) (refl, next.1)
   next_after s place (suc more) last row next =
       let many = next.0 in
-      rw (ne_eqb s.left 1 (λ one. omega (arith, one, many))) ((omega (arith, many)), next.1, refl)
+      rw (ne_eqb s.remaining 1 (λ one. omega (arith, one, many))) ((omega (arith, many)), next.1, refl)
 
   -- the step of a row of a place, and of a leg
   place_step : (line : ℕ) (r : List (List ℕ)) (s : Reading) (last : Option ℕ) → IsNext s (PlaceNext last) → step n names version line r s ≡ after_place_row s (table_in n names version line last r)
-  place_step line r s last next = rw (eq-eqb s.left 0 next.0, next.1) refl
+  place_step line r s last next = rw (eq-eqb s.remaining 0 next.0, next.1) refl
 
   leg_step_is : (line : ℕ) (r : List (List ℕ)) (s : Reading) (place more : ℕ) (last : Option ℕ) → IsNext s (LegNext place more last)
       → step n names version line r s ≡ after_leg_row s (row_in n names version line place last r)
@@ -474,24 +474,24 @@ module _ (n : NetworkModel) (names : NameLists) (version : Version) (valid : IsV
   place_step_err s (Err e) fault is = (let same : e ≡ fault = (cc) in ap (λ x. Err x) same)
 
   leg_step_err : (s : Reading) (told : Result GraphRow TextFault) (fault : TextFault) → after_leg_row s told ≡ Err fault → told ≡ Err fault
-  leg_step_err s (Ok row) fault is = elim (cases_eq s.left 1) [
-    | inl one ↦ absurd (let wrong = rw (eq-eqb s.left 1 one) at is in cc)
-    | inr many ↦ absurd (let wrong = rw (ne_eqb s.left 1 many) at is in cc)
+  leg_step_err s (Ok row) fault is = elim (cases_eq s.remaining 1) [
+    | inl one ↦ absurd (let wrong = rw (eq-eqb s.remaining 1 one) at is in cc)
+    | inr many ↦ absurd (let wrong = rw (ne_eqb s.remaining 1 many) at is in cc)
   ]
   leg_step_err s (Err e) fault is = (let same : e ≡ fault = (cc) in ap (λ x. Err x) same)
 
   leg_step_ok : (s : Reading) (row : GraphRow) → after_leg_row s (Ok row) ≡ Ok (with_row s row)
-  leg_step_ok s row = elim (cases_eq s.left 1) [
-    | inl one ↦ rw (eq-eqb s.left 1 one) refl
-    | inr many ↦ rw (ne_eqb s.left 1 many) refl
+  leg_step_ok s row = elim (cases_eq s.remaining 1) [
+    | inl one ↦ rw (eq-eqb s.remaining 1 one) refl
+    | inr many ↦ rw (ne_eqb s.remaining 1 many) refl
   ]
 
   rows_fail : (rs : List (List (List ℕ))) (line : ℕ) (s : Reading) (coming : Coming) (fault : TextFault) → IsNext s coming → place_tables_from n names version rs line s ≡ Err fault
       → HaveFirstFault n names version rs line coming fault
-  rows_fail [] line s (PlaceNext last) fault next is = absurd (let wrong = rw (eq-eqb s.left 0 next.0) at is in cc)
+  rows_fail [] line s (PlaceNext last) fault next is = absurd (let wrong = rw (eq-eqb s.remaining 0 next.0) at is in cc)
   rows_fail [] line s (LegNext place more last) fault next is =
       let many = next.0 in
-      let same = rw (ne_eqb s.left 0 (λ none. omega (arith, none, many))) at is in
+      let same = rw (ne_eqb s.remaining 0 (λ none. omega (arith, none, many))) at is in
       (cc)
   rows_fail (r ∷ rs) line s (PlaceNext last) fault next is = elim (then_err (step n names version line r s) _ fault is) [
     | inl here ↦ inl (table_fails n names version line r last fault (place_step_err s _ fault (sym (place_step line r s last next) ∙ here)))
@@ -529,14 +529,14 @@ module _ (n : NetworkModel) (names : NameLists) (version : Version) (valid : IsV
   rows_back [] line s (PlaceNext last) fault next first = absurd first
   rows_back [] line s (LegNext place more last) fault next first =
       let many = next.0 in
-      rw (ne_eqb s.left 0 (λ none. omega (arith, none, many)), first) refl
+      rw (ne_eqb s.remaining 0 (λ none. omega (arith, none, many)), first) refl
   rows_back (r ∷ rs) line s (PlaceNext last) fault next first = elim first [
     | inl here ↦ ap (λ r. and_then r (place_tables_from n names version rs (line + 1)))
         (place_step line r s last next ∙ ap (after_place_row s) (table_back n names version line r last fault here))
     | inr later ↦
         let (place, more, row, up, rest) = later in
         let t : TableStart = record { place = record { 0 = place }; count = suc more } in
-        let now : Reading = record { done = s.done; place = Some t.place; rows = []; by = None; left = t.count } in
+        let now : Reading = record { done = s.done; place = Some t.place; rows = []; by = None; remaining = t.count } in
         ap (λ r. and_then r (place_tables_from n names version rs (line + 1)))
         (place_step line r s last next ∙ ap (after_place_row s) (table_read n names version line r last t up row (omega arith)))
         ∙ rows_back rs (line + 1) now (LegNext place more None) fault (refl, refl, refl) rest

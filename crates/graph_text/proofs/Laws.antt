@@ -11,7 +11,7 @@ use Rattle.plan_graph.specs.declared.ExpandedGraph.{ExpandedGraph}
 use Rattle.plan_graph.specs.declared.PlanGraph.{PlanGraph}
 use Rattle.plan_graph.specs.Ready.{IsLegOf, IsReady}
 use Rattle.plan_graph.specs.Tidy.{IsFit, IsFitStart}
-use Rattle.graph_text.specs.Printable.{IsPrintable, IsPrintablePlan}
+use Rattle.graph_text.specs.Printable.{IsPrintableExpanded, IsPrintablePlan}
 use Rattle.plan_model.specs.Bounds.{end_of_arrivals}
 
 module _ (n : NetworkModel) (valid : IsValid n) where
@@ -31,7 +31,7 @@ module _ (n : NetworkModel) (valid : IsValid n) where
   start_leg None P Q is each = tt
   start_leg (Some leg) P Q is each = each leg is
 
-  pub ready_printable : (q : Query) (graph : ExpandedGraph) → IsReady n q graph → IsPrintable n graph
+  pub ready_printable : (q : Query) (graph : ExpandedGraph) → IsReady n q graph → IsPrintableExpanded n graph
   ready_printable q graph ready = record {
     start = start_leg graph.start (q.source.0 ≡ q.target.0) (λ leg. (q.source.0 ≢ q.target.0) × IsLegOf n leg) ready.starts (λ leg is. is.1);
     rides = λ k d within. let r = ready.rides k d within in record {

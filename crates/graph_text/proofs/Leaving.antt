@@ -1,4 +1,4 @@
--- Whether all that is left of a list passes, element by element.
+-- Whether all that remains of a list passes, element by element.
 use Rattle.std.proofs.Common.{◌≡◌, ℕ, ◌+◌, ◌<◌, Bool, true, false, List, ◌∷◌, length, drop, sym, ap, ◌∙◌, ◌&&◌, slice_index_or}
 use Rattle.printed_rows.proofs.Lines.{split_at}
 

@@ -29,7 +29,7 @@ use Rattle.graph_text.specs.declared.version.Version.{Version}
 use Rattle.graph_text.specs.declared.version.Version.TheVariants.{First, Second}
 use Rattle.graph_text.specs.Versions.{number_of_version, width_of, ninth, rows_leave, tables_leave, version_by}
 use Rattle.graph_text.specs.Printable.{IsPrintableQuery}
-use Rattle.graph_text.specs.GraphTexts.{leg_fields, rows_text, tables_text, graph_text_in, graph_text}
+use Rattle.graph_text.specs.GraphTexts.{leg_fields, rows_text, tables_text, plan_text_in, plan_text}
 use Rattle.printed_rows.specs.Writers.{place_name, run_name, row_of_fields, text_of_records}
 use Rattle.graph_text.specs.Reading.{IsReadAs}
 use Rattle.graph_text.specs.GraphRows.{entry_in, is_place, is_head, version_in, IsLegRow, IsPlaceRow, IsHeadRow, AreLegRows, AreTableRows, AreGraphRows, IsTextOf}
@@ -244,7 +244,7 @@ module _ (n : NetworkModel) (names : NameLists) (version : Version) (valid : IsV
 
   -- a graph that fits, by the start leg and the tables
   graph_printed : (head : Head) (start : Option Leg) (tables : List PlaceTable) → IsFit n head.query (record { start = start; tables = tables })
-      → graph_text_in n names version head (record { start = start; tables = tables }) ≡ text_of_records (head_record names version head ∷ graph_records n names version start tables)
+      → plan_text_in n names version head (record { start = start; tables = tables }) ≡ text_of_records (head_record names version head ∷ graph_records n names version start tables)
   graph_printed head None tables own_graph =
       ap (λ (test : Bool). row_of_fields (head_record names version head) ++ (if test then [] else tables_text n names version tables))
       (eq-eqb head.query.source.0 head.query.target.0 own_graph.starts.0)
@@ -268,7 +268,7 @@ module _ (n : NetworkModel) (names : NameLists) (version : Version) (valid : IsV
 
   is_text_of : (head : Head) (start : Option Leg) (tables : List PlaceTable) → IsPrintableQuery n head.query → head.query.start.0 ≤ head.query.deadline.0
       → head.bounds.lo ≤ head.bounds.hi → head.bounds.hi < 2 ^ 64 → IsFit n head.query (record { start = start; tables = tables }) → All (IsToldTable n version) tables
-      → IsTextOf n names head (record { start = start; tables = tables }) (graph_text_in n names version head (record { start = start; tables = tables }))
+      → IsTextOf n names head (record { start = start; tables = tables }) (plan_text_in n names version head (record { start = start; tables = tables }))
   unfolding row_of_fields
   is_text_of head start tables asked in_time bounds small own_graph all =
       let records = graph_records n names version start tables in
@@ -304,8 +304,8 @@ told_by_version n tables false leave fits = λ k d within. let t = fits k d with
 -- a graph that fits is printed, and read back
 pub reads_back : (n : NetworkModel) (names : NameLists) (head : Head) (graph : PlanGraph) → IsValid n → NamesFit names n → AreNames names → IsPrintableQuery n head.query
     → head.query.start.0 ≤ head.query.deadline.0 → head.bounds.lo ≤ head.bounds.hi → head.bounds.hi < 2 ^ 64 → IsFit n head.query graph
-    → IsReadAs n names head graph (graph_text n names head graph)
+    → IsReadAs n names head graph (plan_text n names head graph)
 reads_back n names head graph valid fit own asked in_time bounds small own_graph =
     let leave = tables_leave n graph.tables in
-    text_read n names valid head graph (graph_text n names head graph)
+    text_read n names valid head graph (plan_text n names head graph)
     (is_text_of n names (version_by leave) valid fit own head graph.start graph.tables asked in_time bounds small own_graph (told_by_version n graph.tables leave refl own_graph.tables))

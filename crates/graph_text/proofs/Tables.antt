@@ -30,10 +30,10 @@ use Rattle.printed_rows.proofs.Chains.{and_then-value, if-value}
 use Rattle.graph_text.proofs.Rows.{row_told, row_read, table_told, table_read}
 
 -- where leg rows are to come
-pub leg_step : (n : NetworkModel) (names : NameLists) (version : Version) (line : ℕ) (r : List (List ℕ)) (s : Reading) (place : PlaceId) → (s.left ≡ 0 → ⊥)
+pub leg_step : (n : NetworkModel) (names : NameLists) (version : Version) (line : ℕ) (r : List (List ℕ)) (s : Reading) (place : PlaceId) → (s.remaining ≡ 0 → ⊥)
     → s.place ≡ Some place → after_leg_row s (row_in n names version line place.0 (option_map (λ moment. moment.0) s.by) r) ≡ step n names version line r s
 leg_step n names version line r s place some is =
-    sym (rw (ne_eqb s.left 0 some) (ap (λ (p : Option PlaceId). after_leg_row s (row_in n names version line (place_or_first p).0
+    sym (rw (ne_eqb s.remaining 0 some) (ap (λ (p : Option PlaceId). after_leg_row s (row_in n names version line (place_or_first p).0
     (option_map (λ moment. moment.0) s.by) r)) is))
 
 -- what is read where a step failed is so of what `?` raises again
@@ -109,19 +109,19 @@ place_number t = t.place.0
 -- ---- what is read after some rows
 
 pub place_row_is : (s now : Reading) (told : Result TableStart TextFault) → after_place_row s told ≡ Ok now
-    → (t : TableStart) × (told ≡ Ok t) × (record { done = s.done; place = Some t.place; rows = []; by = None; left = t.count } ≡ now)
+    → (t : TableStart) × (told ≡ Ok t) × (record { done = s.done; place = Some t.place; rows = []; by = None; remaining = t.count } ≡ now)
 place_row_is s now (Ok t) is = (t, refl, (cc))
 place_row_is s now (Err e) is = absurd (cc)
 
 module _ (s : Reading) (row : GraphRow) where
   abbrev pub after_last : Reading
-  after_last = record { done = s.done ++ (record { place = place_or_first s.place; rows = s.rows ++ row ∷ [] }) ∷ []; place = s.place; rows = []; by = None; left = 0 }
+  after_last = record { done = s.done ++ (record { place = place_or_first s.place; rows = s.rows ++ row ∷ [] }) ∷ []; place = s.place; rows = []; by = None; remaining = 0 }
 
   abbrev pub after_row : Reading
-  after_row = record { done = s.done; place = s.place; rows = s.rows ++ row ∷ []; by = Some row.by; left = s.left - 1 }
+  after_row = record { done = s.done; place = s.place; rows = s.rows ++ row ∷ []; by = Some row.by; remaining = s.remaining - 1 }
 
 pub leg_row_is : (s now : Reading) (told : Result GraphRow TextFault) → after_leg_row s told ≡ Ok now
-    → (row : GraphRow) × (told ≡ Ok row) × (◌≡◌ {A = Result Reading TextFault} (if s.left == 1 then Ok (after_last s row) else Ok (after_row s row)) (Ok now))
+    → (row : GraphRow) × (told ≡ Ok row) × (◌≡◌ {A = Result Reading TextFault} (if s.remaining == 1 then Ok (after_last s row) else Ok (after_row s row)) (Ok now))
 leg_row_is s now (Ok row) is = (row, refl, is)
 leg_row_is s now (Err e) is = absurd (cc)
 
@@ -134,18 +134,18 @@ module _ (n : NetworkModel) (names : NameLists) (version : Version) where
   abbrev AreMore : Option ℕ → List PlaceTable → List (List (List ℕ)) → Type 0
   AreMore place more rest = AreTableRows n names version more rest × All (IsFitTable n) more × RiseFrom place_number place more
 
-  -- the rows that are left are those of the table that is open, as many as are to come, and then those of further tables
+  -- the rows that remain are those of the table that is open, as many as are to come, and then those of further tables
   record Continues (s : Reading) (rs : List (List (List ℕ))) (tables : List PlaceTable) : Type 0 where
     later : List GraphRow
     own : List (List (List ℕ))
     rest : List (List (List ℕ))
     more : List PlaceTable
     split : rs ≡ own ++ rest
-    many : length later ≡ s.left
+    many : length later ≡ s.remaining
     legs : AreLater (place_or_first s.place).0 (option_map (λ moment. moment.0) s.by) later own
     table_rows : AreMore (option_map (λ place. place.0) s.place) more rest
-    closed : s.left ≡ 0 → tables ≡ s.done ++ more
-    opened : (s.left ≡ 0 → ⊥) → tables ≡ s.done ++ (record { place = place_or_first s.place; rows = s.rows ++ later }) ∷ more
+    closed : s.remaining ≡ 0 → tables ≡ s.done ++ more
+    opened : (s.remaining ≡ 0 → ⊥) → tables ≡ s.done ++ (record { place = place_or_first s.place; rows = s.rows ++ later }) ∷ more
 
   no_rows : (place : ℕ) (later : List GraphRow) (own : List (List (List ℕ))) → length later ≡ 0 → AreLegRows n names version place later own → own ≡ []
   no_rows place [] [] none legs = refl
@@ -153,8 +153,8 @@ module _ (n : NetworkModel) (names : NameLists) (version : Version) where
   no_rows place (x ∷ later) own none legs = absurd (omega (arith, none))
 
   module _ (line : ℕ) (r : List (List ℕ)) (rs : List (List (List ℕ))) (s : Reading) (tables : List PlaceTable) where
-    with_place : (t : TableStart) → s.left ≡ 0 → table_in n names version line (option_map (λ place. place.0) s.place) r ≡ Ok t
-        → Continues (record { done = s.done; place = Some t.place; rows = []; by = None; left = t.count }) rs tables → Continues s (r ∷ rs) tables
+    with_place : (t : TableStart) → s.remaining ≡ 0 → table_in n names version line (option_map (λ place. place.0) s.place) r ≡ Ok t
+        → Continues (record { done = s.done; place = Some t.place; rows = []; by = None; remaining = t.count }) rs tables → Continues s (r ∷ rs) tables
     with_place t none is next =
         let told = table_told n names version line r (option_map (λ place. place.0) s.place) t is in
         let table : IsFitTable n (record { place = t.place; rows = next.later }) =
@@ -177,7 +177,7 @@ module _ (n : NetworkModel) (names : NameLists) (version : Version) where
         }
 
     module _ (row : GraphRow) (is : row_in n names version line (place_or_first s.place).0 (option_map (λ moment. moment.0) s.by) r ≡ Ok row) where
-      with_last : s.left ≡ 1 → Continues (after_last s row) rs tables → Continues s (r ∷ rs) tables
+      with_last : s.remaining ≡ 1 → Continues (after_last s row) rs tables → Continues s (r ∷ rs) tables
       with_last one next =
           let told = row_told n names version line r (place_or_first s.place).0 (option_map (λ moment. moment.0) s.by) row is in
           let none = no_rows (place_or_first s.place).0 next.later next.own next.many next.legs.0 in
@@ -198,7 +198,7 @@ module _ (n : NetworkModel) (names : NameLists) (version : Version) where
             opened = λ some. next.closed refl ∙ append_assoc s.done ((record { place = place_or_first s.place; rows = s.rows ++ row ∷ [] }) ∷ []) next.more;
           }
 
-      with_row : (s.left ≡ 0 → ⊥) → s.left ≢ 1 → Continues (after_row s row) rs tables → Continues s (r ∷ rs) tables
+      with_row : (s.remaining ≡ 0 → ⊥) → s.remaining ≢ 1 → Continues (after_row s row) rs tables → Continues s (r ∷ rs) tables
       with_row some many next =
           let told = row_told n names version line r (place_or_first s.place).0 (option_map (λ moment. moment.0) s.by) row is in
           record {
@@ -216,22 +216,22 @@ module _ (n : NetworkModel) (names : NameLists) (version : Version) where
           }
 
     after_step : (now : Reading) → step n names version line r s ≡ Ok now → Continues now rs tables → Continues s (r ∷ rs) tables
-    after_step now is next = elim (cases_eq s.left 0) [
+    after_step now is next = elim (cases_eq s.remaining 0) [
       | inl none ↦
           let (t, told, same) = place_row_is s now (table_in n names version line (option_map (λ place. place.0) s.place) r)
-          (rw (eq-eqb s.left 0 none) at is) in
+          (rw (eq-eqb s.remaining 0 none) at is) in
           with_place t none told (subst (λ u. Continues u rs tables) (sym same) next)
       | inr some ↦
           let place = (place_or_first s.place).0 in
           let (row, told, more) = leg_row_is s now (row_in n names version line place (option_map (λ moment. moment.0) s.by) r)
-          (rw (ne_eqb s.left 0 some) at is) in
-          elim (cases_eq s.left 1) [
+          (rw (ne_eqb s.remaining 0 some) at is) in
+          elim (cases_eq s.remaining 1) [
             | inl one ↦
-                let last = rw (eq-eqb s.left 1 one) at more in
+                let last = rw (eq-eqb s.remaining 1 one) at more in
                 let same : after_last s row ≡ now = (cc) in
                 with_last row told one (subst (λ u. Continues u rs tables) (sym same) next)
             | inr many ↦
-                let further = rw (ne_eqb s.left 1 many) at more in
+                let further = rw (ne_eqb s.remaining 1 many) at more in
                 let same : after_row s row ≡ now = (cc) in
                 with_row row told some many (subst (λ u. Continues u rs tables) (sym same) next)
           ]
@@ -239,8 +239,8 @@ module _ (n : NetworkModel) (names : NameLists) (version : Version) where
 
   tables_told : (rs : List (List (List ℕ))) (line : ℕ) (s : Reading) (tables : List PlaceTable) → place_tables_from n names version rs line s ≡ Ok tables → Continues s rs tables
   tables_told [] line s tables is =
-      let both = if-value (s.left == 0) (Ok s.done) (f.Row line) tables is in
-      let none = eqb-true s.left 0 both.0 in
+      let both = if-value (s.remaining == 0) (Ok s.done) (f.Row line) tables is in
+      let none = eqb-true s.remaining 0 both.0 in
       let same : s.done ≡ tables = (cc) in
       record {
         later = [];
@@ -272,44 +272,44 @@ module _ (n : NetworkModel) (names : NameLists) (version : Version) where
 
   module _ (valid : IsValid n) where
     abbrev with_rows : List PlaceTable → PlaceId → List GraphRow → Option Moment → ℕ → Reading
-    with_rows done place rows by left = record { done = done; place = Some place; rows = rows; by = by; left = left }
+    with_rows done place rows by remaining = record { done = done; place = Some place; rows = rows; by = by; remaining = remaining }
 
-    row_step : (line : ℕ) (r : List (List ℕ)) (done : List PlaceTable) (place : PlaceId) (before : List GraphRow) (last : Option Moment) (left : ℕ) (row : GraphRow) → (left ≡ 0 → ⊥)
+    row_step : (line : ℕ) (r : List (List ℕ)) (done : List PlaceTable) (place : PlaceId) (before : List GraphRow) (last : Option Moment) (remaining : ℕ) (row : GraphRow) → (remaining ≡ 0 → ⊥)
         → IsLegRow n names version (codes "leg") place.0 row.by.0 row.leg r → IsFitRow n place.0 row → rises (option_map (λ moment. moment.0) last) row.by.0 ≡ true
-        → step n names version line r (with_rows done place before last left) ≡ after_leg_row (with_rows done place before last left) (Ok row)
-    row_step line r done place before last left row some told fit later =
-        sym (leg_step n names version line r (with_rows done place before last left) place some refl)
-        ∙ ap (λ (read : Result GraphRow TextFault). after_leg_row (with_rows done place before last left) read)
+        → step n names version line r (with_rows done place before last remaining) ≡ after_leg_row (with_rows done place before last remaining) (Ok row)
+    row_step line r done place before last remaining row some told fit later =
+        sym (leg_step n names version line r (with_rows done place before last remaining) place some refl)
+        ∙ ap (λ (read : Result GraphRow TextFault). after_leg_row (with_rows done place before last remaining) read)
         (row_read n names version line r valid place.0 (option_map (λ moment. moment.0) last) row later told fit)
 
     rows_read : (rows : List GraphRow) (own rest : List (List (List ℕ))) (line : ℕ) (done : List PlaceTable) (place : PlaceId) (before : List GraphRow)
-        (last : Option Moment) (left : ℕ) (all : List PlaceTable) → left ≡ length rows → 1 ≤ left
+        (last : Option Moment) (remaining : ℕ) (all : List PlaceTable) → remaining ≡ length rows → 1 ≤ remaining
         → AreLegRows n names version place.0 rows own → All (IsFitRow n place.0) rows → RiseFrom by_number (option_map (λ moment. moment.0) last) rows
         → ((later : ℕ) → place_tables_from n names version rest later
-        (record { done = done ++ (record { place = place; rows = before ++ rows }) ∷ []; place = Some place; rows = []; by = None; left = 0 }) ≡ Ok all)
-        → place_tables_from n names version (own ++ rest) line (with_rows done place before last left) ≡ Ok all
-    rows_read [] own rest line done place before last left all size some legs fits rise goes_on = absurd (omega (arith, size, some))
-    rows_read (row ∷ rows) [] rest line done place before last left all size some legs fits rise goes_on = absurd legs
-    rows_read (row ∷ []) (r ∷ []) rest line done place before last left all size some legs fits rise goes_on =
+        (record { done = done ++ (record { place = place; rows = before ++ rows }) ∷ []; place = Some place; rows = []; by = None; remaining = 0 }) ≡ Ok all)
+        → place_tables_from n names version (own ++ rest) line (with_rows done place before last remaining) ≡ Ok all
+    rows_read [] own rest line done place before last remaining all size some legs fits rise goes_on = absurd (omega (arith, size, some))
+    rows_read (row ∷ rows) [] rest line done place before last remaining all size some legs fits rise goes_on = absurd legs
+    rows_read (row ∷ []) (r ∷ []) rest line done place before last remaining all size some legs fits rise goes_on =
         rw (
-          row_step line r done place before last left row (λ none. omega (arith, none, some)) legs.0 (All-head (IsFitRow n place.0) row [] fits) rise.0,
-          eq-eqb left 1 size,
+          row_step line r done place before last remaining row (λ none. omega (arith, none, some)) legs.0 (All-head (IsFitRow n place.0) row [] fits) rise.0,
+          eq-eqb remaining 1 size,
         ) (goes_on (line + 1))
-    rows_read (row ∷ []) (r ∷ x ∷ own) rest line done place before last left all size some legs fits rise goes_on = absurd legs.1
-    rows_read (row ∷ next ∷ rows) (r ∷ own) rest line done place before last left all size some legs fits rise goes_on =
+    rows_read (row ∷ []) (r ∷ x ∷ own) rest line done place before last remaining all size some legs fits rise goes_on = absurd legs.1
+    rows_read (row ∷ next ∷ rows) (r ∷ own) rest line done place before last remaining all size some legs fits rise goes_on =
         rw (
-          row_step line r done place before last left row (λ none. omega (arith, none, some)) legs.0
+          row_step line r done place before last remaining row (λ none. omega (arith, none, some)) legs.0
               (All-head (IsFitRow n place.0) row (next ∷ rows) fits) rise.0,
-          ne_eqb left 1 (λ one. omega (arith, one, size)),
+          ne_eqb remaining 1 (λ one. omega (arith, one, size)),
         )
-        (rows_read (next ∷ rows) own rest (line + 1) done place (before ++ row ∷ []) (Some row.by) (left - 1) all (omega (arith, size))
+        (rows_read (next ∷ rows) own rest (line + 1) done place (before ++ row ∷ []) (Some row.by) (remaining - 1) all (omega (arith, size))
         (omega (arith, size)) legs.1
         (All-tail (IsFitRow n place.0) row (next ∷ rows) fits) rise.1
         (λ later. rw (append_assoc before (row ∷ []) (next ∷ rows)) (goes_on later)))
 
     tables_read : (tables : List PlaceTable) (rs : List (List (List ℕ))) (line : ℕ) (done : List PlaceTable) (last : Option PlaceId) → AreTableRows n names version tables rs
         → All (IsFitTable n) tables → RiseFrom place_number (option_map (λ place. place.0) last) tables
-        → place_tables_from n names version rs line (record { done = done; place = last; rows = []; by = None; left = 0 }) ≡ Ok (done ++ tables)
+        → place_tables_from n names version rs line (record { done = done; place = last; rows = []; by = None; remaining = 0 }) ≡ Ok (done ++ tables)
     tables_read [] [] line done last rows fits rise = ap (λ (list : List PlaceTable). Ok list) (sym (append-nil done))
     tables_read [] (r ∷ rs) line done last rows fits rise = absurd rows
     tables_read (t ∷ tables) [] line done last rows fits rise = absurd rows

@@ -91,11 +91,11 @@ tables_text network names version [] = []
 tables_text network names version (table ∷ tables) = table_text network names version table ++ tables_text network names version tables
 
 -- the text of a graph by place, of a version; where source and target are one place only the first row stands
-abbrev pub graph_text_in : NetworkModel → NameLists → Version → Head → PlanGraph → List ℕ
-graph_text_in network names version head graph =
+abbrev pub plan_text_in : NetworkModel → NameLists → Version → Head → PlanGraph → List ℕ
+plan_text_in network names version head graph =
     head_row names version (codes "graph") head
     ++ (if head.query.source.0 == head.query.target.0 then [] else start_leg_text network names version graph.start ++ tables_text network names version graph.tables)
 
 -- the text of a graph by place
-abbrev pub graph_text : NetworkModel → NameLists → Head → PlanGraph → List ℕ
-graph_text network names head graph = graph_text_in network names (version_by (tables_leave network graph.tables)) head graph
+abbrev pub plan_text : NetworkModel → NameLists → Head → PlanGraph → List ℕ
+plan_text network names head graph = plan_text_in network names (version_by (tables_leave network graph.tables)) head graph

@@ -30,7 +30,7 @@ pub record IsPrintableRide (network : NetworkModel) (r : Ride) : Type 0 where
   pub rows : All (IsPrintableRow network) r.after
 
 -- every leg is the network's, and every moment has a text
-pub record IsPrintable (network : NetworkModel) (graph : ExpandedGraph) : Type 0 where
+pub record IsPrintableExpanded (network : NetworkModel) (graph : ExpandedGraph) : Type 0 where
   pub start : IfSome graph.start (IsLegOf network)
   pub rides : All (IsPrintableRide network) graph.rides
 

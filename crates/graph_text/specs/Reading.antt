@@ -121,7 +121,7 @@ table_in network names version line last r =
 -- the tables so far, with one that begins or has one row more
 abbrev pub after_place_row : Reading → Result TableStart TextFault → Result Reading TextFault
 after_place_row s (Err e) = Err e
-after_place_row s (Ok t) = Ok (record { done = s.done; place = Some t.place; rows = []; by = None; left = t.count })
+after_place_row s (Ok t) = Ok (record { done = s.done; place = Some t.place; rows = []; by = None; remaining = t.count })
 
 -- the place, where there is one
 abbrev pub place_or_first : Option PlaceId → PlaceId
@@ -131,29 +131,29 @@ place_or_first (Some place) = place
 abbrev pub after_leg_row : Reading → Result GraphRow TextFault → Result Reading TextFault
 after_leg_row s (Err e) = Err e
 after_leg_row s (Ok row) =
-    if s.left == 1
-    then Ok (record { done = s.done ++ (record { place = place_or_first s.place; rows = s.rows ++ row ∷ [] }) ∷ []; place = s.place; rows = []; by = None; left = 0 })
-    else Ok (record { done = s.done; place = s.place; rows = s.rows ++ row ∷ []; by = Some row.by; left = s.left - 1 })
+    if s.remaining == 1
+    then Ok (record { done = s.done ++ (record { place = place_or_first s.place; rows = s.rows ++ row ∷ [] }) ∷ []; place = s.place; rows = []; by = None; remaining = 0 })
+    else Ok (record { done = s.done; place = s.place; rows = s.rows ++ row ∷ []; by = Some row.by; remaining = s.remaining - 1 })
 
--- after one record more: a place row where no leg row is left to come, and else a leg row
+-- after one record more: a place row where no leg row is to come, and otherwise a leg row
 abbrev pub step : NetworkModel → NameLists → Version → ℕ → List (List ℕ) → Reading → Result Reading TextFault
 step network names version line r s =
-    if s.left == 0
+    if s.remaining == 0
     then after_place_row s (table_in network names version line (option_map (λ place. place.0) s.place) r)
     else after_leg_row s (row_in network names version line (place_or_first s.place).0 (option_map (λ moment. moment.0) s.by) r)
 
 -- the tables of the records from a line on
 abbrev pub place_tables_from : NetworkModel → NameLists → Version → List (List (List ℕ)) → ℕ → Reading → Result (List PlaceTable) TextFault
-place_tables_from network names version [] line s = if s.left == 0 then Ok s.done else Err (Row line)
+place_tables_from network names version [] line s = if s.remaining == 0 then Ok s.done else Err (Row line)
 place_tables_from network names version (r ∷ rs) line s = and_then (step network names version line r s) (place_tables_from network names version rs (line + 1))
 
 -- where a leg row is to come there is a place, and a place is one of the network's
 pub record IsPlaced (network : NetworkModel) (s : Reading) : Type 0 where
-  pub some : (s.left ≡ 0) ⊎ IsSome s.place
+  pub some : (s.remaining ≡ 0) ⊎ IsSome s.place
   pub there : IfSome s.place (λ place. place.0 < length network.change)
 
 abbrev pub no_tables : Reading
-no_tables = record { done = []; place = None; rows = []; by = None; left = 0 }
+no_tables = record { done = []; place = None; rows = []; by = None; remaining = 0 }
 
 -- the graph of a start row and the records after it
 abbrev pub started_in : NetworkModel → NameLists → Version → ℕ → ℕ → List (List ℕ) → List (List (List ℕ)) → Result PlanGraph TextFault

@@ -1,4 +1,7 @@
 //! Graphs as printed rows.
+//!
+//! A call that takes an allocator may answer that there is no memory, as `NoMemory` or as the variant
+//! of that name; then what it was lent is as it was, unless its own comment says otherwise.
 #![tactic(auto)]
 
 ghost use Rattle.std.specs.Prelude.{◌≡◌, ℕ, ◌≤◌, ◌↔◌, IfOk, Ok, Err, List as Sequence};
@@ -10,14 +13,14 @@ ghost use Rattle.plan_graph.specs.declared.ExpandedGraph.{ExpandedGraph as Expan
 ghost use Rattle.plan_graph.specs.declared.PlanGraph.{PlanGraph as Plan};
 ghost use Rattle.plan_model.specs.NetworkModel.{NetworkModel};
 ghost use Rattle.plan_model.specs.declared.model.Query.{Query as QueryParts};
-ghost use Rattle.graph_text.specs.GraphTexts.{expanded_text, graph_text};
+ghost use Rattle.graph_text.specs.GraphTexts.{expanded_text, plan_text};
 ghost use Rattle.graph_text.specs.declared.Head.{Head as HeadParts};
 ghost use Rattle.graph_text.specs.Reading.{graph_of, IsReadAs};
 ghost use Rattle.graph_text.specs.GraphRows.{IsTextOf};
 ghost use Rattle.graph_text.specs.FirstFaults.{IsFirstFaultOf};
 ghost use Rattle.graph_text.specs.declared.reader.TextFault.{TextFault as Fault};
 ghost use Rattle.graph_text.specs.Asked.{IsHeadOf};
-ghost use Rattle.graph_text.specs.Printable.{IsPrintableQuery, IsPrintable, IsPrintablePlan};
+ghost use Rattle.graph_text.specs.Printable.{IsPrintableQuery, IsPrintableExpanded, IsPrintablePlan};
 
 mod printer;
 mod reader;
@@ -31,7 +34,7 @@ pub use reader::{TextFault, read};
 use std::alloc::Global;
 use version::{rides_leave, tables_leave, version_by};
 
-/// The question that a graph answers, and bounds on the expected arrival in nanoseconds.
+/// The question that a graph answers, and bounds on its expected arrival.
 #[derive(Clone, Copy, Debug)]
 pub struct Head {
     /// What was asked, and the deadline that the graph keeps.
@@ -40,8 +43,8 @@ pub struct Head {
     pub bounds: Span,
 }
 
-/// The text of a graph by ride: a first row, the start leg, and for each ride a row and one for
-/// each of its rows. Where source and target are one place only the first row stands.
+/// The text of a graph by ride: a first row, the start leg, and for each ride a row and one for each of its
+/// rows. If source and target are one place, there is only the first row.
 pub fn write_expanded(
     alloc: Global,
     graph: &ExpandedGraph,
@@ -51,7 +54,7 @@ pub fn write_expanded(
 ) -> Result<Vec<u8>, NoMemory>
     requires names { NamesFit names.now network.now }
     requires query { IsPrintableQuery network.now head.now.query }
-    requires graph { IsPrintable network.now graph.now }
+    requires graph { IsPrintableExpanded network.now graph.now }
     ensures { IfOk result
         (λ text. text.items ≡ expanded_text network.now names.now head.now graph.now) }
 {
@@ -64,9 +67,9 @@ pub fn write_expanded(
     printer.put_by_ride(Vec::new(alloc), graph)
 }
 
-/// The text of a graph by place: a first row, the start leg, and for each place a row and one for
-/// each of its rows. Where source and target are one place only the first row stands. What is
-/// written of a graph that fits the network and the question reads back.
+/// The text of a graph by place: a first row, the start leg, and for each place a row and one for each of
+/// its rows. If source and target are one place, there is only the first row. The text of a graph that fits
+/// the network and the question reads back.
 pub fn write(
     alloc: Global,
     graph: &PlanGraph,
@@ -78,7 +81,7 @@ pub fn write(
     requires query { IsPrintableQuery network.now head.now.query }
     requires graph { IsPrintablePlan network.now graph.now }
     ensures text { IfOk result
-        (λ text. text.items ≡ graph_text network.now names.now head.now graph.now) }
+        (λ text. text.items ≡ plan_text network.now names.now head.now graph.now) }
     ensures reads_back { IfOk result (λ text. IsFit network.now head.now.query graph.now
         → head.now.query.start.0 ≤ head.now.query.deadline.0
         → IsReadAs network.now names.now head.now graph.now text.items) }
@@ -95,33 +98,34 @@ pub fn write(
     printer.put_by_place(Vec::new(alloc), graph)
 }
 
-/// A graph that is ready to be pruned can be printed.
+/// A law, with no code: a graph that is ready to be pruned can be printed.
 pub fn ready_is_printable()
     ensures { (n : NetworkModel) (q : QueryParts) (graph : Expanded) → IsValid n → IsReady n q graph
-        → IsPrintable n graph }
+        → IsPrintableExpanded n graph }
 {}
 
-/// A graph that fits a network can be printed.
+/// A law, with no code: a graph that fits a network can be printed.
 pub fn fit_is_printable()
     ensures { (n : NetworkModel) (q : QueryParts) (graph : Plan) → IsValid n → IsFit n q graph
         → IsPrintablePlan n graph }
 {}
 
-/// What is read fits the network and the question, whose source, target and start are those given.
+/// A law, with no code: what is read fits the network and the question, whose source, target and start are those given.
 pub fn read_fits()
     ensures { (n : NetworkModel) (names : NameLists) (text : Sequence ℕ) (source target start : ℕ)
         (head : HeadParts) (graph : Plan) → graph_of text n names source target start
         ≡ Ok (head, graph) → IsFit n head.query graph × IsHeadOf source target start head }
 {}
 
-/// A text is read as a head and a graph exactly where its rows are those of them, and the graph fits.
+/// A law, with no code: a text is read as a head and a graph if its rows are those of them and the graph
+/// fits, and only then.
 pub fn read_is_told()
     ensures { (n : NetworkModel) (names : NameLists) (head : HeadParts) (graph : Plan) (text : Sequence ℕ)
         → IsValid n → IsReadAs n names head graph text ↔ IsTextOf n names head graph text }
 {}
 
-/// For a valid network, the fault that is read of a text is its first by line: the rows before that line
-/// are those of a graph, and the row of it breaks the rule that the fault names.
+/// A law, with no code: for a valid network, the fault of a text is its first by line. The rows before that
+/// line are those of a graph, and its own row breaks the rule that the fault names.
 pub fn read_fault_is_told()
     ensures { (n : NetworkModel) (names : NameLists) (source target start : ℕ) (text : Sequence ℕ) (fault : Fault)
         → IsValid n → graph_of text n names source target start ≡ Err fault ↔ IsFirstFaultOf n names source target start text fault }

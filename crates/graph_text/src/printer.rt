@@ -2,10 +2,10 @@
 ghost use Rattle.std.specs.Prelude.{◌≡◌, ◌<◌, ◌++◌, map, take, All, IfOk, IfSome, length};
 ghost use Rattle.plan_model.specs.NameLists.{NamesFit};
 ghost use Rattle.plan_graph.specs.Ready.{IsLegOf};
-ghost use Rattle.graph_text.specs.GraphTexts.{leg_row, head_row, start_leg_text, rows_text, ride_text, rides_text, place_row, table_text, tables_text, expanded_text_in, graph_text_in};
+ghost use Rattle.graph_text.specs.GraphTexts.{leg_row, head_row, start_leg_text, rows_text, ride_text, rides_text, place_row, table_text, tables_text, expanded_text_in, plan_text_in};
 ghost use Rattle.printed_rows.specs.Writers.{row_of_fields};
 ghost use Rattle.graph_text.specs.Versions.{width_of};
-ghost use Rattle.graph_text.specs.Printable.{IsPrintableQuery, IsPrintableRow, IsPrintableRide, IsPrintableTable, IsPrintable, IsPrintablePlan};
+ghost use Rattle.graph_text.specs.Printable.{IsPrintableQuery, IsPrintableRow, IsPrintableRide, IsPrintableTable, IsPrintableExpanded, IsPrintablePlan};
 
 use crate::Head;
 use crate::version::{Version, digit, width};
@@ -14,8 +14,8 @@ use itoa::Buffer;
 use plan_graph::{ExpandedGraph, GraphRow, PlaceTable, PlanGraph, Ride};
 use plan_model::{Leg, Names, Network, NoMemory, PlaceId};
 
-/// What the rows of a graph tell of, a network with the names of its places and runs and a question
-/// about it with its bounds, and how.
+/// What is needed to print the rows of a graph: a network with the names of its places and runs, a question
+/// about it with its bounds, and the version of the text.
 #[derive(Drop)]
 pub(crate) struct Printer<'a> {
     pub(crate) network: &'a Network,
@@ -27,7 +27,7 @@ pub(crate) struct Printer<'a> {
 }
 
 impl<'a> Printer<'a> {
-    /// Puts a row of fields behind a text; the first version leaves out the ninth.
+    /// Adds a row of fields to a text; the first version leaves out the ninth.
     fn put_row(&self, text: Vec<u8>, fields: &[&[u8]; 9]) -> Result<Vec<u8>, NoMemory>
         ensures { IfOk result (λ whole. whole.items ≡ text.items
             ++ row_of_fields (take (width_of self.now.version) (map (λ field. field.now) fields.now))) }
@@ -35,7 +35,7 @@ impl<'a> Printer<'a> {
         printed_rows::put_row(text, &fields[..width(self.version)])
     }
 
-    /// Puts the row of a leg behind a text.
+    /// Adds the row of a leg to a text.
     fn put_leg<'b>(
         &self,
         text: Vec<u8>,
@@ -69,7 +69,7 @@ impl<'a> Printer<'a> {
         )
     }
 
-    /// Puts the first row behind a text.
+    /// Adds the first row to a text.
     fn put_head(&self, text: Vec<u8>, kind: &[u8]) -> Result<Vec<u8>, NoMemory>
         ensures { IfOk result (λ whole. whole.items ≡ text.items
             ++ head_row self.now.names.now self.now.version kind.now self.now.head.now) }
@@ -96,7 +96,7 @@ impl<'a> Printer<'a> {
         )
     }
 
-    /// Puts the row of the start leg behind a text.
+    /// Adds the row of the start leg to a text.
     fn put_start(&self, text: Vec<u8>, start: Option<Leg>) -> Result<Vec<u8>, NoMemory>
         requires { IfSome start (IsLegOf self.now.network.now) }
         ensures { IfOk result (λ whole. whole.items ≡ text.items
@@ -109,7 +109,7 @@ impl<'a> Printer<'a> {
         self.put_leg(text, b"start", dep.as_slice(), leg)
     }
 
-    /// Puts the rows of a table behind a text.
+    /// Adds the rows of a table to a text.
     fn put_rows(
         &self,
         mut text: Vec<u8>,
@@ -127,7 +127,7 @@ impl<'a> Printer<'a> {
         Ok(text)
     }
 
-    /// Puts the row of a ride and its rows behind a text.
+    /// Adds the row of a ride and its rows to a text.
     fn put_ride(&self, text: Vec<u8>, ride: &Ride) -> Result<Vec<u8>, NoMemory>
         requires { IsPrintableRide self.now.network.now ride.now }
         ensures { IfOk result (λ whole. whole.items ≡ text.items
@@ -139,7 +139,7 @@ impl<'a> Printer<'a> {
         self.put_rows(text, b"next", ride.after.as_slice())
     }
 
-    /// Puts the rows of all rides behind a text.
+    /// Adds the rows of all rides to a text.
     fn put_rides(&self, mut text: Vec<u8>, rides: &[Ride]) -> Result<Vec<u8>, NoMemory>
         requires { All (IsPrintableRide self.now.network.now) rides.now }
         ensures { IfOk result (λ whole. whole.items ≡ text.items
@@ -151,7 +151,7 @@ impl<'a> Printer<'a> {
         Ok(text)
     }
 
-    /// Puts the row of a place and its rows behind a text.
+    /// Adds the row of a place and its rows to a text.
     fn put_table(&self, text: Vec<u8>, table: &PlaceTable) -> Result<Vec<u8>, NoMemory>
         requires { IsPrintableTable self.now.network.now table.now }
         ensures { IfOk result (λ whole. whole.items ≡ text.items
@@ -161,7 +161,7 @@ impl<'a> Printer<'a> {
         self.put_rows(text, b"leg", table.rows.as_slice())
     }
 
-    /// Puts the row of a place behind a text.
+    /// Adds the row of a place to a text.
     fn put_place(&self, text: Vec<u8>, place: PlaceId, count: usize) -> Result<Vec<u8>, NoMemory>
         requires { place.0 < length self.now.network.now.change }
         ensures { IfOk result (λ whole. whole.items ≡ text.items
@@ -186,7 +186,7 @@ impl<'a> Printer<'a> {
         )
     }
 
-    /// Puts the rows of all places behind a text.
+    /// Adds the rows of all places to a text.
     fn put_tables(&self, mut text: Vec<u8>, tables: &[PlaceTable]) -> Result<Vec<u8>, NoMemory>
         requires { All (IsPrintableTable self.now.network.now) tables.now }
         ensures { IfOk result (λ whole. whole.items ≡ text.items
@@ -198,13 +198,13 @@ impl<'a> Printer<'a> {
         Ok(text)
     }
 
-    /// Puts the rows of a graph by ride behind a text.
+    /// Adds the rows of a graph by ride to a text.
     pub(crate) fn put_by_ride(
         &self,
         text: Vec<u8>,
         graph: &ExpandedGraph,
     ) -> Result<Vec<u8>, NoMemory>
-        requires { IsPrintable self.now.network.now graph.now }
+        requires { IsPrintableExpanded self.now.network.now graph.now }
         ensures { IfOk result (λ whole. whole.items ≡ text.items
             ++ expanded_text_in self.now.network.now self.now.names.now self.now.version self.now.head.now graph.now) }
     {
@@ -216,11 +216,11 @@ impl<'a> Printer<'a> {
         self.put_rides(text, graph.rides.as_slice())
     }
 
-    /// Puts the rows of a graph by place behind a text.
+    /// Adds the rows of a graph by place to a text.
     pub(crate) fn put_by_place(&self, text: Vec<u8>, graph: &PlanGraph) -> Result<Vec<u8>, NoMemory>
         requires { IsPrintablePlan self.now.network.now graph.now }
         ensures { IfOk result (λ whole. whole.items ≡ text.items
-            ++ graph_text_in self.now.network.now self.now.names.now self.now.version self.now.head.now graph.now) }
+            ++ plan_text_in self.now.network.now self.now.names.now self.now.version self.now.head.now graph.now) }
     {
         let text = self.put_head(text, b"graph")?;
         if self.head.query.source == self.head.query.target {

@@ -26,7 +26,7 @@ use text_index::NameIndex;
 /// Why a text is no graph of a network and a question. A line is the number of a record, from 1 on.
 #[derive(Clone, Copy, Debug, PartialEq, Eq)]
 pub enum TextFault {
-    /// The line is not of the kind that may stand there, or a field is not of its form.
+    /// The line is not of the kind that may be there, or a field is not of its form.
     Row(u64),
     /// A name of the line is not among the names.
     UnknownName(u64),
@@ -37,7 +37,7 @@ pub enum TextFault {
     NoLeg(u64),
     /// The line names another source, target or start.
     OtherQuery(u64),
-    /// There was no memory.
+    /// Memory ran out.
     NoMemory,
 }
 
@@ -91,7 +91,7 @@ struct LegRow {
     arr: Moment,
 }
 
-/// The names of a leg's row: its run, where one leaves it and where one boards.
+/// The names of a leg's row: its run, the place where one leaves it and the place where one boards.
 #[derive(Clone, Copy)]
 struct LegNames {
     run: RunId,
@@ -106,7 +106,7 @@ struct PlaceRow {
     count: u32,
 }
 
-/// A table that begins, and how many rows it has.
+/// The place of a table that begins, and the number of its rows.
 #[derive(Clone, Copy)]
 struct TableStart {
     place: PlaceId,
@@ -122,14 +122,15 @@ struct HeadRow {
     hi: u64,
 }
 
-/// The tables so far; the last place, its rows so far and the last moment; how many rows are to come.
+/// The tables so far; the last place, its rows so far and the last moment; and the number of its rows that
+/// are still to come.
 #[derive(Drop)]
 struct Reading {
     done: List<PlaceTable>,
     place: Option<PlaceId>,
     rows: List<GraphRow>,
     by: Option<Moment>,
-    left: u32,
+    remaining: u32,
 }
 
 /// A table's rows, their version, and the network and the names that they are read by.
@@ -142,7 +143,7 @@ struct Reader<'a> {
     ghost fit: { NamesFit names network.now },
 }
 
-/// Whether there is a limit, and it is this moment.
+/// Whether the limit is this moment.
 fn is_limit(limit: Option<Moment>, moment: Moment) -> bool
     ensures { result ≡ is_limit (option_map (λ limit. limit.0) limit) moment.0 }
 {
@@ -162,7 +163,7 @@ impl Reading {
             place: None,
             rows: List::new(alloc),
             by: None,
-            left: 0,
+            remaining: 0,
         }
     }
 }
@@ -176,18 +177,18 @@ fn begin(alloc: Global, reading: Reading, start: TableStart) -> Reading
         place: Some(start.place),
         rows: List::new(alloc),
         by: None,
-        left: start.count,
+        remaining: start.count,
     }
 }
 
-/// With one row more of the last table, which is done with its last row.
+/// With one more row of the last table, which is complete with its last row.
 fn extend(
     alloc: Global,
     reading: Reading,
     place: PlaceId,
     row: GraphRow,
 ) -> Result<Reading, NoMemory>
-    requires left { 1 ≤ reading.left }
+    requires remaining { 1 ≤ reading.remaining }
     requires place { reading.place ≡ Some place }
     ensures now { IfOk result (λ now. after_leg_row reading (Ok row) ≡ Ok now) }
     ensures place { IfOk result (λ now. now.place ≡ reading.place) }
@@ -197,17 +198,17 @@ fn extend(
         place: last,
         mut rows,
         by: _,
-        left,
+        remaining,
     } = reading;
     rows.push(row)?;
-    if left == 1 {
+    if remaining == 1 {
         done.push(PlaceTable { place, rows })?;
         return Ok(Reading {
             done,
             place: last,
             rows: List::new(alloc),
             by: None,
-            left: 0,
+            remaining: 0,
         });
     }
     Ok(Reading {
@@ -215,7 +216,7 @@ fn extend(
         place: last,
         rows,
         by: Some(row.by),
-        left: left - 1,
+        remaining: remaining - 1,
     })
 }
 
@@ -235,7 +236,7 @@ impl<'a> Reader<'a> {
         printed.is_kind(kind, width(self.version))
     }
 
-    /// The numbers of a leg's row, where each field is of its form.
+    /// The numbers of a leg's row; `None` if a field is not of its form.
     fn leg_row(&self, printed: &Record<'_>, kind: &[u8]) -> Option<LegRow>
         ensures { result ≡ leg_row_in self.now.version kind.now printed.now.fields }
     {
@@ -256,7 +257,7 @@ impl<'a> Reader<'a> {
         })
     }
 
-    /// The place where a row has its leg begin: its own place, or the one that it names.
+    /// The place where the leg of a row begins: the place of the row, or the one that it names.
     fn entry_of(&self, printed: &Record<'_>, here: PlaceId) -> Option<PlaceId>
         ensures { option_map (λ id. id.0) result ≡ entry_in self.now.version self.now.names here.0
             printed.now.fields }
@@ -267,7 +268,7 @@ impl<'a> Reader<'a> {
         }
     }
 
-    /// The names of a leg's row of a place, where each is known.
+    /// The names of a leg's row of a place; `None` if one is not known.
     fn names_of(&self, printed: &Record<'_>, here: PlaceId) -> Option<LegNames>
         ensures { result ≡ names_in self.now.version self.now.names here.0
             printed.now.fields }
@@ -278,7 +279,7 @@ impl<'a> Reader<'a> {
         Some(LegNames { run, exit, entry })
     }
 
-    /// The leg of a row by its numbers and names, where the network has it.
+    /// The leg of a row by its numbers and names; `None` if the network does not have it.
     fn leg_found(&self, numbers: &LegRow, known: &LegNames) -> Option<Leg>
         ensures found { result ≡ leg_found self.now.network.now numbers.now known.now }
         ensures there { IfSome result (λ leg. (leg.enter.0 < count self.now.network.now)
@@ -381,7 +382,7 @@ impl<'a> Reader<'a> {
             && printed.field(7).len() == 0
     }
 
-    /// Whether the field of the entry place is empty, where the version has one.
+    /// Whether the field of the entry place is empty, if the version has one.
     fn has_no_entry(&self, printed: &Record<'_>) -> bool
         ensures { result ≡ has_no_entry self.now.version printed.now.fields }
     {
@@ -398,7 +399,7 @@ impl<'a> Reader<'a> {
         self.is_kind(printed, b"place") && (self.is_blank(printed) && self.has_no_entry(printed))
     }
 
-    /// The numbers of a place row, where each field is of its form.
+    /// The numbers of a place row; `None` if a field is not of its form.
     fn place_row(&self, printed: &Record<'_>) -> Option<PlaceRow>
         ensures { result ≡ place_row_in self.now.version printed.now.fields }
     {
@@ -463,7 +464,7 @@ impl<'a> Reader<'a> {
         reading: Reading,
         place: PlaceId,
     ) -> Result<Reading, TextFault>
-        requires left { 1 ≤ reading.left }
+        requires remaining { 1 ≤ reading.remaining }
         requires last { reading.place ≡ Some place }
         requires place { place.0 < length self.now.network.now.change }
         ensures told { IsUnlessNoMemory result (after_leg_row reading
@@ -475,7 +476,7 @@ impl<'a> Reader<'a> {
         Ok(extend(alloc, reading, place, row)?)
     }
 
-    /// After one row more: a place row where no leg row is to come, and else a leg row.
+    /// After one more row: a place row if no leg row is to come, and otherwise a leg row.
     fn read_row(
         &self,
         alloc: Global,
@@ -487,7 +488,7 @@ impl<'a> Reader<'a> {
             printed.now.fields reading) }
         ensures place { IfOk result (IsPlaced self.now.network.now) }
     {
-        if reading.left == 0 {
+        if reading.remaining == 0 {
             return self.read_place(alloc, printed, reading);
         }
         match reading.place {
@@ -505,7 +506,7 @@ impl<'a> Reader<'a> {
         for row in 1..count {
             reading = self.read_row(alloc, &Record::of_row(self.rows, row), reading)?;
         }
-        if reading.left == 0 {
+        if reading.remaining == 0 {
             return Ok(reading.done);
         }
         Err(TextFault::Row(count as u64 + 2))
@@ -518,7 +519,7 @@ impl<'a> Reader<'a> {
         self.is_kind(printed, b"graph") && self.has_no_entry(printed)
     }
 
-    /// The numbers of the first row, where each field is of its form.
+    /// The numbers of the first row; `None` if a field is not of its form.
     fn head_row(&self, printed: &Record<'_>) -> Option<HeadRow>
         ensures told { result ≡ head_row_in self.now.version printed.now.fields }
         ensures ordered { IfSome result (λ numbers. numbers.lo ≤ numbers.hi) }
@@ -607,7 +608,7 @@ impl<'a> Reader<'a> {
     }
 }
 
-/// The version that the first row tells.
+/// The version in the first row.
 fn version_of(rows: &Rows) -> Option<Version>
     ensures { result ≡ version_in (header rows.now) }
 {
@@ -621,7 +622,7 @@ fn version_of(rows: &Rows) -> Option<Version>
     None
 }
 
-/// The head and the graph that a table's records tell, as [`read`] does.
+/// The head and the graph of a table's records, as [`read`] gives them.
 fn read_records(
     alloc: Global,
     rows: &Rows,
@@ -651,8 +652,8 @@ fn read_records(
     }
 }
 
-/// The head and the graph that a text tells, which are of this source, target and start; or the
-/// first of its faults by line.
+/// The head and the graph of a text, which are of this source, target and start; or the first of its faults
+/// by line, and for one line the first in the order of `TextFault`.
 pub fn read(
     alloc: Global,
     bytes: &[u8],

@@ -7,7 +7,7 @@ ghost use Rattle.graph_text.specs.Versions.{number_of_version, width_of, rows_le
 use plan_graph::{GraphRow, PlaceTable, Ride};
 use plan_model::{Leg, Network, PlaceId};
 
-/// How a text tells where its legs begin.
+/// The two versions of a graph's text, which differ in where its legs may begin.
 #[derive(Clone, Copy)]
 pub(crate) enum Version {
     /// Each leg leaves its row's place. A row has eight fields.
@@ -16,7 +16,7 @@ pub(crate) enum Version {
     Second,
 }
 
-/// The digit of a version, as the first row tells it.
+/// The digit of a version, as it is in the first row.
 pub(crate) fn digit(version: Version) -> u8
     ensures { result ∷ [] ≡ number_of_version version }
 {
@@ -26,7 +26,7 @@ pub(crate) fn digit(version: Version) -> u8
     }
 }
 
-/// How many fields each row has.
+/// The number of fields of each row.
 pub(crate) fn width(version: Version) -> usize
     ensures value { result ≡ width_of version }
     ensures some { 0 < result }
@@ -37,7 +37,7 @@ pub(crate) fn width(version: Version) -> usize
     }
 }
 
-/// The first version where each leg leaves its row's place, and the second where one does not.
+/// The first version if each leg leaves its row's place, and the second if one does not.
 pub(crate) fn version_by(leave: bool) -> Version
     ensures { result ≡ version_by leave }
 {

@@ -11,7 +11,7 @@ use Rattle.decision_graph.specs.Expanded.{IsExpanded}
 use Rattle.decision_graph.specs.Planned.{IsPlanned}
 use Rattle.graph_text.specs.declared.Head.{Head}
 use Rattle.graph_text.specs.Reading.{IsReadAs}
-use Rattle.graph_text.specs.GraphTexts.{expanded_text, graph_text}
+use Rattle.graph_text.specs.GraphTexts.{expanded_text, plan_text}
 use Rattle.printed_rows.specs.Writers.{place_name}
 use Rattle.journey_model.specs.declared.faults.Fault.{Fault}
 use Rattle.journey_model.specs.declared.faults.Fault.TheVariants.{NoSafe}
@@ -59,7 +59,7 @@ TellsExpanded p found text query worst =
 abbrev pub TellsPlanned : Problem → Findings → List ℕ → Query → Moment → Type 0
 TellsPlanned p found text query worst =
     (graph : PlanGraph) × (bounds : Interval) × (found ≡ plan_findings query worst graph bounds)
-    × IsPlanned p.timetable.network query graph bounds × (text ≡ graph_text p.timetable.network p.timetable.names (head_of query bounds) graph)
+    × IsPlanned p.timetable.network query graph bounds × (text ≡ plan_text p.timetable.network p.timetable.names (head_of query bounds) graph)
     × IsReadAs p.timetable.network p.timetable.names (head_of query bounds) graph text
 
 -- no strategy always reaches the target

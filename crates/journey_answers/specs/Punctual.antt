@@ -1,41 +1,23 @@
 -- The answer about the least chance of an arrival after a promised moment.
-use Rattle.std.specs.Prelude.{◌≡◌, ◌≢◌, ℕ, List, ◌++◌}
+use Rattle.std.specs.Prelude.{◌≡◌, ℕ, List, ◌++◌}
 use Rattle.plan_model.specs.declared.model.Moment.{Moment}
 use Rattle.plan_model.specs.declared.model.Query.{Query}
-use Rattle.plan_model.specs.NetworkModel.{NetworkModel}
 use Rattle.interval_fixed.specs.Interval.{Interval}
 use Rattle.plan_graph.specs.declared.PlanGraph.{PlanGraph}
 use Rattle.plan_graph.specs.Unfold.{unfold_plan}
-use Rattle.graph_text.specs.GraphTexts.{graph_text}
+use Rattle.graph_text.specs.GraphTexts.{plan_text}
 use Rattle.graph_text.specs.Reading.{IsReadAs}
 use Rattle.graph_score.specs.Scores.{IsScored}
-use Rattle.late_chance.specs.Chances.{promised, chance_scoring}
-use Rattle.late_chance.specs.LaterGraphs.{later_graph}
-use Rattle.late_chance.specs.Punctual.{IsPunctual, seen_for, asked_for, shift_for}
-use Rattle.meat_scan.specs.Rules.{IsByRules}
+use Rattle.late_chance.specs.Punctual.{IsPunctual, IsSeenLater}
 use Rattle.journey_model.specs.declared.problem.Problem.{Problem}
 use Rattle.journey_answers.specs.Answers.{head_of}
 use Rattle.journey_report.specs.Findings.{Findings, punctual_findings}
 use Rattle.journey_report.specs.AnswerTexts.{punctual_row}
 
--- the graph has the least chance to arrive after the moment that stands for a promise; it and its chance are those that the rules of the
--- scan keep, or, where source and target are one place, the chance is that of having arrived
-pub record IsLeastChance (network : NetworkModel) (query : Query) (graph : PlanGraph) (chance : Interval) : Type 0 where
-  pub punctual : IsPunctual network query promised graph chance
-  pub by_rules : query.source.0 ≢ query.target.0
-      → IsByRules chance_scoring network query (unfold_plan graph network query) chance
-  pub at_once : query.source.0 ≡ query.target.0 → chance ≡ chance_scoring.arrived query.start.0
-
--- the graph is that of the network as it is seen for the promise, by the shift later
-pub record IsSeenLater (network : NetworkModel) (query : Query) (promise : ℕ) (graph : PlanGraph) (chance : Interval) : Type 0 where
-  pub seen : PlanGraph
-  pub least : IsLeastChance (seen_for network query promise) (asked_for query promise) seen chance
-  pub later : graph ≡ later_graph (shift_for promise) seen
-
 -- the text of a graph with its chance is the row of the promise and the text of the graph, which reads back
 pub record IsPunctualText (p : Problem) (promise : ℕ) (query : Query) (graph : PlanGraph) (chance bounds : Interval) (text : List ℕ) : Type 0 where
-  pub rows : text ≡ punctual_row promise chance ++ graph_text p.timetable.network p.timetable.names (head_of query bounds) graph
-  pub reads_back : IsReadAs p.timetable.network p.timetable.names (head_of query bounds) graph (graph_text p.timetable.network p.timetable.names (head_of query bounds) graph)
+  pub rows : text ≡ punctual_row promise chance ++ plan_text p.timetable.network p.timetable.names (head_of query bounds) graph
+  pub reads_back : IsReadAs p.timetable.network p.timetable.names (head_of query bounds) graph (plan_text p.timetable.network p.timetable.names (head_of query bounds) graph)
 
 -- the answer of `punctual`: a decision graph by place with bounds of its chance to arrive after the promised moment, which is the least, and of its
 -- expected arrival

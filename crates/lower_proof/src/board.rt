@@ -17,7 +17,7 @@ pub struct Entry {
     pub id: ConnectionId,
 }
 
-/// How many entries are in time for an arrival.
+/// The number of entries that are in time for an arrival.
 fn count_in_time(entries: &[Entry], arrival: Moment) -> usize
     requires { Falls entries.now }
     ensures within { result ≤ length entries.now }
@@ -37,7 +37,7 @@ fn count_in_time(entries: &[Entry], arrival: Moment) -> usize
     low
 }
 
-/// Makes the least values known up to a number of entries.
+/// Computes the least values of the first entries, up to a number of them.
 fn extend(
     least: &mut [Option<u64>],
     entries: &[Entry],
@@ -58,8 +58,8 @@ fn extend(
     }
 }
 
-/// The connections that can be boarded from a place, by falling moment, and the least values of the
-/// first so many of them.
+/// The connections that can be boarded from a place, by falling moment, and for the first of them the least
+/// value of each and those before, in nanoseconds since 1970-01-01.
 #[derive(Drop)]
 pub struct Board {
     entries: Vec<Entry>,
@@ -82,7 +82,8 @@ impl Model for Board {
 }
 
 impl Board {
-    /// The least value of the entries that are in time for an arrival.
+    /// The least value of the entries that are in time for an arrival, in nanoseconds since 1970-01-01;
+    /// `None` if none of these has a value.
     pub fn look(&mut self, values: &[Option<u64>], arrival: Moment) -> Option<u64>
         requires { IsBoard values.now self.old }
         ensures least { IsLeastOf (ValueInTime values.now self.new.entries arrival.0) result }
@@ -115,7 +116,7 @@ impl Board {
         }
     }
 
-    /// Puts an entry at the end, and forgets what was known.
+    /// Adds an entry at the end, and drops the least values.
     fn add(&mut self, entry: Entry) -> Result<(), NoMemory>
         ensures added { OnOk result (self.new.entries ≡ self.old.entries ++ entry ∷ []) }
         ensures least { self.new.least ≡ [] }
@@ -126,7 +127,7 @@ impl Board {
         Ok(())
     }
 
-    /// Puts the entries in order.
+    /// Sorts the entries.
     fn sort(&mut self)
         ensures permutation { IsPermutation self.old.entries self.new.entries }
         ensures falls { Falls self.new.entries }
@@ -150,7 +151,7 @@ fn empty_boards(alloc: Global, places: u32) -> Result<Vec<Board>, NoMemory>
     Ok(boards)
 }
 
-/// Puts a connection into the board of each place from which a way leads to it.
+/// Adds a connection to the board of each place from which a way leads to it.
 fn add_entries(boards: &mut [Board], network: &Network, id: ConnectionId) -> Result<(), NoMemory>
     requires there { id.0 < count network.now }
     requires board { IsTrue (connection network.now id.0).can_board }
@@ -172,7 +173,7 @@ fn add_entries(boards: &mut [Board], network: &Network, id: ConnectionId) -> Res
     Ok(())
 }
 
-/// Puts the entries of each board in order.
+/// Sorts the entries of each board.
 fn sort_boards(boards: &mut [Board], network: &Network)
     requires len { length boards.old ≡ length network.now.change }
     ensures len { length boards.new ≡ length network.now.change }

@@ -1,4 +1,4 @@
-//! A text tells one certificate.
+//! A text has one certificate.
 ghost use Rattle.std.specs.Prelude.{◌≡◌, ◌≢◌, ℕ, List as Bytes, Err};
 ghost use Rattle.std.specs.Prelude.{Result as Either};
 ghost use Rattle.csv_rows.specs.Tables.{table_of, header};
@@ -10,14 +10,14 @@ ghost use Rattle.lower_proof.specs.declared.reader.ProofFault.{ProofFault as Fau
 ghost use Rattle.lower_proof.specs.declared.reader.ProofFault.TheVariants.{NoMemory as Lacking};
 ghost use Rattle.lower_proof.specs.Reading.{bounds_in, IsFaultAfter, IsProofRead};
 
-/// What is read of a text is one certificate or one fault, but for want of memory.
+/// A law, with no code: what is read of a text is one certificate or one fault, unless memory runs out.
 pub fn one_text_tells_one_certificate()
     ensures { (n : NetworkModel) (names : NameLists) (source target start : ℕ) (text : Bytes ℕ) (r s : Either (Asked × Proof) Fault)
         → IsProofRead n names source target start text r → IsProofRead n names source target start text s
         → r ≢ Err Lacking → s ≢ Err Lacking → r ≡ s }
 {}
 
-/// The first fault of a text is not that there was no memory.
+/// A law, with no code: the first fault of a text is not that memory ran out.
 pub fn no_text_lacks_memory()
     ensures { (n : NetworkModel) (names : NameLists) (source target start : ℕ) (text : Bytes ℕ) (fault : Fault)
         → IsFaultAfter n names (table_of text) (bounds_in names source target start (header (table_of text))) fault

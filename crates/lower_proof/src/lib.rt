@@ -1,5 +1,8 @@
 //! Lower bounds on the expected arrival of every safe strategy, that are checked one connection at a
 //! time.
+//!
+//! A call that takes an allocator may answer that there is no memory, as `NoMemory` or as the variant
+//! of that name; then what it was lent is as it was, unless its own comment says otherwise.
 #![tactic(auto)]
 
 ghost use Rattle.std.specs.Prelude.{◌≡◌, ℕ, ◌+◌, ◌<◌, ◌≤◌, ◌↔◌, IsTrue, IfOk, length, slice_set, Option as Maybe};
@@ -31,7 +34,7 @@ use walk::{departures_by, last_departure};
 /// A lower bound for each connection that has one, in nanoseconds since 1970-01-01.
 #[derive(Drop)]
 pub struct LowerBounds {
-    /// One entry for each connection.
+    /// One entry for each connection, `None` if it has no value.
     pub values: List<Option<u64>>,
 }
 
@@ -40,11 +43,11 @@ pub struct LowerBounds {
 pub enum Verdict {
     /// The value of every connection that can be boarded is small enough.
     Holds,
-    /// The last connection of the scan order whose value is too great.
+    /// The last connection of the scan order whose value is too great or missing.
     Fails(ConnectionId),
 }
 
-/// What is asked, and the last departure that counts for it.
+/// The question, and the last departure that counts for it.
 #[derive(Clone, Copy)]
 struct Scope {
     query: Query,
@@ -73,7 +76,7 @@ fn keeps_to(own: Option<u64>, best: Option<u64>) -> bool
     }
 }
 
-/// The arrival in nanoseconds, where it is by the deadline.
+/// The arrival in nanoseconds since 1970-01-01; `None` if it is after the deadline.
 fn arrived(deadline: Moment, moment: Moment) -> Option<u64>
     requires { moment.0 < end_of_nanos }
     ensures { result ≡ arrived_by deadline.0 moment.0 }
@@ -94,7 +97,7 @@ fn starts(network: &Network, place: PlaceId, moment: Moment, id: ConnectionId) -
     connection.from == place && moment <= connection.dep
 }
 
-/// The least value after an arrival at a place.
+/// The least value after an arrival at a place; `None` if there is none.
 fn least_at(
     boards: &mut [Board],
     values: &[Option<u64>],
@@ -116,7 +119,7 @@ fn least_at(
     board.look(values, moment)
 }
 
-/// The value of leaving by a connection, where one can leave by it and is safe after each outcome.
+/// The value of leaving by a connection; `None` if one cannot leave by it, or is not safe after an outcome.
 fn via(
     boards: &mut [Board],
     values: &[Option<u64>],
@@ -185,7 +188,7 @@ fn offer(
 }
 
 /// Whether the value of each connection that can be boarded is at most that of each way to leave its
-/// run. Where it is, no safe strategy is expected to arrive before the least value at the start.
+/// run. If it is, no safe strategy is expected to arrive before the least value at the start.
 pub fn check(
     alloc: Global,
     proof: &LowerBounds,
@@ -215,7 +218,9 @@ pub fn check(
     Ok(Verdict::Holds)
 }
 
-/// The least value at the start.
+/// The least value at the start, in nanoseconds since 1970-01-01; `None` if no connection that can be boarded
+/// from the source at the start has a value, and, if source and target are one place, if the start is after
+/// the deadline.
 pub fn least(proof: &LowerBounds, network: &Network, query: &Query) -> Option<u64>
     requires values { length proof.now.values ≡ count network.now }
     requires start { query.now.source.0 ≡ query.now.target.0 → query.now.start.0 < end_of_nanos }

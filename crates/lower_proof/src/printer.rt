@@ -16,14 +16,14 @@ use plan_model::{ConnectionId, Names, Network, NoMemory, Query};
 use printed_rows::put_row;
 use std::alloc::Global;
 
-/// How many of these there are.
+/// The number of connections that have a value.
 fn number_of(values: &[Option<u64>]) -> usize
     ensures { result ≡ count_by is_some values.now }
 {
     values.iter().filter(|value| value.is_some()).count()
 }
 
-/// What the rows of a certificate tell of: a network with the names of its places and runs, the
+/// What is needed to print the rows of a certificate: a network with the names of its places and runs, the
 /// question that the certificate is for, and the value of each connection.
 #[derive(Drop)]
 struct Printer<'a> {
@@ -40,7 +40,7 @@ struct Printer<'a> {
 }
 
 impl<'a> Printer<'a> {
-    /// Puts the first row behind a text.
+    /// Adds the first row to a text.
     fn put_bounds(&self, text: Vec<u8>) -> Result<Vec<u8>, NoMemory>
         ensures { IfOk result (λ whole. whole.items ≡ text.items
             ++ row_of_fields (bounds_record self.now.names.now self.now.query.now self.now.values.now)) }
@@ -62,7 +62,7 @@ impl<'a> Printer<'a> {
         )
     }
 
-    /// Puts the row of a connection behind a text, where it has a value.
+    /// Adds the row of a connection to a text, if it has a value.
     fn put_value(
         &self,
         text: Vec<u8>,
@@ -91,7 +91,7 @@ impl<'a> Printer<'a> {
         )
     }
 
-    /// Puts a row for each connection that has a value behind a text.
+    /// Adds a row for each connection that has a value to a text.
     fn put_values(&self, mut text: Vec<u8>) -> Result<Vec<u8>, NoMemory>
         ensures text { IfOk result (λ whole. whole.items ≡ text.items
             ++ text_of_records (value_records self.now.network.now self.now.names.now 0 self.now.values.now)) }
@@ -104,8 +104,8 @@ impl<'a> Printer<'a> {
     }
 }
 
-/// The text of a certificate with the query that it is for: a first row, and one for each connection that has a value, in
-/// their order. What is written reads back, where the start is not after the deadline.
+/// The text of a certificate with the query that it is for: a first row, and one for each connection that has
+/// a value, in their order. It reads back if the start is not after the deadline.
 pub fn write_text(
     alloc: Global,
     proof: &LowerBounds,

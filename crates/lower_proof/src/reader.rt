@@ -17,8 +17,8 @@ use text_index::NameIndex;
 /// Why a text is no certificate for a network and a question. A line is the number of a record, from 1 on.
 #[derive(Clone, Copy, Debug, PartialEq, Eq)]
 pub enum ProofFault {
-    /// The line is not of the kind that may stand there, or a field is not of its form, or line 1 has a start after the
-    /// deadline; or the line is the first value row that is missing, or the first that is too many.
+    /// The line is not of the kind that may be there, or a field is not of its form, or line 1 has a start
+    /// after the deadline; or the line is the first value row that is missing, or the first that is too many.
     Row(u64),
     /// A name of the line is not among the names.
     UnknownName(u64),
@@ -28,7 +28,7 @@ pub enum ProofFault {
     NotRising(u64),
     /// The line names another source, target or start.
     OtherQuery(u64),
-    /// There was no memory.
+    /// Memory ran out.
     NoMemory,
 }
 
@@ -109,7 +109,7 @@ fn is_in_time(start: Moment, deadline: Moment) -> bool
     start.0 <= deadline.0
 }
 
-/// The numbers of the first row, where each field is of its form.
+/// The numbers of the first row; `None` if a field is not of its form.
 fn bounds_row(printed: &Record<'_>) -> Option<BoundsRow>
     ensures { result ≡ bounds_row_in printed.now.fields }
 {
@@ -129,7 +129,7 @@ fn bounds_row(printed: &Record<'_>) -> Option<BoundsRow>
     })
 }
 
-/// What the first row tells, which is of this source, target and start.
+/// The contents of the first row, which is of this source, target and start.
 fn read_bounds(
     rows: &Rows,
     names: &NameIndex<'_>,
@@ -155,7 +155,7 @@ fn read_bounds(
     }
 }
 
-/// The numbers of a value row, where each field is of its form.
+/// The numbers of a value row; `None` if a field is not of its form.
 fn value_numbers(printed: &Record<'_>) -> Option<ValueRow>
     ensures { result ≡ value_row_in printed.now.fields }
 {
@@ -167,7 +167,7 @@ fn value_numbers(printed: &Record<'_>) -> Option<ValueRow>
     Some(ValueRow { step, value })
 }
 
-/// What a value row tells, after one of an earlier connection.
+/// The contents of a value row, after one of an earlier connection.
 fn read_value(
     printed: &Record<'_>,
     network: &Network,
@@ -197,7 +197,7 @@ fn read_value(
     }
 }
 
-/// The values of the value rows, of which the first row states so many.
+/// The values of the value rows, whose number is in the first row.
 fn read_values(
     alloc: Global,
     rows: &Rows,
@@ -223,9 +223,9 @@ fn read_values(
     Ok(values)
 }
 
-/// The certificate that a text tells of a network, with the query of this source, target and start and of the text's
-/// deadline; or the first of the text's faults by line, and at one line the first of `ProofFault`. What `write_text` made
-/// reads back.
+/// The certificate of a text, with the query of this source, target and start and of the text's deadline; or
+/// the first of the text's faults by line, and at one line the first in the order of `ProofFault`. What
+/// `write_text` made reads back.
 pub fn read_text(
     alloc: Global,
     bytes: &[u8],

@@ -7,7 +7,7 @@ use crate::board::Entry;
 use plan_model::{ConnectionId, Moment, Network, NoMemory};
 use std::alloc::Global;
 
-/// The later of a moment and a departure, where its connection has a value.
+/// The later of a moment and a departure, or the moment itself if the connection has no value.
 fn later(last: Moment, value: Option<u64>, dep: Moment) -> Moment
     ensures at_least { last.0 ≤ result.0 }
     ensures none { result.0 < dep.0 → value ≡ Maybe.None }
@@ -18,8 +18,8 @@ fn later(last: Moment, value: Option<u64>, dep: Moment) -> Moment
     }
 }
 
-/// The last departure of a connection that has a value, or the deadline where that is later. Who
-/// departs later is too late, and has no value that may be too great.
+/// The last departure of a connection that has a value, or the deadline if that is later. Connections that
+/// depart later are too late, and have no value that may be too great.
 pub fn last_departure(values: &[Option<u64>], network: &Network, deadline: Moment) -> Moment
     requires { length values.now ≡ count network.now }
     ensures deadline { deadline.0 ≤ result.0 }

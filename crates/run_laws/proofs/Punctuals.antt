@@ -7,15 +7,15 @@ use Rattle.plan_model.specs.NetworkModel.{NetworkModel}
 use Rattle.plan_graph.specs.declared.PlanGraph.{PlanGraph}
 use Rattle.plan_graph.specs.Unfold.{unfold_plan}
 use Rattle.graph_score.specs.Spans.{span_of}
-use Rattle.graph_text.specs.GraphTexts.{graph_text}
+use Rattle.graph_text.specs.GraphTexts.{plan_text}
 use Rattle.late_chance.specs.Chances.{chance_scoring}
 use Rattle.late_chance.specs.LaterGraphs.{later_graph}
-use Rattle.late_chance.specs.Punctual.{seen_for, asked_for, shift_for}
+use Rattle.late_chance.specs.Punctual.{IsLeastChance, IsSeenLater, seen_for, asked_for, shift_for}
 use Rattle.journey_model.specs.declared.problem.Problem.{Problem}
 use Rattle.journey_report.specs.Findings.{Findings, punctual_findings}
 use Rattle.journey_report.specs.AnswerTexts.{punctual_row}
 use Rattle.journey_answers.specs.Answers.{InQuery, head_of}
-use Rattle.journey_answers.specs.Punctual.{IsLeastChance, IsSeenLater, TellsPunctual}
+use Rattle.journey_answers.specs.Punctual.{TellsPunctual}
 use Rattle.run_laws.proofs.OneStrategy.{IsThe, only_one}
 use Rattle.run_laws.proofs.PlaceTables.{one_tidy}
 use Rattle.run_laws.specs.OneAnswer.{IsOneAnswer}
@@ -41,7 +41,7 @@ module _ (p : Problem) (found others : Findings) (text other : List ℕ) (promis
   one_told q w (graph, chance, bounds, is, least, seen, scored, own) (graphs, chances, spans, is_other, least_other, seen_other, scored_other, own_other) =
       let both = one_seen p.timetable.network q promise graph graphs chance chances seen seen_other in
       let same : bounds ≡ spans = scored.means ∙ ap (λ (g : PlanGraph). span_of p.timetable.network (unfold_plan g p.timetable.network q)) both.0 ∙ sym scored_other.means in
-      let text_of : PlanGraph → Interval → List ℕ = λ g b. graph_text p.timetable.network p.timetable.names (head_of q b) g in
+      let text_of : PlanGraph → Interval → List ℕ = λ g b. plan_text p.timetable.network p.timetable.names (head_of q b) g in
       record {
         found = is ∙ ap₂ (λ (g : PlanGraph) (b : Interval). punctual_findings q w g b chance) both.0 same ∙ ap (punctual_findings q w graphs spans) both.1 ∙ sym is_other;
         text_is = own.rows ∙ ap₂ (λ (c : Interval) (rest : List ℕ). punctual_row promise c ++ rest) both.1 (ap₂ text_of both.0 same) ∙ sym own_other.rows;

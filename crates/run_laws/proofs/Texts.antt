@@ -5,7 +5,7 @@ use Rattle.plan_model.specs.declared.model.Moment.{Moment}
 use Rattle.plan_model.specs.declared.model.Query.{Query}
 use Rattle.plan_graph.specs.declared.ExpandedGraph.{ExpandedGraph}
 use Rattle.plan_graph.specs.declared.PlanGraph.{PlanGraph}
-use Rattle.graph_text.specs.GraphTexts.{expanded_text, graph_text}
+use Rattle.graph_text.specs.GraphTexts.{expanded_text, plan_text}
 use Rattle.journey_model.specs.declared.problem.Problem.{Problem}
 use Rattle.journey_report.specs.Findings.{Findings, expand_findings, plan_findings}
 use Rattle.journey_answers.specs.Answers.{InQuery, TellsWorst, TellsExpanded, TellsPlanned, head_of}
@@ -25,7 +25,7 @@ module _ (p : Problem) (found others : Findings) (text other : List ℕ) where
       let both = one_planned p.timetable.network q graph graphs bounds spans plan plan_other in
       record {
         found = is ∙ ap₂ (plan_findings q w) both.0 both.1 ∙ sym is_other;
-        text_is = text_is ∙ ap₂ (λ (b : Interval) (g : PlanGraph). graph_text p.timetable.network p.timetable.names (head_of q b) g) both.1 both.0 ∙ sym text_other;
+        text_is = text_is ∙ ap₂ (λ (b : Interval) (g : PlanGraph). plan_text p.timetable.network p.timetable.names (head_of q b) g) both.1 both.0 ∙ sym text_other;
       }
 
   one_expanded_told : (q : Query) (w : Moment) → TellsExpanded p found text q w → TellsExpanded p others other q w → One

@@ -1,7 +1,7 @@
 use Rattle.std.proofs.Common.{◌≡◌, ◌<◌, ◌≤◌, ◌^◌, ℕ, Vec, subst, sym, Global}
 use Rattle.std.proofs.lemmas.Result.{IfOk-weaker}
 use Rattle.plan_graph.specs.Tidy.{IsFit}
-use Rattle.graph_text.specs.GraphTexts.{graph_text}
+use Rattle.graph_text.specs.GraphTexts.{plan_text}
 use Rattle.graph_text.specs.Reading.{IsReadAs}
 use Rattle.graph_text.proofs.ReadBack.{reads_back}
 use Rattle.graph_text.proofs.write.Goals as goal
@@ -17,7 +17,7 @@ returns-clause-reads_back c =
     let graph = c.args.graph.now in
     let back = reads_back n names head graph c.places-2.ensures.valid c.requires.names c.places.ensures.names c.requires.query in
     let small = subst (λ (hi : ℕ). hi < 2 ^ 64) c.hi.ensures c.hi.type_inv in
-    IfOk-weaker c.put_by_place.result (λ (text : Vec ℕ Global). text.items ≡ graph_text n names head graph)
+    IfOk-weaker c.put_by_place.result (λ (text : Vec ℕ Global). text.items ≡ plan_text n names head graph)
     (λ (text : Vec ℕ Global). IsFit n head.query graph → head.query.start.0 ≤ head.query.deadline.0 → IsReadAs n names head graph text.items)
     (λ text is fit in_time. subst (IsReadAs n names head graph) (sym is) (back in_time c.lo.ensures.ordered small fit))
     (returns-clause-text c)

@@ -2,7 +2,7 @@ use Rattle.std.proofs.Common.{◌≡◌, ◌++◌, drop}
 use Rattle.graph_text.specs.GraphTexts.{rides_text}
 use Rattle.graph_text.proofs.printer.Printer.put_rides.Given as goal
 
--- the text so far, and that of the rides that are left
+-- the text so far, and that of the rides that remain
 abbrev pub invariant-loop-ride : goal.invariant-loop-ride
 invariant-loop-ride l =
     l.text.items ++ rides_text l.self.network.now l.self.names.now l.self.version

@@ -2,7 +2,7 @@ use Rattle.std.proofs.Common.{◌≡◌, ◌++◌, drop}
 use Rattle.graph_text.specs.GraphTexts.{rows_text}
 use Rattle.graph_text.proofs.printer.Printer.put_rows.Given as goal
 
--- the text so far, and that of the rows that are left
+-- the text so far, and that of the rows that remain
 abbrev pub invariant-loop-row : goal.invariant-loop-row
 invariant-loop-row l =
     l.text.items ++ rows_text l.self.network.now l.self.names.now l.self.version l.kind
