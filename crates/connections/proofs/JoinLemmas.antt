@@ -32,6 +32,11 @@ pub join-same : {A : Type 0} (f g : ℕ → List A) (n : ℕ) → ((i : ℕ) →
 join-same f g zero h = cc (join-zero f, join-zero g)
 join-same f g (suc n) h = cc (join-suc f n, join-suc g n, join-same f g n (λ i l. h i (omega arith)), h n (omega arith))
 
+-- lists of which each is empty
+pub join-none : {A : Type 0} (f : ℕ → List A) (n : ℕ) → ((i : ℕ) → i < n → f i ≡ []) → join_below f n ≡ []
+join-none f zero h = join-zero f
+join-none f (suc n) h = cc (join-suc f n, join-none f n (λ i l. h i (omega arith)), h n (omega arith), append-nil (join_below f n))
+
 -- nothing stands from a place on
 pub join-rest : {A : Type 0} (f : ℕ → List A) (a j : ℕ) → ((i : ℕ) → a ≤ i → f i ≡ []) → join_below f (a + j) ≡ join_below f a
 join-rest f a zero h = let e : a + zero ≡ a = omega arith in ap (join_below f) e

@@ -1,16 +1,24 @@
 -- Trips that do not ride in a window, by their first and their last departure.
-use Rattle.std.proofs.Common.{◌≡◌, ℕ, zero, suc, ◌+◌, ◌-◌, ◌<◌, ◌≤◌, true, false, List, [], length, arith, ap, refl, inl, inr, ℤ, pos, ◌<ℤ◌}
+use Rattle.std.proofs.Common.{◌≡◌, ℕ, zero, suc, ◌+◌, ◌-◌, ◌<◌, ◌≤◌, Bool, true, false, List, [], ◌∷◌, length, arith, ap, refl, sym, subst, inl, inr, ℤ, pos, ◌<ℤ◌, nat_lt, if◌then◌else◌}
 use Rattle.std.proofs.lemmas.Bool.{cases_eq}
 use Rattle.std.proofs.lemmas.Bool.Decides.{nat_tests}
 use Rattle.std.proofs.lemmas.Int.{ints}
 use Rattle.stop_times.specs.StopTimeBounds.{end_of_times}
 use Rattle.stop_times.specs.declared.rows.StopRow.{StopRow}
-use Rattle.gtfs_tables.specs.Timed.{AreTimed, kept_at}
+use Rattle.trip_frequencies.specs.declared.frequencies.FrequencyRow.{FrequencyRow}
+use Rattle.gtfs_tables.specs.Feeds.{FeedParts}
+use Rattle.gtfs_tables.specs.Timed.{AreTimed, rows_of, kept_at}
+use Rattle.service_days.specs.Services.{ServiceParts}
 use Rattle.connections.specs.declared.origins.Origin.{Origin}
 use Rattle.connections.specs.declared.window.Window.{Window}
-use Rattle.connections.specs.Origins.{moment_of}
+use Rattle.connections.specs.declared.origins.ServiceDay.{ServiceDay}
+use Rattle.connections.specs.Joins.{only_if}
+use Rattle.connections.specs.Origins.{moment_of, origin_of_day}
 use Rattle.connections.specs.Window.{holds}
-use Rattle.connections.specs.Rides.{DepartInOrder, AreDepartures, departs, rides, steps_of}
+use Rattle.connections.specs.Rides.{DepartInOrder, AreDepartures, departs, rides, steps_of, is_active_trip}
+use Rattle.connections.specs.TripRuns.{frequencies_of, own_run, runs_of_trip, trip_runs, day_runs}
+use Rattle.connections.specs.Reach.{AreOverBy, NoneRuns}
+use Rattle.connections.proofs.JoinLemmas.{join-none}
 use Rattle.connections.proofs.StepLemmas.{some_step, steps_none}
 
 -- times do not go back over several rows
@@ -85,8 +93,68 @@ module _ (w : Window) (rows : List StopRow) (o : Origin) where
         (omega arith),
   )))
 
+  -- where the service day begins late
+  pub none_late_all : pos w.end <ℤ moment_of o 0 → steps_of w rows o ≡ []
+  none_late_all late = steps_none w rows o (length rows - 1) (λ k less. holds_late w (departs rows o k) (omega (arith, ints, late)))
+
+  -- where even a second after which no kept row is left is early
+  pub none_after : (latest : ℕ) → ((k : ℕ) → k < length rows → (kept_at rows k).departure ≤ latest) → moment_of o latest <ℤ pos w.start
+      → steps_of w rows o ≡ []
+  none_after latest over early = steps_none w rows o (length rows - 1) (λ k less. holds_early w (departs rows o k) (omega (
+    arith,
+    ints,
+    early,
+    over k
+        (omega arith),
+  )))
+
   pub rides_true : (k : ℕ) → k < length rows - 1 → holds w (departs rows o k) ≡ true → true ≡ rides w rows o
   rides_true k h t = let some = some_step w rows o (length rows - 1) k h t in grind (arith, nat_tests)
 
   pub rides_false : steps_of w rows o ≡ [] → false ≡ rides w rows o
   rides_false none = rw none refl
+
+runs_none : (w : Window) (rows : List StopRow) (day : ServiceDay) (trip : ℕ) (fs : List FrequencyRow) → fs ≡ [] → steps_of w rows (origin_of_day day) ≡ []
+    → runs_of_trip w rows fs day trip ≡ []
+runs_none w rows day trip [] once none = ap (λ (steps : List ℕ). only_if (nat_lt 0 (length steps)) (own_run day trip)) none
+runs_none w rows day trip (row ∷ more) once none = absurd (cc)
+
+where_none : {A : Type 0} (active : Bool) (xs : List A) → xs ≡ [] → (if active then xs else []) ≡ []
+where_none true xs h = h
+where_none false xs h = refl
+
+-- on a day on which no trip rides there is no run
+pub day_runs-none : (f : FeedParts) (s : ServiceParts) (w : Window) (day : ServiceDay) → NoneRuns f w day → day_runs f s w day (length f.trip_ids) ≡ []
+unfolding day_runs
+day_runs-none f s w day none = join-none (trip_runs f s w day) (length f.trip_ids) (λ trip inside.
+    where_none (is_active_trip f s day trip) (runs_of_trip w (rows_of f trip) (frequencies_of f trip) day trip)
+    (runs_none w (rows_of f trip) day trip (frequencies_of f trip) (none.once trip inside) (none.none trip inside)))
+
+-- one more trip that does not repeat
+pub over-next : (f : FeedParts) (n latest last most : ℕ) → AreOverBy f n latest → frequencies_of f n ≡ []
+    → ((k : ℕ) → k < length (rows_of f n) → (kept_at (rows_of f n) k).departure ≤ last) → latest ≤ most → last ≤ most → AreOverBy f (n + 1) most
+over-next f n latest last most before once here low high = record {
+  once = λ trip inside. elim (cases_eq trip n) [
+    | inl same ↦ subst (λ t. frequencies_of f t ≡ []) (sym same) once
+    | inr other ↦ before.once trip (omega arith)
+  ];
+  over = λ trip k inside row. elim (cases_eq trip n) [
+    | inl same ↦
+        let size = ap (λ t. length (rows_of f t)) same in
+        omega (arith, ap (λ t. (kept_at (rows_of f t) k).departure) same, here k (omega (arith, row, size)), high)
+    | inr other ↦ omega (arith, before.over trip k (omega arith) row, low)
+  ];
+}
+
+module _ (f : FeedParts) (w : Window) (day : ServiceDay) (latest : ℕ) (over : AreOverBy f (length f.trip_ids) latest) where
+  pub none_run_late : pos w.end <ℤ moment_of (origin_of_day day) 0 → NoneRuns f w day
+  none_run_late late = record {
+    once = over.once;
+    none = λ trip inside. none_late_all w (rows_of f trip) (origin_of_day day) late;
+  }
+
+  pub none_run_early : moment_of (origin_of_day day) latest <ℤ pos w.start → NoneRuns f w day
+  none_run_early early = record {
+    once = over.once;
+    none = λ trip inside. none_after w (rows_of f trip) (origin_of_day day) latest (λ k row. over.over trip k inside row) early;
+  }

@@ -5,6 +5,7 @@ use Rattle.std.proofs.Math.Nat.{le-mul_of_pos_right, suc-mul, add-mul, zero-mul}
 use mathlib.Core.Path.{fun_ext}
 use Rattle.std.proofs.lemmas.Bool.{cases_lt, cases_Bool, cond_both, and_parts}
 use Rattle.std.proofs.lemmas.Int.{ints}
+use Rattle.std.proofs.lemmas.List.{get_or_past}
 use Rattle.std.proofs.lemmas.List.Sums.{sum_by-cons}
 use Rattle.std.proofs.lemmas.List.Elements.{All-get_or}
 use Rattle.plan_model.specs.declared.model.PlaceId.{PlaceId}
@@ -17,7 +18,8 @@ use Rattle.stop_times.specs.declared.rows.StopRow.{StopRow}
 use Rattle.gtfs_tables.specs.Feeds.{FeedParts}
 use Rattle.stop_times.specs.StopTimeBounds.{end_of_times}
 use Rattle.gtfs_tables.specs.TripRepeats.{IsFrequency, AreRepeats, AreRepeating, IsSmall, repeat_at}
-use Rattle.gtfs_tables.specs.Timed.{rows_of, kept_at}
+use Rattle.gtfs_tables.specs.Timed.{rows_of, kept_at, AreTimed, IsTimed}
+use Rattle.stop_times.specs.Visits.{no_visit}
 use Rattle.run_repeat.specs.Runs.{departure}
 use Rattle.service_days.specs.Services.{ServiceParts}
 use Rattle.connections.specs.declared.origins.ServiceDay.{ServiceDay}
@@ -30,7 +32,8 @@ use Rattle.connections.specs.Window.{holds, day_at, IsWindow}
 use Rattle.connections.specs.Rides.{departs, is_active_trip, steps_below, steps_of}
 use Rattle.connections.specs.RepeatedRuns.{origin_at, repeat_of, rides_by, riding_by}
 use Rattle.connections.specs.TripRuns.{frequencies_of, days}
-use Rattle.connections.specs.Counts.{each_of, steps_sum, row_sum, rows_sum, runs_sum, leaving_sum, trip_sum, day_sum, days_sum, window_sum, count_in, entries_in}
+use Rattle.connections.specs.Counts.{each_of, steps_sum, row_sum, rows_sum, runs_sum, leaving_sum, trip_sum, day_sum, days_sum, window_sum, count_in, entries_in, HaveWays}
+use Rattle.connections.specs.Reach.{NoneRuns}
 use Rattle.connections.proofs.CountLemmas.{sum-zero, sum-suc, sum_by-ones, sum_by-join, length-join, sum_by-at, sum-rides}
 use Rattle.connections.proofs.StepLemmas.{holds_parts}
 
@@ -159,42 +162,43 @@ sum-linear a c f g (suc n) h =
 sum-few : (b : ℕ) (f : ℕ → ℕ) (n : ℕ) → ((k : ℕ) → k < n → f k ≤ b) → sum_below f n ≤ n * b
 sum-few b f n h = omega (arith, sum-linear b 0 f (λ k. 0) n (λ k l. omega (arith, h k l)))
 
--- a number of ways into a place is at most this
-abbrev most : ℕ
-most = 4294967297
+module _ (most : ℕ) (w : Window) (each : PlaceId → ℕ) where
+  sum-scale : (f g : ℕ → ℕ) (n : ℕ) → ((k : ℕ) → k < n → f k ≤ g k * most) → sum_below f n ≤ sum_below g n * most
+  sum-scale f g n h = omega (arith, sum-linear 0 most f g n (λ k l. omega (arith, h k l)))
 
-sum-scale : (f g : ℕ → ℕ) (n : ℕ) → ((k : ℕ) → k < n → f k ≤ most * g k) → sum_below f n ≤ most * sum_below g n
-sum-scale f g n h = omega (arith, sum-linear 0 most f g n (λ k l. omega (arith, h k l)))
+  sum_by-scale : {A : Type 0} (f g : A → ℕ) (xs : List A) → ((x : A) → f x ≤ g x * most) → sum_by f xs ≤ sum_by g xs * most
+  sum_by-scale f g [] h = omega arith
+  sum_by-scale f g (x ∷ xs) h =
+      let whole = ap (λ n. n * most) (sum_by-cons g x xs) ∙ add-mul (g x) (sum_by g xs) most in
+      omega (arith, sum_by-cons f x xs, whole, sum_by-scale f g xs h, h x)
 
-sum_by-scale : {A : Type 0} (f g : A → ℕ) (xs : List A) → ((x : A) → f x ≤ most * g x) → sum_by f xs ≤ most * sum_by g xs
-sum_by-scale f g [] h = omega arith
-sum_by-scale f g (x ∷ xs) h = omega (arith, sum_by-cons f x xs, sum_by-cons g x xs, sum_by-scale f g xs h, h x)
+  if_scale : (active : Bool) (x y : ℕ) → x ≤ y * most → (if active then x else 0) ≤ (if active then y else 0) * most
+  if_scale true x y h = h
+  if_scale false x y h = omega arith
 
-if_scale : (active : Bool) (x y : ℕ) → x ≤ most * y → (if active then x else 0) ≤ most * (if active then y else 0)
-if_scale true x y h = h
-if_scale false x y h = omega arith
+  steps-scale : (rows : List StopRow) → ((k : ℕ) → each (kept_at rows k).place ≤ most) → (o : Origin)
+      → steps_sum each w rows o ≤ steps_sum (λ place. 1) w rows o * most
+  steps-scale rows h o = sum_by-scale (λ k. each (kept_at rows k).place) (λ k. 1) (steps_of w rows o) (λ k. omega (arith, h k))
 
-module _ (w : Window) (each : PlaceId → ℕ) (h : (place : PlaceId) → each place ≤ most) where
-  steps-scale : (rows : List StopRow) (o : Origin) → steps_sum each w rows o ≤ most * steps_sum (λ place. 1) w rows o
-  steps-scale rows o = sum_by-scale (λ k. each (kept_at rows k).place) (λ k. 1) (steps_of w rows o) (λ k. omega (arith, h (kept_at rows k).place))
-
-  runs-scale : (rows : List StopRow) (fs : List FrequencyRow) (day : ServiceDay) → runs_sum each w rows fs day ≤ most * runs_sum (λ place. 1) w rows fs day
+  runs-scale : (rows : List StopRow) → ((k : ℕ) → each (kept_at rows k).place ≤ most) → (fs : List FrequencyRow) (day : ServiceDay)
+      → runs_sum each w rows fs day ≤ runs_sum (λ place. 1) w rows fs day * most
   unfolding rows_sum
-  runs-scale rows [] day = steps-scale rows (origin_of_day day)
-  runs-scale rows (row ∷ more) day =
+  runs-scale rows h [] day = steps-scale rows h (origin_of_day day)
+  runs-scale rows h (row ∷ more) day =
       let fs = row ∷ more in
       sum-scale (λ i. row_sum each w rows day (repeat_at fs i)) (λ i. row_sum (λ place. 1) w rows day (repeat_at fs i)) (length fs) (λ i less.
       sum_by-scale (λ (r : Repeat). steps_sum each w rows (origin_at rows day r.departure)) (λ (r : Repeat). steps_sum (λ place. 1) w rows
       (origin_at rows day r.departure))
-      (riding_by w rows day (repeat_at fs i)) (λ r. steps-scale rows (origin_at rows day r.departure)))
+      (riding_by w rows day (repeat_at fs i)) (λ r. steps-scale rows h (origin_at rows day r.departure)))
 
-  -- where each place counts for so many at most, the sum is at most so many times that of ones
-  pub window-scale : (f : FeedParts) (s : ServiceParts) → window_sum each f s w ≤ most * window_sum (λ place. 1) f s w
+  -- where each place that a trip leaves counts for so many at most, the sum is at most so many times that of ones
+  pub window-scale : (f : FeedParts) (s : ServiceParts) → ((trip k : ℕ) → trip < length f.trip_ids → each (kept_at (rows_of f trip) k).place ≤ most)
+      → window_sum each f s w ≤ window_sum (λ place. 1) f s w * most
   unfolding day_sum days_sum
-  window-scale f s =
+  window-scale f s h =
       sum-scale (λ d. day_sum each f s w (day_at w d) (length f.trip_ids)) (λ d. day_sum (λ place. 1) f s w (day_at w d) (length f.trip_ids)) days (λ d less.
       sum-scale (trip_sum each f s w (day_at w d)) (trip_sum (λ place. 1) f s w (day_at w d)) (length f.trip_ids) (λ trip inside.
-      if_scale (is_active_trip f s (day_at w d) trip) _ _ (runs-scale (rows_of f trip) (frequencies_of f trip) (day_at w d))))
+      if_scale (is_active_trip f s (day_at w d) trip) _ _ (runs-scale (rows_of f trip) (λ k. h trip k inside) (frequencies_of f trip) (day_at w d))))
 
 length-only : (b : Bool) (n : ℕ) → length (only_if b n) ≤ 1
 length-only true n = omega arith
@@ -255,4 +259,40 @@ links_few places to (way ∷ links) are =
 -- the entries of a window by its connections
 pub entries-few : (f : FeedParts) (s : ServiceParts) (c : ChangeParts) (w : Window) → ((to : ℕ) → AreLinksInto 4294967296 to (links_of c to)) → entries_in f s c w ≤ 4294967297 * count_in f s w
 entries-few f s c w are =
-    window-scale w (each_of c Entries) (λ place. omega (arith, links_few 4294967296 place.0 (links_of c place.0) (are place.0))) f s
+    let all = window-scale 4294967297 w (each_of c Entries) f s (λ trip k inside.
+    let place = (kept_at (rows_of f trip) k).place.0 in omega (arith, links_few 4294967296 place (links_of c place) (are place))) in
+    omega (arith, all)
+
+-- the ways into the place of a kept row, or of none
+kept_ways : (rows : List StopRow) (places : ℕ) → AreTimed rows places → (c : ChangeParts) (most : ℕ) → HaveWays c places most → (k : ℕ)
+    → length (links_of c (kept_at rows k).place.0) + 1 ≤ most
+kept_ways rows places timed c most ways k =
+    ⊎_elim (λ (less : k < length rows). ways.each (kept_at rows k).place.0 (timed.place k less))
+    (λ (past : length rows ≤ k). let none = ap (λ (row : StopRow). length (links_of c row.place.0)) (get_or_past rows k no_visit past) in omega (arith, none, ways.first))
+    (cases_lt k (length rows))
+
+-- the entries of a window by its connections and the most ways into a place
+pub entries-most : (f : FeedParts) (s : ServiceParts) (c : ChangeParts) (w : Window) (most : ℕ) → IsTimed f → HaveWays c (length f.stop_ids) most
+    → entries_in f s c w ≤ count_in f s w * most
+entries-most f s c w most timed ways =
+    window-scale most w (each_of c Entries) f s (λ trip k inside. kept_ways (rows_of f trip) (length f.stop_ids) (timed trip inside) c most ways k)
+
+-- nothing is added where each part is nothing
+pub sum-nothing : (f : ℕ → ℕ) (n : ℕ) → ((k : ℕ) → k < n → f k ≡ 0) → sum_below f n ≡ 0
+sum-nothing f n h = omega (arith, sum-few 0 f n (λ k l. omega (arith, h k l)))
+
+if_nothing : (active : Bool) (x : ℕ) → x ≡ 0 → (if active then x else 0) ≡ 0
+if_nothing true x h = h
+if_nothing false x h = refl
+
+runs_nothing : (each : PlaceId → ℕ) (w : Window) (rows : List StopRow) (day : ServiceDay) (fs : List FrequencyRow) → fs ≡ [] → steps_of w rows (origin_of_day day) ≡ []
+    → runs_sum each w rows fs day ≡ 0
+runs_nothing each w rows day [] once none = ap (sum_by (λ k. each (kept_at rows k).place)) none
+runs_nothing each w rows day (row ∷ more) once none = absurd (cc)
+
+-- a day on which no trip rides adds nothing
+pub day_sum-none : (each : PlaceId → ℕ) (f : FeedParts) (s : ServiceParts) (w : Window) (day : ServiceDay) → NoneRuns f w day → day_sum each f s w day (length f.trip_ids) ≡ 0
+unfolding day_sum
+day_sum-none each f s w day none = sum-nothing (trip_sum each f s w day) (length f.trip_ids) (λ trip inside.
+    if_nothing (is_active_trip f s day trip) (runs_sum each w (rows_of f trip) (frequencies_of f trip) day)
+    (runs_nothing each w (rows_of f trip) day (frequencies_of f trip) (none.once trip inside) (none.none trip inside)))

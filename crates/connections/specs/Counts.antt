@@ -1,5 +1,5 @@
 -- What the connections of a window add up to: a sum over its service days, the trips of the feed, their runs and their kept rows.
-use Rattle.std.specs.Prelude.{ℕ, ◌&&◌, nat_lt, ◌+◌, List, [], ◌∷◌, length, sum_by, if◌then◌else◌}
+use Rattle.std.specs.Prelude.{ℕ, ◌&&◌, nat_lt, ◌<◌, ◌≤◌, ◌+◌, List, [], ◌∷◌, length, sum_by, if◌then◌else◌}
 use Rattle.plan_model.specs.declared.model.PlaceId.{PlaceId}
 use Rattle.trip_frequencies.specs.declared.frequencies.FrequencyRow.{FrequencyRow}
 use Rattle.stop_times.specs.declared.rows.StopRow.{StopRow}
@@ -73,3 +73,8 @@ count_in f s w = window_sum (λ place. 1) f s w
 -- how many entries it has: pairs of a connection and a way into the place that it leaves
 abbrev pub entries_in : FeedParts → ServiceParts → ChangeParts → Window → ℕ
 entries_in f s c w = window_sum (each_of c Entries) f s w
+
+-- no more ways than this lead into any of so many places, or into the first one
+pub record HaveWays (c : ChangeParts) (places most : ℕ) : Type 0 where
+  pub first : length (links_of c 0) + 1 ≤ most
+  pub each : (place : ℕ) → place < places → length (links_of c place) + 1 ≤ most

@@ -6,6 +6,7 @@ pub mod TripDays
 pub mod RepeatedRuns
 pub mod TripRuns
 pub mod FeedRuns
+pub mod Reach
 pub mod Counts
 pub mod FeedNetworks
 pub mod RouteNumbers

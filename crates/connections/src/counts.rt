@@ -4,10 +4,11 @@ ghost use Rattle.gtfs_tables.specs.Timed.{kept_at};
 ghost use Rattle.gtfs_tables.specs.TripRepeats.{IsFrequency};
 ghost use Rattle.connections.specs.Window.{holds};
 ghost use Rattle.connections.specs.Rides.{departs};
-ghost use Rattle.connections.specs.Counts.{each_of, steps_sum, leaving_sum, row_sum, rows_sum, runs_sum, trip_sum, day_sum, window_sum};
+ghost use Rattle.connections.specs.Counts.{each_of, steps_sum, leaving_sum, row_sum, rows_sum, runs_sum, trip_sum, day_sum, window_sum, HaveWays};
 
 use crate::feed_window::{FeedWindow, TripWindow};
 use crate::origins::{Origin, ServiceDay};
+use crate::reach::may_run_on;
 use crate::repeats::leaving;
 use crate::runs::{leaves, may_run};
 use crate::window::{DAYS, Window};
@@ -30,6 +31,17 @@ fn each(changes: &Changes, counted: Counted, place: PlaceId) -> u64
         Counted::Connections => 1,
         Counted::Entries => changes.links_into(place).len() as u64 + 1,
     }
+}
+
+/// The most ways into one of these places or the first one: the change there, and the links.
+pub(crate) fn most_ways(changes: &Changes, places: u32) -> u64
+    ensures { HaveWays changes.now places result }
+{
+    let mut most = each(changes, Counted::Entries, PlaceId(0));
+    for place in 0..places {
+        most = each(changes, Counted::Entries, PlaceId(place)).max(most);
+    }
+    most
 }
 
 /// What the connection from one kept row counts for, where it departs in the window.
@@ -149,6 +161,9 @@ fn sum_day(trips: &FeedWindow<'_>, counted: Counted, day: ServiceDay) -> u64
     ensures { result ≡ min (day_sum (each_of trips.now.changes.now counted) trips.now.feed.now
         trips.now.days.now.services trips.now.window day (length trips.now.feed.now.trip_ids)) (2 ^ 64 - 1) }
 {
+    if !may_run_on(trips, day) {
+        return 0;
+    }
     let mut sum = 0u64;
     for trip in 0..trips.trips {
         sum = sum.saturating_add(sum_trip(trips, counted, trip, day));

@@ -1,5 +1,5 @@
 //! The network of a feed in a window of time.
-ghost use Rattle.std.specs.Prelude.{◌≡◌, ◌≢◌, ◌<◌, ◌≤◌, [], length, Some, None, OnOk, IfOk, IfErr};
+ghost use Rattle.std.specs.Prelude.{◌≡◌, ◌≢◌, ◌<◌, ◌≤◌, [], length, true, Some, None, OnOk, IfOk, IfErr};
 ghost use Rattle.std.specs.Result.{result_err};
 ghost use Rattle.csv_rows.specs.Lists.{list_below};
 ghost use Rattle.change_times.specs.Changes.{seconds_of, links_of, LinksComeFrom};
@@ -12,7 +12,7 @@ ghost use Rattle.connections.specs.Cut.{IsNetworkFrom, connection_count, fault_f
 ghost use Rattle.connections.specs.Faults.{window_fault};
 ghost use Rattle.connections.specs.Counts.{count_in, entries_in};
 
-use crate::counts::{Counted, sum_window};
+use crate::counts::{Counted, most_ways, sum_window};
 use crate::feed_window::FeedWindow;
 use crate::names::names_of;
 use crate::rides::connections_of;
@@ -85,6 +85,16 @@ fn entries_within(trips: &FeedWindow<'_>) -> u64
     sum_window(trips, Counted::Entries)
 }
 
+/// Whether a window of so many connections cannot have too many entries, since few ways lead into each place.
+fn has_few_entries(trips: &FeedWindow<'_>, limits: &Limits, count: u64) -> bool
+    requires { count ≡ count_in trips.now.feed.now trips.now.days.now.services trips.now.window }
+    ensures { result ≡ true → entries_in trips.now.feed.now trips.now.days.now.services trips.now.changes.now
+        trips.now.window ≤ limits.now.entries }
+{
+    let most = count.saturating_mul(most_ways(trips.changes, trips.stops));
+    most <= limits.entries
+}
+
 /// How many connections a window has, or its first fault.
 fn count_within(trips: &FeedWindow<'_>, limits: &Limits) -> Result<u64, WindowFault>
     ensures { result_err result ≡ window_fault limits.now
@@ -94,6 +104,9 @@ fn count_within(trips: &FeedWindow<'_>, limits: &Limits) -> Result<u64, WindowFa
     let count = connections_within(trips);
     if limits.connections < count {
         return Err(WindowFault::TooMany(count));
+    }
+    if has_few_entries(trips, limits, count) {
+        return Ok(count);
     }
     let entries = entries_within(trips);
     if limits.entries < entries {

@@ -1,5 +1,6 @@
 //! The trips of a feed in a window of time.
-ghost use Rattle.std.specs.Prelude.{◌≡◌, ℕ, ◌<◌, ◌≤◌, ◌^◌, length};
+ghost use Rattle.std.proofs.Props.{props};
+ghost use Rattle.std.specs.Prelude.{◌≡◌, ℕ, ◌<◌, ◌≤◌, ◌^◌, length, IfSome};
 ghost use Rattle.csv_rows.specs.Ids.{AreIds};
 ghost use Rattle.plan_model.specs.Network.{AreLinksInto};
 ghost use Rattle.csv_rows.specs.Limits.{standard};
@@ -9,8 +10,10 @@ ghost use Rattle.gtfs_tables.specs.Timed.{IsTimed, rows_of};
 ghost use Rattle.connections.specs.Window.{IsWindow};
 ghost use Rattle.connections.specs.Rides.{AreDepartures, is_active_trip};
 ghost use Rattle.connections.specs.TripRuns.{frequencies_of};
+ghost use Rattle.connections.specs.Reach.{AreOverBy};
 
 use crate::origins::ServiceDay;
+use crate::reach::latest_of;
 use crate::trip_days::TripDays;
 use crate::window::Window;
 use change_times::Changes;
@@ -33,11 +36,14 @@ pub(crate) struct FeedWindow<'a> {
     pub(crate) stops: u32,
     /// How many trips there are.
     pub(crate) trips: u32,
+    /// The second of the service day after which no trip departs; `None` if some trip repeats.
+    pub(crate) latest: Option<u32>,
     pub(crate) ghost same: { days.now.feed ≡ feed.now },
     pub(crate) ghost bounds: { IsWindow window },
     pub(crate) ghost stops_counted: { stops ≡ length feed.now.stop_ids },
     pub(crate) ghost stop_ids: { AreIds feed.now.stop_ids },
     pub(crate) ghost counted: { trips ≡ length feed.now.trip_ids },
+    pub(crate) ghost over: { IfSome latest (AreOverBy feed.now (length feed.now.trip_ids)) } by { Prim.hlevel props },
     pub(crate) ghost few: { trips ≤ standard.trips },
     pub(crate) ghost small: { IsSmall feed.now },
     pub(crate) ghost trip_ids: { AreIds feed.now.trip_ids },
@@ -84,6 +90,7 @@ impl<'a> FeedWindow<'a> {
             window,
             stops: feed.stop_count(),
             trips: feed.trip_count(),
+            latest: latest_of(feed),
         }
     }
 

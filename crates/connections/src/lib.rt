@@ -6,6 +6,7 @@ mod cuts;
 mod feed_window;
 mod names;
 mod origins;
+mod reach;
 mod repeats;
 mod rides;
 mod runs;

@@ -9,6 +9,7 @@ ghost use Rattle.connections.specs.TripRuns.{own_run, repeat_run, runs_of_trip, 
 
 use crate::feed_window::{FeedWindow, TripWindow};
 use crate::origins::{Origin, ServiceDay};
+use crate::reach::may_run_on;
 use crate::repeats::{Repeat, origin_at, repeats_of};
 use crate::window::{DAYS, Window};
 use gtfs_tables::StopRow;
@@ -171,6 +172,9 @@ fn add_day(
         ≡ runs.old.items ++ day_runs trips.now.feed.now trips.now.days.now.services trips.now.window day
         (length trips.now.feed.now.trip_ids)) }
 {
+    if !may_run_on(trips, day) {
+        return Ok(());
+    }
     for trip in 0..trips.trips {
         add_active(alloc, runs, trips, trip, day)?;
     }

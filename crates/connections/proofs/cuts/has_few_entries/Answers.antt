@@ -1,0 +1,15 @@
+use Rattle.std.proofs.Common.{◌≤◌, ◌*◌, ap, arith, subst}
+use Rattle.std.proofs.lemmas.Bool.Decides.{nat_tests}
+use Rattle.connections.specs.Counts.{HaveWays}
+use Rattle.connections.proofs.SumLemmas.{entries-most}
+use Rattle.connections.proofs.cuts.has_few_entries.Goals as goal
+
+pub returns : goal.returns
+returns c = λ is.
+    let trips = c.args.trips.now in
+    let most = c.most_ways.result in
+    let few : c.saturating_mul-most.result ≤ c.args.limits.now.entries = grind (arith, nat_tests, is) in
+    let ways = subst (λ n. HaveWays trips.changes.now n most) trips.stops_counted c.most_ways.ensures in
+    let all = entries-most trips.feed.now trips.days.now.services trips.changes.now trips.window most trips.timed ways in
+    let same = ap (λ n. n * most) c.requires in
+    omega (arith, all, same, few, c.saturating_mul-most.ensures, c.args.limits.now.entries_in)
