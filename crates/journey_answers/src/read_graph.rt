@@ -1,6 +1,5 @@
 //! A graph that was read.
 ghost use Rattle.std.specs.Prelude.{◌<◌, ◌≤◌, length};
-ghost use Rattle.plan_graph.specs.Tidy.{IsFit};
 ghost use Rattle.journey_model.specs.Sites.{last_printable};
 ghost use Rattle.plan_model.specs.Bounds.{last_start};
 
@@ -8,8 +7,8 @@ use graph_text::Head;
 use journey_model::Problem;
 use plan_graph::PlanGraph;
 
-/// A graph of a problem that was read and fits the network, with its head: the places of its query are the
-/// network's, and its moments have texts.
+/// A graph of a problem that was read, with its head: the places of its query are the network's, and its
+/// moments have texts.
 #[derive(Drop)]
 pub struct ReadGraph<'a> {
     /// The problem.
@@ -18,8 +17,6 @@ pub struct ReadGraph<'a> {
     pub head: Head,
     /// The graph.
     pub graph: PlanGraph,
-    /// That the graph fits the network.
-    pub ghost fit: { IsFit problem.now.timetable.network head.query graph },
     /// That the query begins at a place of the network.
     pub ghost source_in: { head.query.source.0 < length problem.now.timetable.network.change },
     /// That it ends at one.

@@ -1,5 +1,6 @@
 //! Bounds on the expected arrival of a graph.
 ghost use Rattle.std.specs.Prelude.{◌≡◌, ◌≢◌, Some, None, IfOk, IfErr};
+ghost use Rattle.plan_graph.specs.Tidy.{IsFit};
 ghost use Rattle.journey_model.specs.Faults.{unread_of};
 ghost use Rattle.journey_model.specs.Sites.{IsTellable};
 ghost use Rattle.journey_model.specs.Known.{parts_of};
@@ -42,8 +43,10 @@ fn enclosed_answer(alloc: Global, read: ReadGraph, bounds: Span) -> Result<Answe
     Ok(Answer { report, text })
 }
 
-/// Bounds on the expected arrival of a graph; or `Unsafe`, with the first moment and place at which one may fail by it.
+/// Bounds on the expected arrival of a graph that fits; or `Unsafe`, with the first moment and place at which one may
+/// fail by it.
 pub fn score_over(alloc: Global, read: ReadGraph) -> Result<Answer, Fault>
+    requires { IsFit read.problem.now.timetable.network read.head.query read.graph }
     ensures answer { IfOk result (λ a. IsEnclosed read.entry.problem.now (findings_of a.report)
         a.text.items read.entry.head read.entry.graph) }
     ensures fault { IfErr result (λ fault. fault ≢ Fault.NoMemory

@@ -1,5 +1,6 @@
 //! The trip by a graph, as the delays come.
 ghost use Rattle.std.specs.Prelude.{◌≡◌, ◌≢◌, ◌≤◌, All, Some, None, IfOk, IfErr};
+ghost use Rattle.plan_graph.specs.Tidy.{IsFit};
 ghost use Rattle.command_line.specs.Jobs.{late_in};
 ghost use Rattle.journey_model.specs.Faults.{unread_of};
 ghost use Rattle.journey_model.specs.Sites.{last_printable, IsTellable};
@@ -55,8 +56,9 @@ fn trip_answer(alloc: Global, read: ReadGraph, trace: Trace) -> Result<Answer, N
     Ok(Answer { report, text })
 }
 
-/// The trip by a graph, with the given delays in seconds; or `Replay` with the fault of the trip.
+/// The trip by a graph that fits, with the given delays in seconds; or `Replay` with the fault of the trip.
 pub fn trip_over(alloc: Global, read: ReadGraph, late: &str) -> Result<Answer, Fault>
+    requires { IsFit read.problem.now.timetable.network read.head.query read.graph }
     ensures answer { IfOk result (λ a. AnswersReplay read.entry.problem.now (late_in late.now)
         (findings_of a.report) a.text.items read.entry.head read.entry.graph) }
     ensures fault { IfErr result (λ fault. fault ≢ Fault.NoMemory
