@@ -26,9 +26,9 @@ pub struct Report {
     pub query: Option<Query>,
     /// The least worst arrival.
     pub worst: Option<Moment>,
-    /// The decision graph ride by ride, of `expand`.
+    /// The decision graph by ride, of `expand`.
     pub expanded: Option<ExpandedGraph>,
-    /// The decision graph with one table for each place: of `plan` and of `sample` the one that was
+    /// The decision graph by place: of `plan` and of `sample` the one that was
     /// found, and of `replay` the one that was followed.
     pub graph: Option<PlanGraph>,
     /// Bounds on the expected arrival of the graph and on the least of all safe strategies, in

@@ -52,7 +52,7 @@ abbrev pub EndsByVerdict : NetworkModel → Query → List (Option ℕ) → ℕ 
 EndsByVerdict network query values status =
     (IsAccepted network query values × (status ≡ 0)) ⊎ ((connection : ℕ) × IsLastFault network query values connection × (status ≡ 13))
 
--- where the proof file reads, as its certificate says; and else the status of its fault
+-- where the certificate file reads, as its certificate says; and else the status of its fault
 abbrev pub EndsByCertificateFile : Limits → FileMap → ℕ → List ℕ → Problem → ℕ → Type 0
 EndsByCertificateFile limits files start path p status =
     ((query : Query) × (proof : LowerBounds) × IsCertificateFile (Some files) limits start path p query proof × EndsByVerdict p.timetable.network query proof.values status)

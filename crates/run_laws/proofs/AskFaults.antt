@@ -131,7 +131,7 @@ module _ (p : Problem) (files : FileMap) (limits : Limits) (start : ℕ) where
     scored found text a m told (inl is) = of_graph (IsEnclosed p found text) a m is told
     scored found text a m told (inr is) = in_graph p files limits start path (IsEnclosed p found text) (IsUnsafeGraph p a) ⊥ (scored_or_unsafe found text a) told is
 
-    -- ---- proof files
+    -- ---- certificate files
 
     proof_fault : (fault : Fault) → NotRead fault → FailsCertificate (Some files) limits start path p fault → FailsFile p start bytes_read fault
     proof_fault fault never fails = subst (λ (u : Option Input). FailsFile p start (bytes_of limits.bytes input.Proof u (file_at files path)) fault) (none_unread fault never) fails.1

@@ -1,4 +1,4 @@
--- What `certify` prints is a proof file that is read, and whose certificate is accepted; and its value is within the bounds of a plan.
+-- What `certify` prints is read as a certificate file, and its certificate is accepted; and its value is within the bounds of a plan.
 use Rattle.std.proofs.Common.{◌≡◌, ℕ, ◌+◌, ◌≤◌, false, refl, subst, arith, inl, inr, List, Option, None, Some, Result, Ok, Err, length, nat_lt}
 use Rattle.std.proofs.lemmas.Bool.Decides.{nat_tests}
 use Rattle.file_ports.specs.Ports.{FileMap, file_at}

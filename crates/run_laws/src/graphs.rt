@@ -40,7 +40,7 @@ pub fn one_plan()
         → IsPlanned n q a s → IsPlanned n q b t → (a ≡ b) × (s ≡ t) }
 {}
 
-/// The same of the decision graph ride by ride.
+/// The same of the decision graph by ride.
 pub fn one_expanded_plan()
     ensures { (n : NetworkModel) (q : QueryParts) (a b : GraphByRide) (s t : Interval)
         → IsExpanded n q a s → IsExpanded n q b t → (a ≡ b) × (s ≡ t) }
