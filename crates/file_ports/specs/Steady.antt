@@ -1,4 +1,4 @@
--- What files in memory that never fail stand for.
+-- The meaning of files in memory that never fail.
 use Rattle.std.specs.Prelude.{◌≡◌, ℕ, List, map, if◌then◌else◌, Option, Some, option_map, option_and_then, slice_get, drop, bytes_eq, string_bytes}
 use Rattle.file_ports.specs.Ports.{FileMap, FilesState, file_at}
 use Rattle.file_ports.specs.declared.steady.SteadyFiles.{SteadyFiles}
@@ -7,7 +7,7 @@ use Rattle.file_ports.specs.declared.steady.SteadyFiles.{SteadyFiles}
 abbrev pub folder_of : SteadyFiles → FileMap
 folder_of f = map (λ e. (string_bytes e.path, e.value.items)) f.held.items
 
--- the path of the file in hand
+-- the path of the open file
 abbrev pub hand_of : SteadyFiles → Option (List ℕ)
 hand_of f = option_and_then (λ i. option_map (λ e. string_bytes e.path) (slice_get f.held.items i)) f.hand
 
@@ -27,7 +27,7 @@ piece_of f = f.piece
 abbrev pub PutsFile : FileMap → FileMap → List ℕ → List ℕ → Type 0
 PutsFile old new path bytes = (p : List ℕ) → file_at new p ≡ if bytes_eq path p then Some bytes else file_at old p
 
--- the same files, and the same one in hand, as far read
+-- the same files, and the same one open, as far read
 pub record SameFiles (old new : SteadyFiles) : Type 0 where
   pub files : folder_of new ≡ folder_of old
   pub hand : hand_of new ≡ hand_of old

@@ -1,5 +1,5 @@
-//! Files and streams of the host. They tell neither what a file holds nor what was written, and count each error
-//! of the system, one for want of memory included.
+//! Files and streams of the host. Neither what a file holds nor what was written is known of them, and they count each
+//! error of the system, out of memory included.
 ghost use Rattle.std.specs.Prelude.{◌≡◌, None};
 
 use crate::ports::{Failed, Files, Presence, Sink};
@@ -19,7 +19,7 @@ pub struct HostFiles<R: rt::Files> {
 }
 
 impl<R: rt::Files + RandomSource> HostFiles<R> {
-    /// No file is in hand, and nothing has failed. The key of its hashes is drawn anew in each call. It takes no memory.
+    /// No file is open, and nothing has failed. The key of its hashes is drawn anew in each call. It takes no memory.
     pub fn new(rt: R) -> HostFiles<R>
         ensures hand { (⟦<HostFiles<R> as Files>⟧.state result).in_hand ≡ None }
         ensures faults { (⟦<HostFiles<R> as Files>⟧.state result).faults ≡ 0 }

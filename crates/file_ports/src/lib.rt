@@ -1,8 +1,11 @@
-//! Files and sinks as values with a meaning: what a folder holds, what is left of the file in hand, what was
-//! written, and how often the outside failed.
+//! Files and sinks as values with a meaning: what a folder holds, what remains of the open file, what was written, and
+//! how often the outside failed.
 //!
 //! A count of faults is at most 2^64 - 1. It grew in a call if it is greater afterwards, and it rose if it grew or
-//! stands at that limit afterwards.
+//! is at that limit afterwards.
+//!
+//! A call that takes an allocator may answer that there is no memory, as `NoMemory` or as the variant of that name; then a
+//! `Files` value may have another file open, and nothing else has changed.
 #![tactic(auto)]
 
 mod host;

@@ -6,7 +6,7 @@ ghost use Rattle.file_ports.specs.Loading.{HasLoadCauses, IsLonger, Takes, Appen
 ghost use Rattle.file_ports.specs.Ports.{file_at, path_in_hand};
 
 use crate::ports::{Failed, Files, Presence, Sink};
-use std::alloc::Global;
+use std::alloc::{AllocError, Global};
 
 /// Why a file could not be loaded.
 #[derive(Clone, Copy, Debug, PartialEq, Eq)]
@@ -19,9 +19,21 @@ pub enum LoadFault {
     NoMemory,
 }
 
+impl From<AllocError> for LoadFault {
+    ghost use Rattle.std.specs.Prelude.{◌≡◌};
+    ghost use Rattle.file_ports.specs.declared.loading.LoadFault.TheVariants.{NoMemory as NoMemoryFault};
+
+    ghost from_gives = { λ _ fault. fault ≡ NoMemoryFault };
+
+    fn from(_: AllocError) -> Self {
+        LoadFault::NoMemory
+    }
+}
+
+/// The most bytes of one read.
 const CHUNK: usize = 4096;
 
-/// Reads the file in hand to its end, at most so many bytes and one more.
+/// Reads the open file to its end, at most `most` bytes and one more.
 fn read_rest<F: Files>(alloc: Global, files: &mut F, most: usize) -> Result<Vec<u8>, LoadFault>
     requires in_hand { IsSome (F.state files.old).in_hand }
     requires most { most ≤ 2 ^ 30 }
@@ -45,14 +57,13 @@ fn read_rest<F: Files>(alloc: Global, files: &mut F, most: usize) -> Result<Vec<
         if count == 0 {
             return Ok(bytes);
         }
-        if bytes.extend_from_slice(&buffer[..count]).is_err() {
-            return Err(LoadFault::NoMemory);
-        }
+        bytes.extend_from_slice(&buffer[..count])?;
     }
     Err(LoadFault::TooLong)
 }
 
-/// Loads the whole file with this path, or none where it is absent. The file may have at most `most` bytes.
+/// Loads the whole file with this path; `None` if it is absent. The file may have at most `most` bytes: `Read` comes only if
+/// the count of faults rose, and `TooLong` if the file has more bytes than that.
 pub fn load<F: Files>(
     alloc: Global,
     files: &mut F,
@@ -61,10 +72,10 @@ pub fn load<F: Files>(
 ) -> Result<Option<Vec<u8>>, LoadFault>
     requires { most ≤ 2 ^ 30 }
 
-    // `None` exactly where the file was answered absent: then none is in hand.
+    // `None` exactly if the file is absent: then none is open.
     ensures absent { IfOk result (λ o. IsNone o ↔ ((F.state files.new).in_hand ≡ None)) }
 
-    // Where the files are told: the whole file, or none exactly where there is none.
+    // If the files are known: the whole file, or none exactly if there is none.
     ensures found { IfSome (F.state files.old).files (λ m.
         IfOk result (λ o. option_map vec_items o ≡ file_at m path.now)) }
     ensures bound { IfOk result (λ o. IfSome o (λ v. length v.items ≤ most)) }
@@ -86,7 +97,7 @@ pub fn load<F: Files>(
     }
 }
 
-/// Writes all of these bytes, or a front of them where the sink fails.
+/// Writes all of these bytes, or a front of them if the sink fails.
 pub fn put_all<S: Sink>(sink: &mut S, bytes: &[u8]) -> Result<(), Failed>
     ensures ok { OnOk result (Appends (S.written sink.old) (S.written sink.new) bytes.now) }
     ensures err { OnErr result (AppendsFront (S.written sink.old) (S.written sink.new) bytes.now) }

@@ -14,14 +14,14 @@ pub struct Named<T> {
     pub value: T,
 }
 
-/// The place of the first entry with this path.
+/// The index of the first entry with this path; `None` if there is none.
 pub fn place_of<T>(entries: &[Named<T>], path: &str) -> Option<usize>
     ensures { result ≡ position (λ e. bytes_eq (string_bytes e.path) path.now) entries.now }
 {
     entries.iter().position(|e| e.path.as_str() == path)
 }
 
-/// Puts a value at a path, in the place of the one that is there.
+/// Puts a value at a path, instead of one that is already there. Without memory the entries stay as they were.
 pub fn put<T: Drop>(
     alloc: Global,
     entries: &mut Vec<Named<T>>,

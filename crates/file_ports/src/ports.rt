@@ -20,18 +20,19 @@ pub enum Presence {
 #[derive(Clone, Copy, Debug, PartialEq, Eq)]
 pub struct Failed;
 
-/// A folder of files, of which one at a time can be in hand.
+/// A folder of files, of which one at a time can be open.
 pub trait Files {
-    /// What the files stand for.
+    /// What the files are: their bytes, the open one, and how often the outside has failed.
     ghost state: { Self → FilesState };
 
-    /// Takes the file with this path in hand, if there is one.
+    /// Opens the file with this path, if there is one. It fails only if the count of faults rises.
     fn open_file(&mut self, path: &str) -> Result<Presence, Failed>
         ensures opens { Opens (state self.old).files path.now result (state self.new).left }
         ensures in_hand { TakesInHand (state self.old) path.now result (state self.new).in_hand }
         ensures cause { HasFileCause path.now (state self.old) (state self.new) result };
 
-    /// Moves some bytes of the file in hand to the front of the buffer, none only at its end.
+    /// Moves some bytes of the open file to the front of the buffer, none only at its end. It fails only if the count of
+    /// faults rises.
     fn read(&mut self, buffer: &mut [u8]) -> Result<usize, Failed>
         requires in_hand { IsSome (state self.old).in_hand }
         requires room { 0 < length buffer.old }
@@ -41,7 +42,7 @@ pub trait Files {
         ensures cause { let old = state self.old in
             HasFileCause (path_in_hand old) old (state self.new) result };
 
-    /// The key by which ids that come from these files are hashed. It is one that nobody knows where the host draws it.
+    /// The key by which ids that come from these files are hashed. It is one that nobody knows if the host draws it.
     fn hash_key(&self) -> HashKey {
         HashKey::fixed()
     }
@@ -49,13 +50,13 @@ pub trait Files {
 
 /// Something that takes bytes.
 pub trait Sink {
-    /// The bytes that it has taken, where they are told.
+    /// The bytes that it has taken, if they are known.
     ghost written: { Self → Option (List ℕ) };
 
     /// How often the outside has failed.
     ghost faults: { Self → ℕ };
 
-    /// Takes some bytes of the front of the piece, one at least.
+    /// Takes some bytes of the front of the piece, one at least. It fails only if the count of faults rises.
     fn write(&mut self, piece: &[u8]) -> Result<usize, Failed>
         requires { 0 < length piece.now }
         ensures some { IfOk result (λ n. 0 < n) }

@@ -6,7 +6,7 @@ use crate::ports::{Failed, Files, Presence};
 use plan_model::NoMemory;
 use std::alloc::Global;
 
-/// Files in memory, of which one at a time can be in hand. Their counts of faults are always 0, so no call on them fails.
+/// Files in memory, of which one at a time can be open. Their counts of faults are always 0, so no call on them fails.
 #[derive(Drop)]
 pub struct SteadyFiles {
     alloc: Global,
@@ -37,7 +37,7 @@ impl SteadyFiles {
         }
     }
 
-    /// The path now holds these bytes, and no file is in hand. Without memory nothing changes.
+    /// The path now holds these bytes, and no file is open. Without memory nothing changes.
     pub fn add(&mut self, path: &str, bytes: &[u8]) -> Result<(), NoMemory>
         ensures ok { OnOk result (PutsFile (folder_of self.old) (folder_of self.new) path.now bytes.now) }
         ensures hand { OnOk result (hand_of self.new ≡ None) }
@@ -50,7 +50,7 @@ impl SteadyFiles {
         Ok(())
     }
 
-    /// No file is in hand any more.
+    /// No file is open any more.
     pub fn close(&mut self)
         ensures files { folder_of self.new ≡ folder_of self.old }
         ensures hand { hand_of self.new ≡ None }
@@ -59,7 +59,7 @@ impl SteadyFiles {
         self.hand = None;
     }
 
-    /// The path of the file in hand.
+    /// The path of the open file.
     pub fn path_in_hand(&self) -> &str
         requires { IsSome (hand_of self.now) }
         ensures { hand_of self.now ≡ Some result.now }
@@ -120,7 +120,7 @@ impl Files for SteadyFiles {
     }
 }
 
-/// Copies the front of `rest`, as much as fits, and at most so many bytes.
+/// Copies the front of `rest`, as much as fits, and at most `piece` bytes.
 fn copy_front(buffer: &mut [u8], rest: &[u8], most: usize) -> usize
     ensures count { result ≡ min (min most (length buffer.old)) (length rest.now) }
     ensures front { take result buffer.new ≡ take result rest.now }
