@@ -12,7 +12,7 @@ use Rattle.csv_rows.specs.FeedTables.{path_of, is_unread}
 use Rattle.csv_rows.specs.Limits.{rows_of}
 use Rattle.csv_rows.specs.Tables.{table_of, row_count}
 
--- the records of a table, of which at most so many may stand after the header
+-- the records of a table, of which at most `most` may come after the header
 abbrev pub loaded_from : Table → ℕ → List (List (List ℕ)) → Result Loaded FeedFault
 loaded_from table most t =
     if length t == 0 then Ok NoRecord
@@ -49,7 +49,7 @@ IsAbsent Absent = Unit {0}
 IsAbsent NoRecord = ⊥
 IsAbsent (Found t) = ⊥
 
--- it has at most so many rows
+-- it has at most this number of rows
 abbrev pub HasAtMost : ℕ → Loaded → Type 0
 HasAtMost most Absent = Unit {0}
 HasAtMost most NoRecord = Unit {0}

@@ -11,7 +11,7 @@ use Rattle.table_files.specs.declared.loading.Loaded.TheVariants.{Absent, NoReco
 abbrev pub Records : Type 0
 Records = List (List (List ℕ))
 
--- a required table is there, and has a record; else it is missing, or lacks its first column
+-- a required table is present, and has a record; else it is missing, or its first column is
 abbrev pub required : Table → Column → Result Loaded FeedFault → Result Records FeedFault
 required table first (Ok Absent) = Err (MissingTable table)
 required table first (Ok NoRecord) = Err (MissingColumn table first)

@@ -12,7 +12,7 @@ use file_ports::{Files, LoadFault, load};
 use plan_model::{HashKey, NoMemory};
 use std::alloc::Global;
 
-/// What a folder holds of a table.
+/// What a folder has of a table.
 #[derive(Drop)]
 pub enum Loaded {
     /// There is no such file.
@@ -28,13 +28,11 @@ fn path_of(alloc: Global, folder: &str, table: Table) -> Result<String, NoMemory
     ensures { IfOk result (λ path. string_bytes path ≡ path_of folder.now table) }
 {
     let name = table.file_name();
-    match format!(in alloc; "{folder}/{name}") {
-        Ok(path) => Ok(path),
-        Err(_) => Err(NoMemory),
-    }
+    let path = format!(in alloc; "{folder}/{name}")?;
+    Ok(path)
 }
 
-/// The records of a table, at most so many after the header, with a key for their ids.
+/// The records of a table, at most `most` after the header, with a key for their ids.
 fn records_of(
     alloc: Global,
     bytes: &[u8],
@@ -64,7 +62,7 @@ fn records_of(
     }
 }
 
-/// Reads the file of a table in this folder, or nothing where there is no such file. Its faults are `Read`, `TooLong` and
+/// Reads the file of a table in this folder; `None` if there is no such file. Its faults are `Read`, `TooLong` and
 /// `NoMemory`.
 pub fn read_file<F: Files>(
     alloc: Global,
@@ -73,7 +71,7 @@ pub fn read_file<F: Files>(
     table: Table,
     limits: &Limits,
 ) -> Result<Option<Vec<u8>>, FeedFault>
-    // Where the files are told: the bytes, or the fault of this file.
+    // If the files are known: the bytes, or the fault of this file.
     ensures loaded { IfSome (F.state files.old).files (λ m. IfOk result (λ o.
         load_of None limits.now table (file_at m (path_of folder.now table))
         ≡ loaded_bytes limits.now table (option_map vec_items o))) }
@@ -84,10 +82,7 @@ pub fn read_file<F: Files>(
     ensures causes { HasFeedCauses folder.now (F.state files.old) (F.state files.new) result }
     ensures others { KeepsOthers (path_of folder.now table) (F.state files.old) (F.state files.new) }
 {
-    let path = match path_of(alloc, folder, table) {
-        Ok(path) => path,
-        Err(_) => return Err(FeedFault::NoMemory),
-    };
+    let path = path_of(alloc, folder, table)?;
     match load(alloc, files, path.as_str(), limits.bytes) {
         Ok(bytes) => Ok(bytes),
         Err(LoadFault::Read) => Err(FeedFault::Read(table)),
@@ -104,7 +99,7 @@ pub fn read_table<F: Files>(
     table: Table,
     limits: &Limits,
 ) -> Result<Loaded, FeedFault>
-    // Where the files are told: the records, or the fault of this file.
+    // If the files are known: the records, or the fault of this file.
     ensures loaded { IfSome (F.state files.old).files (λ m. IfOk result (λ l.
         load_of None limits.now table (file_at m (path_of folder.now table)) ≡ Ok l)) }
     ensures fault { IfSome (F.state files.old).files (λ m. IfErr result (λ f. f ≢ FeedFault.NoMemory

@@ -1,4 +1,4 @@
-//! The tables that a feed has to have.
+//! The tables that must be present in a feed.
 ghost use Rattle.std.specs.Prelude.{◌≡◌, ◌≢◌, ◌≤◌, None, Ok, Err, IfOk, IfErr, IfSome};
 ghost use Rattle.csv_rows.specs.FeedTables.{unread_of, IsFaultOf};
 ghost use Rattle.csv_rows.specs.Limits.{rows_of};
@@ -11,8 +11,8 @@ use csv_rows::{Column, FeedFault, Limits, Rows, Table};
 use file_ports::Files;
 use std::alloc::Global;
 
-/// The records of a table that has to be there. One that is absent is missing, and one whose file has no record lacks its
-/// first column. Its other faults are those of `read_table`.
+/// The records of a table that must be present. One that is absent is `MissingTable`, and one whose file has no record is
+/// `MissingColumn` of its first column. Its other faults are those of `read_table`.
 pub fn read_required<F: Files>(
     alloc: Global,
     files: &mut F,

@@ -10,5 +10,5 @@ returns-in-Err-Read-clause-causes g c =
     causes-of
     (λ (table : Table) (is : Read c.args.table ≡ Read table).
     let same : c.args.table ≡ table = cc in
-    (tt, c.in-Err-Read.field-0-is, ap Some (c.as_str.ensures.value ∙ c.in-Ok.ensures ∙ ap (path_of c.args.folder.now) same)))
+    (tt, c.in-Err-Read.field-0-is, ap Some (c.as_str.ensures.value ∙ c.in_ok-path.ensures ∙ ap (path_of c.args.folder.now) same)))
     (λ _ is. (c.args.table, refl)) c.in-Err-Read.ensures.causes
