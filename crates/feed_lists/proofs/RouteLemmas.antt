@@ -10,7 +10,7 @@ use Rattle.feed_lists.specs.Routes.{route_columns, route_in, route_at, bad_route
 use Rattle.csv_rows.proofs.RowLemmas.{name_is}
 use Rattle.plan_model.proofs.Results.{result_err-require}
 
--- the row by where the columns stand
+-- the row by the indexes of the columns
 pub route_is : (t : List (List (List ℕ))) (c : RouteColumns) (i : ℕ) → c ≡ route_columns t → route_at t i ≡ route_in t c i
 unfolding route_at
 route_is t c i e = ap (λ k. route_in t k i) (sym e)

@@ -10,7 +10,7 @@ use Rattle.feed_lists.specs.Stops.{stop_columns, stop_in, stop_at, bad_stop, par
 use Rattle.csv_rows.proofs.RowLemmas.{name_is}
 use Rattle.plan_model.proofs.Results.{result_err-require}
 
--- the row by where the columns stand
+-- the row by the indexes of the columns
 pub stop_is : (t : List (List (List ℕ))) (c : StopColumns) (i : ℕ) → c ≡ stop_columns t → stop_at t i ≡ stop_in t c i
 unfolding stop_at
 stop_is t c i e = ap (λ k. stop_in t k i) (sym e)

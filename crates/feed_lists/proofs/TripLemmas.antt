@@ -11,7 +11,7 @@ use Rattle.feed_lists.specs.declared.trips.TripColumns.{TripColumns}
 use Rattle.feed_lists.specs.Trips.{trip_from, trip_columns, trip_in, trip_at, bad_trip}
 use Rattle.csv_rows.proofs.RowLemmas.{name_is}
 
--- the row by where the columns stand
+-- the row by the indexes of the columns
 pub trip_is : (routes : List (List ℕ)) (t : List (List (List ℕ))) (c : TripColumns) (i : ℕ) → c ≡ trip_columns t → trip_at routes t i ≡ trip_in routes t c i
 unfolding trip_at
 trip_is routes t c i e = ap (λ k. trip_in routes t k i) (sym e)

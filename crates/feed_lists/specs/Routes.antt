@@ -27,7 +27,7 @@ route_from line id kind =
     require (whole_of 65534 kind) (BadField Routes line RouteType) (λ kind'.
     Ok (record { id = id'; kind = kind' })))
 
--- where the columns stand
+-- the indexes of the columns
 abbrev pub route_columns : List (List (List ℕ)) → RouteColumns
 route_columns t = record { id = place_of RouteId t; kind = place_of RouteType t }
 

@@ -28,7 +28,7 @@ stop_from line id kind parent =
     require (parent_in is_stop parent) (BadField Stops line ParentStation) (λ parent'.
     Ok (record { id = id'; parent = parent' }))))
 
--- where the columns stand
+-- the indexes of the columns
 abbrev pub stop_columns : List (List (List ℕ)) → StopColumns
 stop_columns t = record { id = place_of StopId t; kind = place_of LocationType t; parent = place_of ParentStation t }
 

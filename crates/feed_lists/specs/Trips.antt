@@ -29,7 +29,7 @@ trip_from routes line route service id =
     require (name_in id) (BadField Trips line TripId) (λ id'.
     Ok (record { route = number; service = service'; id = id' })))))
 
--- where the columns stand
+-- the indexes of the columns
 abbrev pub trip_columns : List (List (List ℕ)) → TripColumns
 trip_columns t = record { route = place_of RouteId t; service = place_of ServiceId t; id = place_of TripId t }
 

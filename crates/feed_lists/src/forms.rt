@@ -21,7 +21,7 @@ pub(crate) fn read_is_stop(text: &[u8]) -> Option<bool>
     None
 }
 
-/// The parent station, at which only stops and platforms are looked at. An empty text is none.
+/// The parent station, at which only stops and platforms are looked at. `None` if the text is empty.
 pub(crate) fn read_parent(is_stop: bool, text: &[u8]) -> Option<&str>
     ensures { option_map (λ s. s.now) result ≡ parent_in is_stop text.now }
 {

@@ -1,4 +1,7 @@
 //! The stops, the routes and the trips of a feed (GTFS Schedule reference).
+//!
+//! A call that takes an allocator may answer that there is no memory, as `NoMemory` or as the variant of that name; then a
+//! `Files` value may have another file open, and nothing else has changed.
 #![tactic(auto)]
 
 mod forms;

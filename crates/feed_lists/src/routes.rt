@@ -6,6 +6,7 @@ ghost use Rattle.csv_rows.specs.declared.feed_tables.Table.TheVariants.{Routes a
 ghost use Rattle.csv_rows.specs.First.{first_below};
 ghost use Rattle.csv_rows.specs.Tables.{row_count};
 ghost use Rattle.csv_rows.specs.RowFaults.{TellsFirst};
+ghost use Rattle.feed_lists.specs.ListBounds.{most_routes};
 ghost use Rattle.feed_lists.specs.Routes.{route_columns, route_in, bad_route, route_types, routes_fault};
 
 use clock_text::read_whole;
@@ -22,7 +23,7 @@ pub struct Routes {
 }
 
 impl Drop for Routes {
-    /// Lets go of its parts here, so that a caller lets go of one value.
+    /// Drops its parts here, so that a caller drops one value.
     fn drop(self) {
         let Routes {
             ids: _ids,
@@ -31,7 +32,7 @@ impl Drop for Routes {
     }
 }
 
-/// Where the columns stand.
+/// The indexes of the columns.
 #[derive(Clone, Copy)]
 pub(crate) struct RouteColumns {
     id: Option<usize>,
@@ -45,7 +46,7 @@ struct Route<'a> {
     kind: u16,
 }
 
-/// Where the columns of the routes stand.
+/// The indexes of the columns of the routes.
 fn route_columns(rows: &Rows) -> RouteColumns
     ensures { result ≡ route_columns rows.now }
 {
@@ -101,7 +102,7 @@ impl Routes {
 
     /// The routes of a table, or the first of its faults.
     pub(crate) fn read(alloc: Global, rows: &Rows) -> Result<Routes, FeedFault>
-        requires { row_count rows.now ≤ 65536 }
+        requires { row_count rows.now ≤ most_routes }
         ensures routes { IfOk result (HasRoutes (Ok rows.now)) }
         ensures sound { IfOk result AreSoundRoutes }
         ensures tells { TellsFirst RoutesTable (routes_fault rows.now) result }

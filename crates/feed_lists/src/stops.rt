@@ -23,7 +23,7 @@ pub struct Stops {
 }
 
 impl Drop for Stops {
-    /// Lets go of its parts here, so that a caller lets go of one value.
+    /// Drops its parts here, so that a caller drops one value.
     fn drop(self) {
         let Stops {
             ids: _ids,
@@ -32,7 +32,7 @@ impl Drop for Stops {
     }
 }
 
-/// Where the columns stand.
+/// The indexes of the columns.
 #[derive(Clone, Copy)]
 pub(crate) struct StopColumns {
     id: Option<usize>,
@@ -40,14 +40,14 @@ pub(crate) struct StopColumns {
     parent: Option<usize>,
 }
 
-/// A stop by its id and its parent station, which is empty where it has none.
+/// A stop by its id and its parent station, which is empty if it has none.
 #[derive(Clone, Copy)]
 struct Stop<'a> {
     id: &'a str,
     parent: &'a str,
 }
 
-/// Where the columns of the stops stand.
+/// The indexes of the columns of the stops.
 fn stop_columns(rows: &Rows) -> StopColumns
     ensures { result ≡ stop_columns rows.now }
 {
@@ -89,7 +89,7 @@ fn check_stops(rows: &Rows) -> Result<(), FeedFault>
     Ok(())
 }
 
-/// The place of the stop of a row, where its parent is one of these.
+/// The place of the stop of a row; or `UnknownKey` if its parent is none of these.
 fn read_place(
     rows: &Rows,
     columns: StopColumns,
@@ -113,7 +113,7 @@ fn read_place(
     }
 }
 
-/// The place of each stop, or the first stop whose parent is none.
+/// The place of each stop, or the first stop whose parent is no stop.
 fn read_places(alloc: Global, rows: &Rows, ids: &Ids) -> Result<Vec<u32>, FeedFault>
     requires few { row_count rows.now ≤ most_stops }
     requires ids { ids.now ≡ stop_ids rows.now }

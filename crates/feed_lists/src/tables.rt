@@ -32,7 +32,7 @@ pub fn load_stops<F: Files>(
     Stops::read(alloc, &rows)
 }
 
-/// The routes of the feed in this folder, or the first fault of `routes.txt`, as of the stops.
+/// The routes of the feed in this folder, or the first fault of `routes.txt`: by kind, then by line, then by column.
 pub fn load_routes<F: Files>(
     alloc: Global,
     files: &mut F,
@@ -51,7 +51,8 @@ pub fn load_routes<F: Files>(
     Routes::read(alloc, &rows)
 }
 
-/// The trips of the feed in this folder, which are of these routes, or the first fault of `trips.txt`, as of the stops.
+/// The trips of the feed in this folder, each with one of these routes, or the first fault of `trips.txt`: by kind, then by
+/// line, then by column.
 pub fn load_trips<F: Files>(
     alloc: Global,
     files: &mut F,

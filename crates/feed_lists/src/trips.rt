@@ -20,12 +20,12 @@ use text_index::TextIndex;
 pub struct Trips {
     /// The ids of the trips, in the order of the file.
     pub ids: Ids,
-    /// What else is told of each.
+    /// What else is known of each.
     pub of_trips: OfTrips,
 }
 
 impl Drop for Trips {
-    /// Lets go of its parts here, so that a caller lets go of one value.
+    /// Drops its parts here, so that a caller drops one value.
     fn drop(self) {
         let Trips {
             ids: _ids,
@@ -45,7 +45,7 @@ pub struct OfTrips {
 }
 
 impl Drop for OfTrips {
-    /// Lets go of its parts here, so that a caller lets go of one value.
+    /// Drops its parts here, so that a caller drops one value.
     fn drop(self) {
         let OfTrips {
             services: _services,
@@ -55,7 +55,7 @@ impl Drop for OfTrips {
     }
 }
 
-/// Where the columns stand.
+/// The indexes of the columns.
 #[derive(Clone, Copy)]
 pub(crate) struct TripColumns {
     route: Option<usize>,
@@ -71,7 +71,7 @@ struct Trip<'a> {
     id: &'a str,
 }
 
-/// Where the columns of the trips stand.
+/// The indexes of the columns of the trips.
 fn trip_columns(rows: &Rows) -> TripColumns
     ensures { result ≡ trip_columns rows.now }
 {

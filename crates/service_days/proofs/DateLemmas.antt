@@ -12,7 +12,7 @@ use Rattle.service_days.specs.Dates.{ServiceDate, date_from, date_columns, date_
 use Rattle.service_days.specs.CalendarForms.{adds_in}
 use Rattle.plan_model.proofs.Results.{require-ok}
 
--- the row by where the columns stand
+-- the row by the indexes of the columns
 pub date_is : (t : List (List (List ℕ))) (c : DateColumns) (i : ℕ) → c ≡ date_columns t → date_at_row t i ≡ date_in t c i
 unfolding date_at_row
 date_is t c i e = ap (λ k. date_in t k i) (sym e)

@@ -12,7 +12,7 @@ use Rattle.service_days.specs.declared.periods.PeriodColumns.{PeriodColumns}
 use Rattle.service_days.specs.Periods.{period_columns, period_in, period_at, bad_period}
 use Rattle.plan_model.proofs.Results.{result_err-require}
 
--- the row by where the columns stand
+-- the row by the indexes of the columns
 pub period_is : (t : List (List (List ℕ))) (c : PeriodColumns) (i : ℕ) → c ≡ period_columns t → period_at t i ≡ period_in t c i
 unfolding period_at
 period_is t c i e = ap (λ k. period_in t k i) (sym e)

@@ -28,7 +28,7 @@ is_active_service calendar dates service day =
     not (is_excepted dates (row_count dates) service day false)
     && (is_excepted dates (row_count dates) service day true || any_below (runs_in_row calendar service day) (row_count calendar))
 
--- no service stands in two rows
+-- no service is in two rows
 abbrev pub AreDistinctRows : List (List (List ℕ)) → Type 0
 AreDistinctRows t = first_below (repeated_id Calendar (field t ServiceId)) (row_count t) ≡ None
 
@@ -79,7 +79,7 @@ unfoldable pub calendars_in : FileMap → List ℕ → Limits → Option Table �
 calendars_in files folder limits unread =
     calendars_from (calendar_from (load_in files folder limits unread Calendar)) (dates_from (load_in files folder limits unread CalendarDates))
 
--- whatever the files tell, the services run on the days of some calendars with no fault
+-- whatever the files say, the services run on the days of some calendars with no fault
 pub record RunsBySome (runs : List ℕ → ℤ → Bool) : Type 0 where
   pub calendar : Loaded
   pub dates : Loaded

@@ -32,7 +32,7 @@ date_from line service date kind =
     require (adds_in kind) (BadField CalendarDates line ExceptionType) (λ adds.
     Ok (record { service = service'; day = day; adds = adds }))))
 
--- where the columns stand
+-- the indexes of the columns
 abbrev pub date_columns : List (List (List ℕ)) → DateColumns
 date_columns t = record { service = place_of ServiceId t; date = place_of Date t; kind = place_of ExceptionType t }
 

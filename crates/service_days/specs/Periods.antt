@@ -57,7 +57,7 @@ period_from line service week first last =
     require (date_at last) (BadField Calendar line EndDate) (λ to.
     Ok (record { week = week'; first = from; last = to })))))
 
--- where the columns stand
+-- the indexes of the columns
 abbrev pub period_columns : List (List (List ℕ)) → PeriodColumns
 period_columns t = record {
   service = place_of ServiceId t;

@@ -18,7 +18,7 @@ pub(crate) struct ServiceDate<'a> {
     pub(crate) adds: bool,
 }
 
-/// Where the columns stand.
+/// The indexes of the columns.
 #[derive(Clone, Copy)]
 pub(crate) struct DateColumns {
     service: Option<usize>,
@@ -26,7 +26,7 @@ pub(crate) struct DateColumns {
     kind: Option<usize>,
 }
 
-/// Where the columns of the exceptions stand.
+/// The indexes of the columns of the exceptions.
 pub(crate) fn date_columns(rows: &Rows) -> DateColumns
     ensures { result ≡ date_columns rows.now }
 {

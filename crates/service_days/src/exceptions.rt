@@ -51,7 +51,7 @@ fn insert(
     Ok(())
 }
 
-/// Adds the exception of a row, and its service where it is new.
+/// Adds the exception of a row, and its service if it is new.
 fn add<'a>(
     services: &mut TextIndex<'a>,
     exceptions: &mut HashSet<Exception, HashKey>,
@@ -110,7 +110,7 @@ fn number_rows(alloc: Global, rows: &Rows, ids: &Ids) -> Result<Numbered, FeedFa
     Ok(Numbered { ids, exceptions })
 }
 
-/// The exceptions of a table, or the first of its faults. The services that are there keep their numbers.
+/// The exceptions of a table, or the first of its faults. The services that have a number keep it.
 pub(crate) fn read_exceptions(alloc: Global, rows: &Rows, ids: Ids) -> Result<Numbered, FeedFault>
     requires { length ids + row_count rows.now < 2 ^ 32 - 1 }
     ensures numbered { IfOk result (λ n.

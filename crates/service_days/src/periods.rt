@@ -41,7 +41,7 @@ pub(crate) struct Calendar {
     pub(crate) periods: Vec<Period>,
 }
 
-/// Where the columns stand.
+/// The indexes of the columns.
 #[derive(Clone, Copy)]
 pub(crate) struct PeriodColumns {
     service: Option<usize>,
@@ -102,7 +102,7 @@ const REQUIRED: [Column; 10] = [
     Column::EndDate,
 ];
 
-/// Where the columns of the calendar stand.
+/// The indexes of the columns of the calendar.
 fn period_columns(rows: &Rows) -> PeriodColumns
     ensures { result ≡ period_columns rows.now }
 {

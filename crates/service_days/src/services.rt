@@ -24,7 +24,7 @@ pub struct Services {
 }
 
 impl Drop for Services {
-    /// Lets go of its parts here, so that a caller lets go of one value.
+    /// Drops its parts here, so that a caller drops one value.
     fn drop(self) {
         let Services {
             ids: _ids,
@@ -57,8 +57,9 @@ fn period_runs(periods: &[Period], service: u32, day: i32) -> bool
 }
 
 impl Services {
-    /// Reads `calendar.txt` and `calendar_dates.txt` of the feed in this folder, or answers the first of their faults. At
-    /// least one of them has a record. `Read` comes only where opening or reading one of them failed.
+    /// Reads `calendar.txt` and then `calendar_dates.txt` of the feed in this folder, or answers the first of their faults.
+    /// Each may be absent or without a record, but not both: that is `MissingTable` of `calendar.txt`, which comes after the
+    /// faults of either. `Read` comes only if opening or reading one of them failed.
     pub fn read<F: Files>(
         alloc: Global,
         files: &mut F,
@@ -126,7 +127,7 @@ impl Services {
     }
 
     /// The days from `first` to `last`, both included, on which a service runs, rising. They are day numbers from
-    /// 1970-01-01. There is none where `first` is after `last`.
+    /// 1970-01-01. There is none if `first` is after `last`.
     pub fn days(
         &self,
         alloc: Global,
@@ -160,7 +161,7 @@ fn day_count(first: i32, last: i32) -> u64
     }
 }
 
-/// The day that is so many after the first.
+/// The day that is `n` days after the first.
 fn day_after(first: i32, last: i32, n: u64) -> i32
     requires { n < day_count first last }
     ensures { result ≡ first +ℤ pos n }

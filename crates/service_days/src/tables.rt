@@ -32,13 +32,13 @@ pub(crate) struct LoadedDates {
     pub(crate) numbered: Numbered,
 }
 
-/// Whether a table is absent, as one without a record is.
+/// Whether a table is absent or has no record.
 fn has_no_record(loaded: &Loaded) -> bool
     ensures { result ≡ has_no_record loaded.now }
 {
     match loaded {
         Loaded::Found(_) => false,
-        _ => true,
+        Loaded::Absent | Loaded::NoRecord => true,
     }
 }
 
@@ -55,7 +55,7 @@ fn no_calendar(alloc: Global, key: HashKey) -> Calendar
     }
 }
 
-/// The services that are there, with no exceptions.
+/// These services, with no exceptions.
 fn no_exceptions(alloc: Global, ids: Ids) -> Numbered
     ensures { AreNumbered [] 0 ids result.ids result.exceptions.keys }
 {
@@ -65,7 +65,7 @@ fn no_exceptions(alloc: Global, ids: Ids) -> Numbered
     }
 }
 
-/// The calendar of what is loaded, with a key for the services where it has no rows.
+/// The calendar of what is loaded, with a key for the services if it has no rows.
 fn calendar_of(alloc: Global, loaded: &Loaded, key: HashKey) -> Result<Calendar, FeedFault>
     requires { HasAtMost (2 ^ 20) loaded.now }
     ensures ids { IfOk result (λ c. c.ids ≡ service_ids (loaded_rows loaded.now)) }
@@ -81,7 +81,7 @@ fn calendar_of(alloc: Global, loaded: &Loaded, key: HashKey) -> Result<Calendar,
     }
 }
 
-/// The exceptions of what is loaded. The services that are there keep their numbers.
+/// The exceptions of what is loaded. The services that have a number keep it.
 fn exceptions_of(alloc: Global, loaded: &Loaded, ids: Ids) -> Result<Numbered, FeedFault>
     requires rows { HasAtMost (2 ^ 24) loaded.now }
     requires ids { length ids ≤ 2 ^ 20 }
@@ -119,7 +119,7 @@ pub(crate) fn load_calendar<F: Files>(
     Ok(LoadedCalendar { missing, calendar })
 }
 
-/// The exceptions of the folder. The services that are there keep their numbers.
+/// The exceptions of the folder. The services that have a number keep it.
 pub(crate) fn load_dates<F: Files>(
     alloc: Global,
     files: &mut F,

@@ -13,7 +13,7 @@ use Rattle.trip_frequencies.specs.declared.frequencies.FrequencyColumns.{Frequen
 use Rattle.trip_frequencies.specs.declared.frequencies.TripFrequency.{TripFrequency}
 use Rattle.trip_frequencies.specs.Frequencies.{frequency_columns, frequency_in, frequency_at, frequency_rows, no_frequency, trip_of_row, start_of_row, repeated_start}
 
--- the row by where the columns stand
+-- the row by the indexes of the columns
 pub frequency_is : (trips : List (List ℕ)) (t : List (List (List ℕ))) (c : FrequencyColumns) (i : ℕ) → c ≡ frequency_columns t → frequency_at trips t i ≡ frequency_in trips t c i
 unfolding frequency_at
 frequency_is trips t c i e = ap (λ k. frequency_in trips t k i) (sym e)

@@ -34,7 +34,7 @@ frequency_from trips line trip start end headway exact =
     require (is_exact_in exact) (BadField Frequencies line ExactTimes) (λ exact'.
     Ok (record { trip = number; row = record { first = start'; end = end'; headway = headway'; line = line } })))))))
 
--- where the columns stand
+-- the indexes of the columns
 abbrev pub frequency_columns : List (List (List ℕ)) → FrequencyColumns
 frequency_columns t = record {
   trip = place_of TripId t;
@@ -84,7 +84,7 @@ frequencies_fault trips t =
 abbrev pub repeats_of : List TripFrequency → ℕ → List FrequencyRow
 repeats_of rows trip = map (λ r. r.row) (filter (λ r. r.trip == trip) rows)
 
--- the same of each of so many trips
+-- the same of each of this number of trips
 abbrev pub all_repeats_of : List TripFrequency → ℕ → List (List FrequencyRow)
 all_repeats_of rows count = list_below (repeats_of rows) count
 

@@ -8,7 +8,7 @@ use Rattle.trip_frequencies.specs.FrequencyBounds.{most_headway}
 abbrev pub headway_in : List ℕ → Option ℕ
 headway_in text = option_and_then (λ seconds. if seconds == 0 then None else Some seconds) (whole_of most_headway text)
 
--- whether departures are told to the second; where it is empty they are not
+-- whether departures are exact to the second; if it is empty they are not
 abbrev pub is_exact_in : List ℕ → Option Bool
 is_exact_in text =
     if length text == 0 || bytes_eq text (codes "0") then Some false

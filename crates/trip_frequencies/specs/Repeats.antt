@@ -11,12 +11,12 @@ pub record IsTripSpan (trips : List ℕ) (trip low high : ℕ) : Type 0 where
   pub here : (k : ℕ) → low ≤ k → k < high → slice_index trips k ≡ trip
   pub after : (k : ℕ) → high ≤ k → k < length trips → trip < slice_index trips k
 
--- the rows of a trip among rows that stand beside the numbers of their trips
+-- the rows of a trip among rows beside the numbers of their trips
 abbrev pub repeats_in : List ℕ → List FrequencyRow → ℕ → List FrequencyRow
 repeats_in [] rows trip = []
 repeats_in (t ∷ trips) [] trip = []
 repeats_in (t ∷ trips) (row ∷ rows) trip = if t == trip then row ∷ repeats_in trips rows trip else repeats_in trips rows trip
 
--- the same of each of so many trips
+-- the same of each of this number of trips
 abbrev pub all_repeats_in : List ℕ → List FrequencyRow → ℕ → List (List FrequencyRow)
 all_repeats_in trips rows count = list_below (repeats_in trips rows) count

@@ -3,9 +3,10 @@ ghost use Rattle.std.specs.Prelude.{◌≡◌};
 ghost use Rattle.trip_frequencies.specs.FrequencyForms.{headway_in, is_exact_in};
 
 use clock_text::read_whole;
+use plan_model::SECONDS_PER_DAY;
 
-/// As many seconds as there may be from one departure of a trip that repeats to the next.
-const MOST_HEADWAY: u32 = 86_400;
+/// The most seconds from one departure of a trip that repeats to the next: a day.
+const MOST_HEADWAY: u32 = SECONDS_PER_DAY;
 
 /// The seconds from one departure to the next, which are one at least.
 pub(crate) fn read_headway(text: &[u8]) -> Option<u32>
@@ -18,7 +19,7 @@ pub(crate) fn read_headway(text: &[u8]) -> Option<u32>
     Some(headway)
 }
 
-/// Whether an `exact_times` tells the departures to the second.
+/// Whether an `exact_times` says that the departures are exact to the second.
 pub(crate) fn read_is_exact(text: &[u8]) -> Option<bool>
     ensures { result ≡ is_exact_in text.now }
 {

@@ -6,6 +6,7 @@ ghost use Rattle.csv_rows.specs.First.{first_below};
 ghost use Rattle.csv_rows.specs.Keys.{AreSorted};
 ghost use Rattle.csv_rows.specs.RowFaults.{TellsFirst};
 ghost use Rattle.csv_rows.specs.Tables.{row_count};
+ghost use Rattle.trip_frequencies.specs.FrequencyBounds.{most_frequencies};
 ghost use Rattle.trip_frequencies.specs.Frequencies.{frequency_columns, frequency_in, bad_frequency, frequency_rows, trip_of_row, start_of_row, repeated_start};
 
 use crate::forms::{read_headway, read_is_exact};
@@ -38,7 +39,7 @@ pub struct TripFrequency {
     pub row: FrequencyRow,
 }
 
-/// Where the columns stand.
+/// The indexes of the columns.
 #[derive(Clone, Copy)]
 pub(crate) struct FrequencyColumns {
     trip: Option<usize>,
@@ -48,7 +49,7 @@ pub(crate) struct FrequencyColumns {
     exact: Option<usize>,
 }
 
-/// Where the columns of the frequencies stand.
+/// The indexes of the columns of the frequencies.
 fn frequency_columns(rows: &Rows) -> FrequencyColumns
     ensures { result ≡ frequency_columns rows.now }
 {
@@ -123,7 +124,7 @@ pub(crate) fn read_frequency_rows(
     Ok(found)
 }
 
-/// The rows in the order of trip, start and place in the file.
+/// The rows in the order of trip, start and row number in the file.
 fn keys_by_start(alloc: Global, rows: &[TripFrequency]) -> Result<Vec<Key>, NoMemory>
     requires { length rows.now < 2 ^ 32 }
     ensures { IfOk result (λ keys.
@@ -142,7 +143,7 @@ fn keys_by_start(alloc: Global, rows: &[TripFrequency]) -> Result<Vec<Key>, NoMe
 
 /// The first row that has the trip and the start of an earlier one.
 pub(crate) fn check_once(alloc: Global, rows: &[TripFrequency]) -> Result<(), FeedFault>
-    requires { length rows.now ≤ 65536 }
+    requires { length rows.now ≤ most_frequencies }
     ensures { TellsFirst FrequenciesTable
         (first_below (repeated_start rows.now) (length rows.now)) result }
 {

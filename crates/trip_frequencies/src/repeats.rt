@@ -24,7 +24,7 @@ pub struct Repeats {
 }
 
 impl Drop for Repeats {
-    /// Lets go of its parts here, so that a caller lets go of one value.
+    /// Drops its parts here, so that a caller drops one value.
     fn drop(self) {
         let Repeats {
             trips: _trips,
@@ -90,7 +90,7 @@ fn repeats_by(alloc: Global, rows: Vec<TripFrequency>) -> Result<Repeats, NoMemo
 
 /// How these trips repeat by the rows of a table, or the first of its faults.
 fn read_frequencies(alloc: Global, rows: &Rows, trips: &Ids) -> Result<Repeats, FeedFault>
-    requires { row_count rows.now ≤ 65536 }
+    requires { row_count rows.now ≤ most_frequencies }
     ensures ordered { IfOk result (λ r. IsNonDecreasing r.trips.items) }
     ensures paired { IfOk result (λ r. length r.rows.items ≡ length r.trips.items) }
     ensures repeats { IfOk result (λ r. (count : ℕ) → all_repeats_in r.trips.items r.rows.items count
@@ -134,7 +134,7 @@ pub(crate) fn repeats_from(
     loaded: &Loaded,
     trips: &Ids,
 ) -> Result<Repeats, FeedFault>
-    requires { HasAtMost 65536 loaded.now }
+    requires { HasAtMost most_frequencies loaded.now }
     ensures ordered { IfOk result (λ r. IsNonDecreasing r.trips.items) }
     ensures paired { IfOk result (λ r. length r.rows.items ≡ length r.trips.items) }
     ensures repeats { IfOk result (λ r. AreFrequencies trips.now (Ok loaded.now)

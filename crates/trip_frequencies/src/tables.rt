@@ -15,8 +15,8 @@ use file_ports::Files;
 use std::alloc::Global;
 use table_files::read_table;
 
-/// How these trips repeat by the feed in this folder, or the first fault of `frequencies.txt`: by kind, then by line, then by
-/// column. One that is absent, or has no record, has no row.
+/// The rows of `frequencies.txt` of the feed in this folder, by trip, or the first fault of the table: by kind, then by line,
+/// then by column. A table that is absent, or has no record, has no row.
 pub fn load_frequencies<F: Files>(
     alloc: Global,
     files: &mut F,
