@@ -1,4 +1,4 @@
--- What the fields of a printed row tell.
+-- The values of the fields of a printed row.
 use Rattle.std.specs.Prelude.{ℕ, Bool, true, List, [], length, ◌==◌, ◌&&◌, nat_lt, slice_index_or, Option, Some, None}
 use Rattle.std.specs.List.{position_from}
 use Rattle.std.specs.Str.{bytes_eq}
@@ -11,7 +11,7 @@ pub use Rattle.text_index.specs.Numbers.{number_of}
 abbrev pub field : List (List ℕ) → ℕ → List ℕ
 field r k = slice_index_or r k []
 
--- whether it is a record of this kind, of so many fields
+-- whether it is a record of this kind, of this number of fields
 abbrev pub is_kind : List ℕ → ℕ → List (List ℕ) → Bool
 is_kind kind width r = (length r == width) && bytes_eq (field r 0) kind
 

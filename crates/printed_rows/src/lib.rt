@@ -1,4 +1,7 @@
 //! Rows of printed files: their fields as they are written, and as they are read.
+//!
+//! A call that takes an allocator may answer that there is no memory, as `NoMemory` or as the variant of that name; then
+//! what it was lent is as it was, unless its own comment says otherwise.
 #![tactic(auto)]
 
 ghost use Rattle.std.specs.Prelude.{◌≡◌, ◌<◌, ◌++◌, map, IfOk, IfSome};
@@ -14,7 +17,7 @@ use csv::WriterBuilder;
 use plan_model::{ConnectionId, Moment, Network, NoMemory, PlaceId, RunId};
 pub use record::Record;
 
-/// The connection of a run and step; none where the run has no such step.
+/// The connection of a run and step; `None` if the run has no such step.
 pub fn connection_of(network: &Network, run: RunId, step: u32) -> Option<ConnectionId>
     ensures number { option_map (λ id. id.0) result ≡ connection_of network.now run.0 step }
     ensures there { IfSome result (λ id. id.0 < count network.now) }
@@ -25,7 +28,7 @@ pub fn connection_of(network: &Network, run: RunId, step: u32) -> Option<Connect
 /// The greatest whole number of nine digits.
 pub const MOST_WHOLE: u32 = 999_999_999;
 
-/// A whole number of one to nine digits; none where the text is not of this form.
+/// A whole number of one to nine digits; `None` if the text is not of this form.
 pub fn whole(text: &[u8]) -> Option<u32>
     ensures { result ≡ whole_at text.now }
 {
@@ -55,7 +58,7 @@ pub fn rises(last: Option<u64>, x: u64) -> bool
     }
 }
 
-/// Puts a row of fields behind a text, quoted where they need it.
+/// Puts a row of fields behind a text. A field is quoted if it needs it.
 #[tactic(auto, unfolding(crate::specs::Writers::row_of_fields))]
 pub fn put_row(text: Vec<u8>, fields: &[&[u8]]) -> Result<Vec<u8>, NoMemory>
     ensures { IfOk result (λ whole. whole.items ≡ text.items ++ row_of_fields (map (λ field. field.now) fields.now)) }

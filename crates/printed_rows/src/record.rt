@@ -6,7 +6,7 @@ ghost use Rattle.printed_rows.specs.Fields.{is_kind};
 use csv_rows::Rows;
 use std::marker::Model;
 
-/// A record of a table, with the number of its line, where the first record is line 1.
+/// A record of a table, with the number of its line; the first record is line 1.
 #[derive(Drop)]
 pub struct Record<'a> {
     rows: &'a Rows,
@@ -67,16 +67,16 @@ impl<'a> Record<'a> {
     }
 
     /// A field, or an empty one past its end.
-    pub fn field(&self, place: usize) -> &'a [u8]
-        ensures { result.now ≡ slice_index_or self.now.fields place [] }
+    pub fn field(&self, index: usize) -> &'a [u8]
+        ensures { result.now ≡ slice_index_or self.now.fields index [] }
     {
         match self.row {
-            None => self.rows.header_field(place),
-            Some(row) => self.rows.field(row, place),
+            None => self.rows.header_field(index),
+            Some(row) => self.rows.field(row, index),
         }
     }
 
-    /// Whether it is of this kind, with so many fields.
+    /// Whether it is of this kind, with this number of fields.
     pub fn is_kind(&self, kind: &[u8], width: usize) -> bool
         ensures { result ≡ is_kind kind.now width self.now.fields }
     {
