@@ -1,4 +1,4 @@
-//! What the connections of a window add up to, before any of them stands.
+//! What the connections of a window add up to, before any of them is made.
 ghost use Rattle.std.specs.Prelude.{◌≡◌, ◌≤◌, ◌<◌, ◌^◌, ◌-◌, length, min, if◌then◌else◌};
 ghost use Rattle.gtfs_tables.specs.Timed.{kept_at};
 ghost use Rattle.gtfs_tables.specs.TripRepeats.{IsFrequency};

@@ -38,6 +38,17 @@ pub enum WindowFault {
     NoMemory,
 }
 
+impl From<NoMemory> for WindowFault {
+    ghost use Rattle.std.specs.Prelude.{◌≡◌};
+    ghost use Rattle.connections.specs.declared.cuts.WindowFault.TheVariants.{NoMemory as NoMemoryFault};
+
+    ghost from_gives = { λ _ fault. fault ≡ NoMemoryFault };
+
+    fn from(_: NoMemory) -> Self {
+        WindowFault::NoMemory
+    }
+}
+
 /// The network of the rides of these runs in the window, and its names.
 fn network_of_runs(
     alloc: Global,
@@ -141,8 +152,8 @@ fn links_of(alloc: Global, changes: &Changes, places: u32) -> Result<List<List<W
     Ok(links)
 }
 
-/// The network of the connections that depart in the window, and the names of its places and runs. There is room for so many
-/// connections at once.
+/// The network of the connections that depart in the window, and the names of its places and runs. Room for `room`
+/// connections is taken at once.
 #[tactic(auto, using(crate::proofs::JoinLemmas::list_steps))]
 fn network_of(
     alloc: Global,
@@ -168,7 +179,7 @@ fn network_of(
     Ok((network.with_links(links), names))
 }
 
-/// The network of a feed whose services are found, or its fault, as `cut` tells them.
+/// The network of a feed whose services are found, or its fault, as `cut` says.
 fn network_within(
     alloc: Global,
     days: &TripDays<'_>,
@@ -194,10 +205,8 @@ fn network_within(
 {
     let trips = FeedWindow::new(days, changes, Window::new(start.0, horizon));
     let count = count_within(&trips, limits)?;
-    match network_of(alloc, &trips, delays, count) {
-        Ok(parts) => Ok(parts),
-        Err(_) => Err(WindowFault::NoMemory),
-    }
+    let parts = network_of(alloc, &trips, delays, count)?;
+    Ok(parts)
 }
 
 /// The network of the connections of a feed that depart from the start to so many hours later, both ends included, over
@@ -208,7 +217,7 @@ fn network_within(
 /// times are as much sooner or later. It has no other run. Runs are numbered by service day, position of the trip, departure
 /// from the first kept row and line of the row of frequencies. The name of a run is its service date as YYYYMMDD, a colon and
 /// the id of the trip; where a row of frequencies starts it, an at sign, its departure from the first kept row in seconds of
-/// the service day, a point and the line of the row stand before the colon. The name of a place is the id of its stop. The
+/// the service day, a point and the line of the row come before the colon. The name of a place is the id of its stop. The
 /// change seconds and the links are those of the changes.
 /// `TooMany` carries the count of all connections, and comes where it passes `limits.connections`; else `TooManyEntries`
 /// carries that of the pairs of a connection and a way into the place that it leaves, and comes where it passes
@@ -237,8 +246,6 @@ pub fn cut(
     ensures fault { IfErr result (λ f. f ≢ WindowFault.NoMemory
         → fault_from limits.now feed.now services.now changes.now start.0 horizon ≡ Some f) }
 {
-    match TripDays::of(alloc, feed, services) {
-        Ok(days) => network_within(alloc, &days, changes, delays, start, horizon, limits),
-        Err(_) => Err(WindowFault::NoMemory),
-    }
+    let days = TripDays::of(alloc, feed, services)?;
+    network_within(alloc, &days, changes, delays, start, horizon, limits)
 }

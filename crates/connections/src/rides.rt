@@ -149,7 +149,7 @@ fn add_rides(
     Ok(())
 }
 
-/// The rides of these runs, by run and step. There is room for so many at once.
+/// The connections of these runs, by run and step. Room for `room` of them is taken at once.
 #[tactic(auto, using(crate::proofs::JoinLemmas::join_steps), unfolding(crate::specs::FeedNetworks::rides_below, crate::specs::FeedNetworks::run_rides))]
 pub(crate) fn connections_of(
     alloc: Global,

@@ -19,7 +19,7 @@ use std::alloc::Global;
 /// Each time of a service day is before this second of it.
 const END_OF_TIMES: u32 = 604_800;
 
-/// A ride of a trip on a service day.
+/// A run of a trip on a service day.
 #[derive(Clone, Copy)]
 pub(crate) struct Run {
     /// The moment from which the times of the trip count.
