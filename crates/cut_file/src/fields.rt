@@ -17,7 +17,7 @@ pub(crate) fn read_early(text: &[u8]) -> Option<u64>
     }
 }
 
-/// A route type, and none for `*`, which an empty field stands for.
+/// A route type, and none for `*`, which an empty field means.
 pub(crate) fn read_class(text: &[u8]) -> Option<Option<u16>>
     ensures { result ≡ class_in text.now }
 {

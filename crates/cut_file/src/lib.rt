@@ -1,4 +1,7 @@
 //! The connections of a cut file.
+//!
+//! A call that takes an allocator may answer that there is no memory, as `NoMemory` or as the variant of that name; then what
+//! it was lent is as it was, unless its own comment says otherwise.
 #![tactic(auto)]
 
 mod checked;

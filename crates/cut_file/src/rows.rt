@@ -38,7 +38,7 @@ pub(crate) struct NumberedRows {
     pub(crate) rows: Vec<CutRow>,
 }
 
-/// The places of the columns.
+/// The indexes of the columns; `None` of a column that is absent.
 #[derive(Clone, Copy)]
 pub(crate) struct Columns {
     pub(crate) run: Option<usize>,
@@ -53,7 +53,7 @@ pub(crate) struct Columns {
     pub(crate) change: Option<usize>,
 }
 
-/// The places of the columns in this table.
+/// The indexes of the columns in this table.
 pub(crate) fn columns_of(rows: &Rows) -> Columns
     ensures { AreColumns rows.now result }
 {
@@ -109,7 +109,7 @@ fn fields_of<'a>(table: &CutRows<'a>, row: usize) -> Fields<'a>
     }
 }
 
-/// The row at a place, or its first column that is not of its form.
+/// The row with this number, from 0 on, or its first column that is not of its form.
 fn read_row<'a>(table: &CutRows<'a>, row: usize) -> Result<NamedRow<'a>, Column>
     requires { row < row_count table.now.rows.now }
     ensures row { IfOk result (λ r. row_at table.now.rows.now row

@@ -24,7 +24,7 @@ pub struct CutTable {
 }
 
 impl Drop for CutTable {
-    /// Lets go of its parts here, so that a caller lets go of one value.
+    /// Drops its parts here, so that a caller drops one value.
     fn drop(self) {
         let CutTable {
             names: _names,
@@ -56,9 +56,9 @@ impl Model for CutTable {
     }) };
 }
 
-/// The rows of a cut file, or the first of its faults. It is a table with the columns `run`, `step`, `from`, `to`, `dep`
-/// and `arr`; `class`, `board`, `exit` and `change` may lack. Rows stand in any order; runs and places are numbered as they
-/// first stand, `from` before `to` in one row.
+/// The rows of a cut file, or the first of its faults, in the order that `CutFault` gives. It is a table with the columns
+/// `run`, `step`, `from`, `to`, `dep` and `arr`; `class`, `board`, `exit` and `change` are optional. Rows come in any order;
+/// runs and places are numbered as they first appear, `from` before `to` in one row.
 pub fn read_cut(alloc: Global, rows: &Rows, limits: &Limits) -> Result<CutTable, CutFault>
     ensures table { IfOk result (λ table. IsRead rows.now table.runs table.places table.rows table.keys) }
     ensures none { OnOk result (first_cut_fault rows.now limits.now.cut_rows ≡ None) }
@@ -76,7 +76,7 @@ pub fn read_cut(alloc: Global, rows: &Rows, limits: &Limits) -> Result<CutTable,
 impl CutTable {
     /// The network of the rows that were read with these delays, and the names of its places and runs. A class that the delays do not
     /// name is `*`. The change time of a place is the largest `change` of the rows that leave it, at least 1 second, and
-    /// 120 seconds where none tells one.
+    /// 120 seconds if none of them has one.
     pub fn network(&self, alloc: Global, delays: &DelayTable) -> Result<(Network, Names), NoMemory>
         ensures network { IfOk result (λ r. IsNetwork self.now delays.now r.0) }
         ensures runs { IfOk result (λ r. r.1.runs ≡ self.now.runs) }

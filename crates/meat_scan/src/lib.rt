@@ -6,6 +6,9 @@
 //! Each is offered as an exit of its run, by the values of what is done after each delay; and where
 //! it can be boarded, the best exit of its run gives a row for each place from which a way leads to
 //! it, and maybe the start leg.
+//!
+//! A call that takes an allocator may answer that there is no memory, as `NoMemory` or as the variant of that name; then what
+//! it was lent is as it was, unless its own comment says otherwise.
 #![tactic(auto)]
 
 ghost use Rattle.std.specs.Prelude.{◌≡◌, ◌≢◌, ℕ, ◌+◌, ◌-◌, ◌<◌, ◌≤◌, length, All, Some, None, MatchBool, take, Option, [], IfOk, slice_index, count_by, ◌==◌, if◌then◌else◌};
@@ -56,7 +59,7 @@ fn value_after<V: Score>(
     }
 }
 
-// Whether all outcomes are safe; then their values stand in front in `kids`.
+// Whether all outcomes are safe; then their values are the first ones of `kids`.
 fn fill_kids<V: Score>(
     profiles: &[Profile<V>],
     row: &[Outcome],
@@ -343,7 +346,7 @@ fn boardable_counts(alloc: Global, network: &Network) -> Result<Vec<u32>, NoMemo
     Ok(room)
 }
 
-// A profile for each place, with room for so many rows.
+// A profile for each place, with room for `room[place]` rows.
 fn reserve_profiles<V: Score>(alloc: Global, room: &[u32]) -> Result<Vec<Profile<V>>, NoMemory>
     ensures len { IfOk result (λ profiles. length profiles.items ≡ length room.now) }
     ensures empty { IfOk result (λ profiles. (place : ℕ) → rows_of_profile profiles.items place ≡ []) }

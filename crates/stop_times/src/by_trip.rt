@@ -4,7 +4,7 @@ use crate::rows::StopRow;
 use std::marker::Model;
 
 /// The kept rows of each trip, those of one trip after those of the trip before, and the bounds between them. The rows of a
-/// trip stand from its bound to the next one.
+/// trip are those from its bound to the next one.
 #[derive(Drop)]
 pub struct StopTimes {
     visits: Vec<StopRow>,

@@ -10,7 +10,7 @@ use csv_rows::{FeedFault, Key, before_at, in_order, sooner};
 use plan_model::NoMemory;
 use std::alloc::Global;
 
-/// All rows, in the order of trip, sequence and place in the file.
+/// All rows, in the order of trip, sequence and row number in the file.
 pub(crate) fn sorted_keys(alloc: Global, rows: &[StoredRow]) -> Result<Vec<Key>, NoMemory>
     requires { length rows.now < 2 ^ 32 }
     ensures keys { IfOk result (λ keys. AreKeysOf false rows.now keys.items) }

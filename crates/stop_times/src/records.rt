@@ -41,7 +41,7 @@ impl Record {
         self.row.len()
     }
 
-    /// The field at a place, or an empty one past the end.
+    /// The field at an index, or an empty one past the end.
     fn field(&self, place: usize) -> &[u8]
         ensures { result.now ≡ slice_index_or self.now place [] }
     {
@@ -51,7 +51,7 @@ impl Record {
         }
     }
 
-    /// The field under a column at a place: empty past the end, and where the table lacks the column.
+    /// The field under a column at an index: empty past the end, and if the table does not have the column.
     pub(crate) fn field_at(&self, place: Option<usize>) -> &[u8]
         ensures { result.now ≡ field_of self.now place }
     {
@@ -61,7 +61,7 @@ impl Record {
         }
     }
 
-    /// The first place of this name.
+    /// The index of the first field that is this name; `None` if there is none.
     fn place_named(&self, name: &str) -> Option<usize>
         ensures found { IfSome result (λ i. (i < length self.now)
             × (slice_index_or self.now i [] ≡ name.now)) }
@@ -76,7 +76,7 @@ impl Record {
         None
     }
 
-    /// The first place of a column, if this header has it.
+    /// The index of a column in this header; `None` if the header does not have it.
     pub(crate) fn place_of(&self, column: Column) -> Option<usize>
         ensures { result ≡ place_in (name_of column) self.now }
     {
@@ -84,7 +84,7 @@ impl Record {
     }
 }
 
-/// The records of a text that are left.
+/// The records of a text that were not taken yet.
 #[derive(Drop)]
 pub(crate) struct Records<'a> {
     reader: Reader<&'a [u8]>,

@@ -41,7 +41,7 @@ pub(crate) struct TimedRow {
     pub(crate) visit: Option<StopRow>,
 }
 
-/// Where the columns stand.
+/// The indexes of the columns; `None` of a column that is absent.
 #[derive(Clone, Copy)]
 pub(crate) struct TimeColumns {
     pub(crate) trip: Option<usize>,
@@ -53,7 +53,7 @@ pub(crate) struct TimeColumns {
     drop_off: Option<usize>,
 }
 
-/// Where the columns of a header stand.
+/// The indexes of the columns of a header.
 pub(crate) fn columns_of(header: &Record) -> TimeColumns
     ensures { result ≡ columns_of header.now }
 {
@@ -68,7 +68,7 @@ pub(crate) fn columns_of(header: &Record) -> TimeColumns
     }
 }
 
-/// The first required column that stands nowhere in the header.
+/// The first required column that the header does not have.
 pub(crate) fn missing_column(columns: TimeColumns) -> Option<FeedFault>
     ensures fault { result ≡ missing_time_column columns }
     ensures own { IfSome result (IsFaultOf StopTimesTable) }

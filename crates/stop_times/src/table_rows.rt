@@ -21,7 +21,7 @@ use csv_rows::{Column, FeedFault, Limits, Table};
 use plan_model::NoMemory;
 use std::alloc::Global;
 
-/// As many bytes are reckoned for a row of a text.
+/// How many bytes a row of a text is assumed to take, when room for the rows is reserved.
 const BYTES_OF_A_ROW: usize = 32;
 
 /// Takes the row of a record after those that were taken, and keeps its trip, or gives its fault.
@@ -53,8 +53,8 @@ fn take_row(
     Ok(())
 }
 
-/// The fault of a table that has this one, where so many rows stand before the records that are left: where there are too
-/// many, that comes first.
+/// The fault of a table that has this one, with `taken` rows before the remaining records: if there are too many in all,
+/// that comes first.
 fn counted_fault(
     records: &mut Records<'_>,
     row: &mut Record,
@@ -81,8 +81,8 @@ fn counted_fault(
     }
 }
 
-/// Room for the rows of a text of so many bytes, and at most for so many rows. Most rows take more bytes than are reckoned for
-/// one; where they take fewer, the room grows.
+/// Room for the rows of a text of `bytes` bytes, and for at most `most` rows. Most rows take more bytes than are assumed for
+/// one; if they take fewer, the room grows.
 fn room_for(alloc: Global, bytes: usize, most: u64) -> Result<Vec<StoredRow>, NoMemory>
     ensures { IfOk result (λ timed. timed.items ≡ []) }
 {
@@ -92,7 +92,7 @@ fn room_for(alloc: Global, bytes: usize, most: u64) -> Result<Vec<StoredRow>, No
 }
 
 /// The rows of the records after a header, or their first fault: that there are too many, and then the first of one by itself.
-/// The text has so many bytes.
+/// The text has `bytes` bytes.
 fn rows_after(
     alloc: Global,
     bytes: usize,
@@ -141,7 +141,7 @@ fn rows_after(
 }
 
 /// The rows of the stop times with this text, or the first of its faults: that it has no record, that it has too many rows,
-/// that it lacks a column, and then the first fault of a row by itself.
+/// that a required column is missing, and then the first fault of a row by itself.
 pub(crate) fn read_timed_rows(
     alloc: Global,
     bytes: &[u8],

@@ -54,8 +54,8 @@ fn in_order(alloc: Global, rows: &[StoredRow], trips: u32) -> Result<StopTimes, 
     Ok(visits)
 }
 
-/// The rows of the stop times with this text, or the first of its faults, as `read_timed_rows` tells them. The indexes of the
-/// trips and of the stops are let go after.
+/// The rows of the stop times with this text, or the first of its faults, as `read_timed_rows` says. The indexes of the trips
+/// and of the stops are dropped after that.
 fn rows_of(
     alloc: Global,
     bytes: &[u8],
@@ -88,8 +88,10 @@ fn rows_of(
 }
 
 /// The kept rows of each trip, in rising order of their sequences, or the first fault of the stop times with this text, which
-/// may have so many rows as the limits say. The text is let go before the rows are put in order, so that both do not stand in memory at
-/// once.
+/// may have as many rows as the limits say. The faults come in this order: `TooManyRows`; `MissingColumn`; fields that are not
+/// of their form and keys that no table has, by line and column; repeated keys, by line; times that go back, by line. A text
+/// without a record has no first column. The text is dropped before the rows are put in order, so that both are not in memory
+/// at once.
 pub fn read_stop_times(
     alloc: Global,
     bytes: Vec<u8>,
