@@ -1,5 +1,4 @@
 pub mod Sought
-pub mod Chances
 pub mod Bounds
 pub mod Departing
 pub mod Ruled

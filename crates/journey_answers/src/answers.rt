@@ -8,12 +8,14 @@ ghost use Rattle.journey_answers.specs.Answers.{IsWorst, IsQueryOf, InQuery, IsP
 ghost use Rattle.journey_report.specs.Findings.{findings_of};
 ghost use Rattle.plan_model.specs.Bounds.{end_of_time};
 
-use decision_graph::{CompactPlan, ExpandedPlan, expand, plan};
+use decision_graph::{Found, expand, plan};
 use graph_text::{Head, fit_is_printable, ready_is_printable, write, write_expanded};
+use interval_fixed::Span;
 use journey_model::{Fault, Percent, Problem, Start};
 use journey_report::{Answer, NamedQuery, Report, safe_text};
 use meat_scan::ScanTables;
 use merged_runs::MergedRuns;
+use plan_graph::{ExpandedGraph, PlanGraph};
 use plan_model::{BackwardOrder, Moment, NoMemory, Query};
 use safe_arrival::{deadline, least_worst};
 use std::alloc::Global;
@@ -113,11 +115,11 @@ fn expanded_of<B: BackwardOrder>(
     alloc: Global,
     order: &mut B,
     asked: &Asked,
-) -> Result<ExpandedPlan, NoMemory>
+) -> Result<Found<ExpandedGraph, Span>, NoMemory>
     requires fits { B.fits order.old asked.now.problem.now.timetable.network }
     requires least { IsWorst asked.now.problem.now.timetable.network asked.now.query asked.now.worst }
     ensures { IfOk result (λ found. IsExpanded asked.now.problem.now.timetable.network
-        asked.now.query found.graph found.bounds) }
+        asked.now.query found.graph found.value) }
 {
     let network = &asked.problem.timetable.network;
     order.rewind(network);
@@ -133,11 +135,11 @@ pub fn planned_of<B: BackwardOrder>(
     alloc: Global,
     order: &mut B,
     asked: &Asked,
-) -> Result<CompactPlan, NoMemory>
+) -> Result<Found<PlanGraph, Span>, NoMemory>
     requires fits { B.fits order.old asked.now.problem.now.timetable.network }
     requires least { IsWorst asked.now.problem.now.timetable.network asked.now.query asked.now.worst }
     ensures planned { IfOk result (λ found. IsPlanned asked.now.problem.now.timetable.network
-        asked.now.query found.graph found.bounds) }
+        asked.now.query found.graph found.value) }
     ensures fits { B.fits order.new asked.now.problem.now.timetable.network }
 {
     let network = &asked.problem.timetable.network;
@@ -149,14 +151,18 @@ pub fn planned_of<B: BackwardOrder>(
 }
 
 /// The answer with a decision graph by ride.
-fn expanded_answer(alloc: Global, asked: &Asked, found: ExpandedPlan) -> Result<Answer, NoMemory>
-    requires { IsExpanded asked.now.problem.now.timetable.network asked.now.query found.graph found.bounds }
+fn expanded_answer(
+    alloc: Global,
+    asked: &Asked,
+    found: Found<ExpandedGraph, Span>,
+) -> Result<Answer, NoMemory>
+    requires { IsExpanded asked.now.problem.now.timetable.network asked.now.query found.graph found.value }
     ensures { IfOk result (λ a. TellsExpanded asked.now.problem.now (findings_of a.report) a.text.items
         asked.now.query asked.now.worst) }
 {
     let head = Head {
         query: asked.query,
-        bounds: found.bounds,
+        bounds: found.value,
     };
     let timetable = &asked.problem.timetable;
     ready_is_printable();
@@ -178,14 +184,18 @@ fn expanded_answer(alloc: Global, asked: &Asked, found: ExpandedPlan) -> Result<
 }
 
 /// The answer with a decision graph by place.
-fn planned_answer(alloc: Global, asked: &Asked, found: CompactPlan) -> Result<Answer, NoMemory>
-    requires { IsPlanned asked.now.problem.now.timetable.network asked.now.query found.graph found.bounds }
+fn planned_answer(
+    alloc: Global,
+    asked: &Asked,
+    found: Found<PlanGraph, Span>,
+) -> Result<Answer, NoMemory>
+    requires { IsPlanned asked.now.problem.now.timetable.network asked.now.query found.graph found.value }
     ensures { IfOk result (λ a. TellsPlanned asked.now.problem.now (findings_of a.report) a.text.items
         asked.now.query asked.now.worst) }
 {
     let head = Head {
         query: asked.query,
-        bounds: found.bounds,
+        bounds: found.value,
     };
     let timetable = &asked.problem.timetable;
     fit_is_printable();

@@ -1,28 +1,26 @@
 //! The decision graph with the least chance of an arrival after a promised moment.
-ghost use Rattle.std.specs.Prelude.{◌≡◌, ◌<◌, ◌≤◌, ◌+◌, length, IfOk, IfErr, MatchOption};
+ghost use Rattle.std.specs.Prelude.{◌≡◌, ◌≤◌, ◌+◌, IfOk, IfErr, MatchOption};
 ghost use Rattle.plan_graph.specs.Tidy.{IsTidy};
 ghost use Rattle.plan_graph.specs.Unfold.{unfold_plan};
 ghost use Rattle.plan_model.specs.Strategy.{IsSafeFor};
 ghost use Rattle.decision_graph.specs.Expanded.{IsNoneSafe};
 ghost use Rattle.graph_score.specs.Scores.{IsScored};
 ghost use Rattle.late_chance.specs.Chances.{seconds_per_week};
-ghost use Rattle.late_chance.specs.Punctual.{IsPunctual, asked_for, seen_for};
+ghost use Rattle.late_chance.specs.Punctual.{IsPunctual, IsSeenLater};
 ghost use Rattle.journey_answers.specs.Answers.{InQuery, FailsIn};
 ghost use Rattle.journey_report.specs.Findings.{findings_of, punctual_findings};
-ghost use Rattle.plan_model.specs.Bounds.{end_of_time};
-ghost use Rattle.journey_answers.specs.Punctual.{IsLeastChance, IsSeenLater, IsPunctualText, TellsPunctual};
+ghost use Rattle.journey_answers.specs.Punctual.{IsPunctualText, TellsPunctual};
 
 use crate::answers::{Asked, asked_of};
-use decision_graph::{ScoredPlan, plan_by};
-use graph_score::{ScoreFault, fit_is_scored, score};
+use decision_graph::Found;
+use graph_score::{Outlook, score_fit};
 use graph_text::{Head, fit_is_printable, write};
 use interval_fixed::Span;
 use journey_model::{Fault, Percent, Problem, Start};
 use journey_report::{Answer, Report, punctual_row};
-use late_chance::{LateChance, SECONDS_PER_WEEK, punctual_by_shift, shifted, sooner, unshifted};
-use merged_runs::MergedRuns;
+use late_chance::{LateChance, PromisedQuery, punctual_plan};
 use plan_graph::PlanGraph;
-use plan_model::{BackwardOrder, Moment, Network, NoMemory, Query};
+use plan_model::{Moment, NoMemory};
 use std::alloc::Global;
 
 /// A query, and a moment by which one promises to arrive: at most a week after its start.
@@ -35,76 +33,25 @@ struct Promise<'a> {
     ghost soon: { moment.0 ≤ asked.query.start.0 + seconds_per_week },
 }
 
-/// A decision graph with one table for each place, and bounds on its chance of an arrival after the
-/// promised moment.
-#[derive(Drop)]
-struct PunctualPlan {
-    graph: PlanGraph,
-    chance: LateChance,
-}
-
-/// The decision graph of a query with the least chance of an arrival after the moment that stands for a
-/// promise; none where no strategy is safe for the query.
-#[tactic(auto, using(crate::proofs::Chances::least_chance))]
-fn least_chance_of(
+/// The decision graph with the least chance of an arrival after the promised moment; `None` if no strategy
+/// is safe for the query.
+fn punctual_of(
     alloc: Global,
-    network: &Network,
-    query: &Query,
-) -> Result<Option<PunctualPlan>, NoMemory>
-    requires source { query.now.source.0 < length network.now.change }
-    requires target { query.now.target.0 < length network.now.change }
-    requires start { query.now.start.0 < end_of_time }
-    requires deadline { query.now.start.0 ≤ query.now.deadline.0 }
-    ensures { IfOk result (λ found. MatchOption found (IsNoneSafe network.now query.now)
-        (λ plan. IsLeastChance network.now query.now plan.graph plan.chance)) }
-{
-    let mut order = MergedRuns::new(alloc, network)?;
-    let found: Option<ScoredPlan<LateChance>> = plan_by(alloc, &mut order, network, query)?;
-    match found {
-        None => Ok(None),
-        Some(found) => Ok(Some(PunctualPlan {
-            graph: found.graph,
-            chance: found.value,
-        })),
-    }
-}
-
-/// The same in the network as it is seen for a promise.
-fn seen_plan(alloc: Global, promise: &Promise) -> Result<Option<PunctualPlan>, NoMemory>
-    ensures { IfOk result (λ found. MatchOption found
-        (IsNoneSafe (seen_for promise.now.asked.problem.now.timetable.network
-        promise.now.asked.query promise.now.moment.0)
-        (asked_for promise.now.asked.query promise.now.moment.0))
-        (λ plan. IsLeastChance (seen_for promise.now.asked.problem.now.timetable.network
-        promise.now.asked.query promise.now.moment.0)
-        (asked_for promise.now.asked.query promise.now.moment.0) plan.graph plan.chance)) }
-{
-    let query = &promise.asked.query;
-    let network = &promise.asked.problem.timetable.network;
-    let seen = shifted(alloc, network, query.start, promise.moment)?;
-    let sought = sooner(query, promise.moment.0 - SECONDS_PER_WEEK);
-    least_chance_of(alloc, &seen, &sought)
-}
-
-/// The decision graph with the least chance of an arrival after the promised moment; none where no
-/// strategy is safe for the query.
-fn punctual_of(alloc: Global, promise: &Promise) -> Result<Option<PunctualPlan>, NoMemory>
+    promise: &Promise,
+) -> Result<Option<Found<PlanGraph, LateChance>>, NoMemory>
     ensures { IfOk result (λ found. MatchOption found
         (IsNoneSafe promise.now.asked.problem.now.timetable.network promise.now.asked.query)
-        (λ plan. IsPunctual promise.now.asked.problem.now.timetable.network
-        promise.now.asked.query promise.now.moment.0 plan.graph plan.chance
+        (λ p. IsPunctual promise.now.asked.problem.now.timetable.network
+        promise.now.asked.query promise.now.moment.0 p.graph p.value
         × IsSeenLater promise.now.asked.problem.now.timetable.network
-        promise.now.asked.query promise.now.moment.0 plan.graph plan.chance)) }
+        promise.now.asked.query promise.now.moment.0 p.graph p.value)) }
 {
-    punctual_by_shift();
-    let Some(found) = seen_plan(alloc, promise)? else {
-        return Ok(None);
+    let promised = PromisedQuery {
+        network: &promise.asked.problem.timetable.network,
+        query: promise.asked.query,
+        moment: promise.moment,
     };
-    let graph = unshifted(alloc, &found.graph, promise.moment.0 - SECONDS_PER_WEEK)?;
-    Ok(Some(PunctualPlan {
-        graph,
-        chance: found.chance,
-    }))
+    punctual_plan(alloc, &promised)
 }
 
 /// Bounds on the expected arrival of a graph that is tidy and safe.
@@ -115,11 +62,9 @@ fn bounds_of(alloc: Global, asked: &Asked, graph: &PlanGraph) -> Result<Span, No
     ensures { IfOk result (IsScored asked.now.problem.now.timetable.network asked.now.query
         (unfold_plan graph.now asked.now.problem.now.timetable.network asked.now.query)) }
 {
-    fit_is_scored();
-    match score(alloc, graph, &asked.problem.timetable.network, &asked.query) {
-        Ok(bounds) => Ok(bounds),
-        Err(ScoreFault::NoMemory) => Err(NoMemory),
-        Err(ScoreFault::NoSuchLeg(_) | ScoreFault::Unsafe(..)) => unreachable!(),
+    match score_fit(alloc, graph, &asked.problem.timetable.network, &asked.query)? {
+        Outlook::Safe(bounds) => Ok(bounds),
+        Outlook::Failing(_) => unreachable!(),
     }
 }
 
@@ -127,13 +72,13 @@ fn bounds_of(alloc: Global, asked: &Asked, graph: &PlanGraph) -> Result<Span, No
 fn punctual_text(
     alloc: Global,
     promise: &Promise,
-    found: &PunctualPlan,
+    found: &Found<PlanGraph, LateChance>,
     bounds: Span,
 ) -> Result<Vec<u8>, NoMemory>
     requires { IsTidy promise.now.asked.problem.now.timetable.network promise.now.asked.query
         found.now.graph }
     ensures { IfOk result (λ text. IsPunctualText promise.now.asked.problem.now promise.now.moment.0
-        promise.now.asked.query found.now.graph found.now.chance bounds text.items) }
+        promise.now.asked.query found.now.graph found.now.value bounds text.items) }
 {
     let head = Head {
         query: promise.asked.query,
@@ -141,7 +86,7 @@ fn punctual_text(
     };
     let timetable = &promise.asked.problem.timetable;
     fit_is_printable();
-    let mut text = punctual_row(alloc, promise.moment, found.chance)?;
+    let mut text = punctual_row(alloc, promise.moment, found.value)?;
     let graph = write(
         alloc,
         &found.graph,
@@ -157,15 +102,15 @@ fn punctual_text(
 fn punctual_answer(
     alloc: Global,
     promise: &Promise,
-    found: PunctualPlan,
+    found: Found<PlanGraph, LateChance>,
     bounds: Span,
 ) -> Result<Answer, NoMemory>
     requires { IsTidy promise.now.asked.problem.now.timetable.network promise.now.asked.query
         found.graph }
     ensures found { IfOk result (λ a. findings_of a.report ≡ punctual_findings
-        promise.now.asked.query promise.now.asked.worst found.graph bounds found.chance) }
+        promise.now.asked.query promise.now.asked.worst found.graph bounds found.value) }
     ensures text { IfOk result (λ a. IsPunctualText promise.now.asked.problem.now
-        promise.now.moment.0 promise.now.asked.query found.graph found.chance bounds a.text.items) }
+        promise.now.moment.0 promise.now.asked.query found.graph found.value bounds a.text.items) }
 {
     let text = punctual_text(alloc, promise, &found, bounds)?;
     let report = Report {
@@ -173,7 +118,7 @@ fn punctual_answer(
         worst: Some(promise.asked.worst),
         graph: Some(found.graph),
         bounds: Some(bounds),
-        chance: Some(found.chance),
+        chance: Some(found.value),
         ..Report::empty()
     };
     Ok(Answer { report, text })

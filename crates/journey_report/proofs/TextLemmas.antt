@@ -13,7 +13,7 @@ use Rattle.plan_model.specs.Bounds.{seconds_per_day}
 use Rattle.plan_model.specs.Unfold.{outcomes_of}
 use Rattle.printed_rows.proofs.Lines.{split_at, text_step}
 use Rattle.trip_replay.specs.declared.Ridden.{Ridden}
-use Rattle.trip_replay.specs.Rides.{IsRide, arrival_after, place_after}
+use Rattle.trip_replay.specs.Rides.{IsRidden, arrival_after, place_after}
 use Rattle.plan_model.specs.declared.model.Moment.{Moment}
 use Rattle.journey_report.specs.AnswerTexts.{ride_text, rides_text, arrived_text}
 use Rattle.journey_model.specs.Sites.{last_printable}
@@ -31,22 +31,22 @@ delay_few (o ∷ row) d all any =
 
 module _ (n : NetworkModel) (valid : IsValid n) where
   -- the arrival of a ride has a text
-  pub ride_arrival : (r : Ridden) → IsRide n r → r.arrival.0 ≤ last_printable
+  pub ride_arrival : (r : Ridden) → IsRidden n r → r.arrival.0 ≤ last_printable
   ride_arrival r is =
       let c = valid.connections r.leg.exit.0 is.is_leg.exit in
       let row = valid.rows (connection n r.leg.exit.0).class.0 c.class_in in
       let few = delay_few (outcomes_of n r.leg) r.delay row.delays is.is_delay in
       omega (arith, is.late, c.early, few)
 
-  pub arrivals : (start : ℕ) (rides : List Ridden) → start ≤ last_printable → All (IsRide n) rides → arrival_after start rides ≤ last_printable
+  pub arrivals : (start : ℕ) (rides : List Ridden) → start ≤ last_printable → All (IsRidden n) rides → arrival_after start rides ≤ last_printable
   arrivals start [] early all = early
-  arrivals start (r ∷ rides) early all = arrivals r.arrival.0 rides (ride_arrival r (All-head (IsRide n) r rides all)) (All-tail (IsRide n) r rides all)
+  arrivals start (r ∷ rides) early all = arrivals r.arrival.0 rides (ride_arrival r (All-head (IsRidden n) r rides all)) (All-tail (IsRidden n) r rides all)
 
-  pub places : (source : ℕ) (rides : List Ridden) → source < length n.change → All (IsRide n) rides → place_after n source rides < length n.change
+  pub places : (source : ℕ) (rides : List Ridden) → source < length n.change → All (IsRidden n) rides → place_after n source rides < length n.change
   places source [] inside all = inside
   places source (r ∷ rides) inside all =
-      let is = All-head (IsRide n) r rides all in
-      places (connection n r.leg.exit.0).to.0 rides (valid.connections r.leg.exit.0 is.is_leg.exit).to_in (All-tail (IsRide n) r rides all)
+      let is = All-head (IsRidden n) r rides all in
+      places (connection n r.leg.exit.0).to.0 rides (valid.connections r.leg.exit.0 is.is_leg.exit).to_in (All-tail (IsRidden n) r rides all)
 
 -- after one ride more
 pub rides_step : (n : NetworkModel) (names : NameLists) (rides : List Ridden) (i : ℕ) (d : Ridden) (new old all : List ℕ) → i < length rides

@@ -1,7 +1,7 @@
 //! The printed texts of the answers that are no graphs.
 ghost use Rattle.std.specs.Prelude.{◌≡◌, ◌≤◌, ◌<◌, ◌++◌, [], ◌∷◌, map, length, sum_by, All, IfOk};
 ghost use Rattle.printed_rows.specs.Writers.{place_name, row_of_fields};
-ghost use Rattle.trip_replay.specs.Rides.{IsRide};
+ghost use Rattle.trip_replay.specs.Rides.{IsRidden};
 ghost use Rattle.journey_report.specs.AnswerTexts.{safe_text, ride_text, rides_text, arrived_text, trace_text, leg_count, sample_text, least_text, holds_text, encloses_text, punctual_row};
 ghost use Rattle.journey_model.specs.Sites.{last_printable};
 
@@ -84,7 +84,7 @@ pub fn safe_text(alloc: Global, named: &NamedQuery, worst: Moment) -> Result<Vec
 
 /// The row of a ride.
 fn ride_text(alloc: Global, timetable: &Timetable, ride: &Ridden) -> Result<Vec<u8>, NoMemory>
-    requires { IsRide timetable.now.network ride.now }
+    requires { IsRidden timetable.now.network ride.now }
     ensures { IfOk result (λ text.
         text.items ≡ ride_text timetable.now.network timetable.now.names ride.now) }
 {
@@ -125,7 +125,7 @@ fn arrived_text(alloc: Global, target: &str, arrival: Moment) -> Result<Vec<u8>,
 
 /// The text of a trip: a row for each ride, and then the arrival at the target.
 pub fn trace_text(alloc: Global, problem: &Problem, trace: &Trace) -> Result<Vec<u8>, NoMemory>
-    requires rides { All (IsRide problem.now.timetable.network) trace.now.rides }
+    requires rides { All (IsRidden problem.now.timetable.network) trace.now.rides }
     requires arrival { trace.now.arrival.0 ≤ last_printable }
     ensures { IfOk result (λ text. text.items ≡ trace_text problem.now.timetable.network
         problem.now.timetable.names problem.now.target.0 trace.now) }

@@ -19,7 +19,7 @@ returns-clause-answer c =
       c.in_ok-query.ensures.asked,
       (
         found.graph,
-        found.chance,
+        found.value,
         c.in_ok-bounds.bounds,
         c.in_ok-answer.ensures.found,
         both.0,
