@@ -1,5 +1,5 @@
 -- Where one may fail by a graph: at a place of the network, at a moment that has a text.
-use Rattle.std.proofs.Common.{◌≡◌, ℕ, zero, suc, ◌+◌, ◌-◌, ◌<◌, ◌≤◌, List, [], ◌∷◌, length, Bool, true, false, Option, Some, None, Err, inl, inr, refl, sym}
+use Rattle.std.proofs.Common.{◌≡◌, ℕ, zero, suc, ◌+◌, ◌-◌, ◌<◌, ◌≤◌, List, [], ◌∷◌, length, Bool, true, false, Option, Some, None, inl, inr, refl, sym}
 use Rattle.std.proofs.Common.{subst, arith, All, if◌then◌else◌, ◌==◌}
 use Rattle.std.proofs.lemmas.List.Elements.{All-head, All-tail}
 use Rattle.std.proofs.lemmas.Option.{MatchOption-at_some}
@@ -16,9 +16,7 @@ use Rattle.plan_graph.specs.Tidy.{IsFit}
 use Rattle.plan_graph.specs.Unfold.{unfold_plan}
 use Rattle.plan_graph.proofs.Picked.{picked_leg}
 use Rattle.graph_score.specs.Failures.{Fails, FailsIn}
-use Rattle.graph_score.specs.Scores.{IsUnsafe, IsScore}
-use Rattle.graph_score.specs.declared.ScoreFault.{ScoreFault}
-use Rattle.graph_score.specs.declared.ScoreFault.TheVariants.{NoSuchLeg, Unsafe, NoMemory}
+use Rattle.graph_score.specs.Scores.{IsUnsafe}
 use Rattle.journey_model.specs.declared.problem.Problem.{Problem}
 use Rattle.plan_model.specs.Bounds.{last_start, seconds_per_day}
 use Rattle.journey_model.specs.Sites.{last_printable}
@@ -89,17 +87,3 @@ unsafe_tellable p q graph fit source target early place moment unsafe =
     let first : (leg : Leg) → graph.start ≡ Some leg → leg.exit.0 < count n = λ leg is. (MatchOption-at_some _ _ _ is fit.starts).is_leg.exit in
     let printed = from_printed n p.timetable.valid q target (by_place n (pick_at graph.tables)) chosen graph.start first q.source.0 q.start.0 (source, omega (arith, early)) place moment unsafe.first.fails in
     (subst (λ (k : ℕ). place < k) (sym p.timetable.fit.places) printed.0, printed.1)
-
-module _ (p : Problem) where
-  -- the place of a fault has a name, and its moment a text
-  abbrev pub IsPrintedFault : ScoreFault → Type 0
-  IsPrintedFault (NoSuchLeg k) = Unit {0}
-  IsPrintedFault (Unsafe place moment) = (place.0 < length p.timetable.names.places) × (moment.0 ≤ last_printable)
-  IsPrintedFault NoMemory = Unit {0}
-
-  pub fault_printed : (q : Query) (graph : PlanGraph) → IsFit p.timetable.network q graph
-      → q.source.0 < length p.timetable.network.change → q.target.0 < length p.timetable.network.change
-      → q.start.0 ≤ last_start → (fault : ScoreFault) → IsScore p.timetable.network q graph (Err fault) → IsPrintedFault fault
-  fault_printed q graph fit source target early (NoSuchLeg k) is = tt
-  fault_printed q graph fit source target early (Unsafe place moment) (fits, unsafe) = unsafe_tellable p q graph fit source target early place.0 moment.0 unsafe
-  fault_printed q graph fit source target early NoMemory is = tt

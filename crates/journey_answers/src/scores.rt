@@ -10,7 +10,7 @@ ghost use Rattle.printed_rows.specs.Writers.{place_name};
 ghost use Rattle.journey_answers.specs.Scores.{IsEnclosed, IsUnsafeGraph};
 
 use crate::read_graph::ReadGraph;
-use graph_score::{ScoreFault, fit_is_scored, score};
+use graph_score::{Outlook, score_fit};
 use interval_fixed::Span;
 use journey_model::Fault;
 use journey_report::{Answer, NamedQuery, Report, encloses_text};
@@ -54,15 +54,12 @@ pub fn score_over(alloc: Global, read: ReadGraph) -> Result<Answer, Fault>
     ensures tellable { IfErr result (IsTellable (Some (parts_of read.entry.problem.now))) }
     ensures read { IfErr result (λ fault. unread_of fault ≡ None) }
 {
-    fit_is_scored();
     let network = &read.problem.timetable.network;
-    match score(alloc, &read.graph, network, &read.head.query) {
-        Ok(bounds) => {
+    match score_fit(alloc, &read.graph, network, &read.head.query)? {
+        Outlook::Safe(bounds) => {
             let answer = enclosed_answer(alloc, read, bounds)?;
             Ok(answer)
         }
-        Err(ScoreFault::Unsafe(place, moment)) => Err(Fault::Unsafe(place, moment)),
-        Err(ScoreFault::NoMemory) => Err(Fault::NoMemory),
-        Err(ScoreFault::NoSuchLeg(_)) => unreachable!(),
+        Outlook::Failing(failure) => Err(Fault::Unsafe(failure.place, failure.moment)),
     }
 }

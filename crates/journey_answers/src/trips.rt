@@ -7,7 +7,7 @@ ghost use Rattle.journey_model.specs.Sites.{last_printable, IsTellable};
 ghost use Rattle.journey_model.specs.Known.{parts_of};
 ghost use Rattle.journey_report.specs.Findings.{findings_of, replay_findings};
 ghost use Rattle.journey_report.specs.AnswerTexts.{trace_text};
-ghost use Rattle.trip_replay.specs.Rides.{IsRide};
+ghost use Rattle.trip_replay.specs.Rides.{IsRidden};
 ghost use Rattle.journey_answers.specs.Trips.{replay_as, AnswersReplay, IsTripFault};
 
 use crate::read_graph::ReadGraph;
@@ -33,7 +33,7 @@ fn fault_of(fault: ReplayFault) -> Fault
 
 /// The answer with the trip by a graph.
 fn trip_answer(alloc: Global, read: ReadGraph, trace: Trace) -> Result<Answer, NoMemory>
-    requires rides { All (IsRide read.problem.now.timetable.network) trace.rides }
+    requires rides { All (IsRidden read.problem.now.timetable.network) trace.rides }
     requires arrival { trace.arrival.0 ≤ last_printable }
     ensures found { IfOk result (λ a. findings_of a.report
         ≡ replay_findings read.entry.head.query read.entry.graph trace) }

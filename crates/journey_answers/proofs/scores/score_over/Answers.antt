@@ -1,14 +1,13 @@
-use Rattle.std.proofs.Common.{◌<◌, ◌≤◌, length, subst, sym}
-use Rattle.plan_model.specs.declared.model.Moment.{Moment}
-use Rattle.plan_model.specs.declared.model.PlaceId.{PlaceId}
-use Rattle.journey_model.specs.Sites.{last_printable}
-use Rattle.journey_answers.proofs.Unsafe.{IsPrintedFault, fault_printed}
+use Rattle.std.proofs.Common.{subst}
+use Rattle.plan_graph.specs.Unfold.{unfold_plan}
+use Rattle.graph_score.specs.Scores.{IsScoreOf}
+use Rattle.journey_answers.proofs.Unsafe.{unsafe_tellable}
 use Rattle.journey_answers.proofs.scores.score_over.Goals as goal
 
-pub returns-in-Err-Unsafe-clause-tellable : goal.returns-in-Err-Unsafe-clause-tellable
-returns-in-Err-Unsafe-clause-tellable c =
+pub returns-in-Failing-clause-tellable : goal.returns-in-Failing-clause-tellable
+returns-in-Failing-clause-tellable c =
     let p = c.args.read.problem.now in
-    let told = fault_printed p c.args.read.head.query c.args.read.graph c.requires c.args.read.source_in c.args.read.target_in c.args.read.start
-    c.in-Err-Unsafe.field-0 c.in-Err-Unsafe.ensures in
-    let here = subst (IsPrintedFault p) c.in-Err-Unsafe.field-0-is told in
-    (subst (λ (place : PlaceId). place.0 < length p.timetable.names.places) (sym c.in-Err-Unsafe.place-is) here.0, subst (λ (moment : Moment). moment.0 ≤ last_printable) (sym c.in-Err-Unsafe.moment-is) here.1)
+    let head = c.args.read.head in
+    unsafe_tellable p head.query c.args.read.graph c.requires c.args.read.source_in c.args.read.target_in c.args.read.start c.in-Failing.failure.place.0
+    c.in-Failing.failure.moment.0
+    (subst (IsScoreOf p.timetable.network head.query (unfold_plan c.args.read.graph p.timetable.network head.query)) c.in-Failing.is c.in_ok-bounds.ensures)
