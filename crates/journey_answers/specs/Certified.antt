@@ -6,7 +6,7 @@ use Rattle.lower_proof.specs.declared.LowerBounds.{LowerBounds}
 use Rattle.lower_proof.specs.Certificates.{IsTight}
 use Rattle.lower_proof.specs.Promises.{IsBestCertificate}
 use Rattle.lower_proof.specs.Reading.{ReadsBack}
-use Rattle.lower_proof.specs.CertificateTexts.{proof_text}
+use Rattle.lower_proof.specs.CertificateTexts.{certificate_text}
 use Rattle.journey_model.specs.declared.problem.Problem.{Problem}
 use Rattle.journey_report.specs.Findings.{Findings, certify_findings}
 
@@ -17,5 +17,5 @@ pub record TellsCertificate (p : Problem) (found : Findings) (text : List ℕ) (
   pub found_is : found ≡ certify_findings query worst proof
   pub tight : IsTight p.timetable.network query proof.values
   pub best : IsBestCertificate p.timetable.network query proof.values
-  pub text_is : text ≡ proof_text p.timetable.network p.timetable.names query proof.values
+  pub text_is : text ≡ certificate_text p.timetable.network p.timetable.names query proof.values
   pub reads_back : ReadsBack p.timetable.network p.timetable.names query proof.values text

@@ -27,7 +27,7 @@ use Rattle.lower_proof.specs.declared.reader.BoundsRow.{BoundsRow}
 use Rattle.lower_proof.specs.declared.reader.ValueRow.{ValueRow}
 use Rattle.lower_proof.specs.declared.reader.ProofFault.{ProofFault}
 use Rattle.lower_proof.specs.Certificates.{bound_of}
-use Rattle.lower_proof.specs.CertificateTexts.{bounds_record, value_record, value_records, proof_text, entry_text}
+use Rattle.lower_proof.specs.CertificateTexts.{bounds_record, value_record, value_records, certificate_text, entry_text}
 use Rattle.lower_proof.specs.Reading.{bounds_row_in, bounds_in, value_row_in, connection_in}
 use Rattle.lower_proof.specs.Reading.{nanos_in, told_in, value_row, connection_before}
 use Rattle.lower_proof.specs.Reading.{value_fault, AreValuesTold, IsProofTold, IsProofRead, IsReadBack}
@@ -233,14 +233,14 @@ module _ (n : NetworkModel) (names : NameLists) (valid : IsValid n) (fit : Names
     bounds_back : bounds_in names q.source.0 q.target.0 q.start.0 (bounds_record names q values) ≡ Ok bounds
     bounds_back = grind (arith, bounds_row_back, place_back, eq-eqb)
 
-    table_is : length values ≡ count n → table_of (proof_text n names q values) ≡ bounds_record names q values ∷ value_records n names 0 values
+    table_is : length values ≡ count n → table_of (certificate_text n names q values) ≡ bounds_record names q values ∷ value_records n names 0 values
     unfolding row_of_fields
     table_is as_many =
         table_back (bounds_record names q values ∷ value_records n names 0 values) 98 _ (bounds_kept, records_kept 0 values (omega (arith, as_many))) refl refl
 
     -- whatever is read of the text is what was printed
     pub reads_back : length values ≡ count n → ((c v : ℕ) → bound_of values c ≡ Some v → v < 2 ^ 64)
-        → (result : Result (Query × LowerBounds) ProofFault) → IsProofRead n names q.source.0 q.target.0 q.start.0 (proof_text n names q values) result → IsReadBack q values result
+        → (result : Result (Query × LowerBounds) ProofFault) → IsProofRead n names q.source.0 q.target.0 q.start.0 (certificate_text n names q values) result → IsReadBack q values result
     reads_back as_many small (Ok read) is =
         told_once read.0 read.1.values (subst (λ (t : List (List (List ℕ))). IsProofTold n names q.source.0 q.target.0 q.start.0 t read.0 read.1.values) (table_is as_many) is)
       where

@@ -36,5 +36,5 @@ value_records network names c (None ∷ values) = value_records network names (c
 value_records network names c (Some v ∷ values) = value_record network names c v ∷ value_records network names (c + 1) values
 
 -- the text of a certificate, with the query that it is for
-abbrev pub proof_text : NetworkModel → NameLists → Query → List (Option ℕ) → List ℕ
-proof_text network names query values = text_of_records (bounds_record names query values ∷ value_records network names 0 values)
+abbrev pub certificate_text : NetworkModel → NameLists → Query → List (Option ℕ) → List ℕ
+certificate_text network names query values = text_of_records (bounds_record names query values ∷ value_records network names 0 values)

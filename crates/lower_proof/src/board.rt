@@ -24,17 +24,7 @@ fn count_in_time(entries: &[Entry], arrival: Moment) -> usize
     ensures in_time { (k : ℕ) → k < result → arrival.0 ≤ (entry_at entries.now k).by.0 }
     ensures late { (k : ℕ) → result ≤ k → k < length entries.now → (entry_at entries.now k).by.0 < arrival.0 }
 {
-    let mut low: usize = 0;
-    let mut high: usize = entries.len();
-    while low < high {
-        let middle = low + (high - low) / 2;
-        if entries[middle].by >= arrival {
-            low = middle + 1;
-        } else {
-            high = middle;
-        }
-    }
-    low
+    entries.partition_point(|entry| entry.by.0 >= arrival.0)
 }
 
 /// Computes the least values of the first entries, up to a number of them.

@@ -6,7 +6,7 @@ ghost use Rattle.plan_model.specs.Network.{count};
 ghost use Rattle.printed_rows.specs.Writers.{row_of_fields, text_of_records};
 ghost use Rattle.lower_proof.specs.Steps.{AllFit};
 ghost use Rattle.lower_proof.specs.Reading.{ReadsBack};
-ghost use Rattle.lower_proof.specs.CertificateTexts.{bounds_record, value_record, entry_text, value_records, proof_text};
+ghost use Rattle.lower_proof.specs.CertificateTexts.{bounds_record, value_record, entry_text, value_records, certificate_text};
 ghost use Rattle.clock_text.specs.Civil.{last_printable};
 
 use crate::LowerBounds;
@@ -119,7 +119,7 @@ pub fn write_text(
     requires target { query.now.target.0 < length network.now.change }
     requires start { query.now.start.0 ≤ last_printable }
     requires deadline { query.now.deadline.0 ≤ last_printable }
-    ensures text { IfOk result (λ text. text.items ≡ proof_text network.now names.now query.now proof.now.values) }
+    ensures text { IfOk result (λ text. text.items ≡ certificate_text network.now names.now query.now proof.now.values) }
     ensures reads_back { IfOk result (λ text. query.now.start.0 ≤ query.now.deadline.0
         → ReadsBack network.now names.now query.now proof.now.values text.items) }
 {

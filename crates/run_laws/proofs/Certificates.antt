@@ -6,7 +6,7 @@ use Rattle.plan_model.specs.declared.model.Moment.{Moment}
 use Rattle.plan_model.specs.declared.model.Query.{Query}
 use Rattle.plan_model.specs.Strategy.{IsBoardableAtStart}
 use Rattle.lower_proof.specs.declared.LowerBounds.{LowerBounds}
-use Rattle.lower_proof.specs.CertificateTexts.{proof_text}
+use Rattle.lower_proof.specs.CertificateTexts.{certificate_text}
 use Rattle.lower_proof.proofs.Vias.{IsLeast-unique}
 use Rattle.printed_rows.specs.Writers.{place_name}
 use Rattle.journey_model.specs.declared.problem.Problem.{Problem}
@@ -33,7 +33,7 @@ module _ (p : Problem) (found others : Findings) (text other : List ℕ) where
       let same : tells.proof.values ≡ told.proof.values = one_tight p.timetable.network p.timetable.valid q tells.proof.values told.proof.values tells.tight told.tight in
       record {
         found = tells.found_is ∙ ap (λ (values : List (Option ℕ)). certify_findings q w (bounds_with values)) same ∙ sym told.found_is;
-        text_is = tells.text_is ∙ ap (proof_text p.timetable.network p.timetable.names q) same ∙ sym told.text_is;
+        text_is = tells.text_is ∙ ap (certificate_text p.timetable.network p.timetable.names q) same ∙ sym told.text_is;
       }
 
   pub one_certificate_answer : (start alpha : ℕ) → InQuery p start alpha (TellsCertificate p found text)

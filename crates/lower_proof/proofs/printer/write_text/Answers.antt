@@ -2,7 +2,7 @@ use Rattle.std.proofs.Common.{◌≡◌, ◌≤◌, ℕ, List, Option, Vec, leng
 use Rattle.std.proofs.lemmas.List.Sums.{count_by-le-length}
 use Rattle.lower_proof.specs.Steps.{AllFit}
 use Rattle.lower_proof.specs.Reading.{IsProofRead, ReadsBack}
-use Rattle.lower_proof.specs.CertificateTexts.{proof_text}
+use Rattle.lower_proof.specs.CertificateTexts.{certificate_text}
 use Rattle.lower_proof.proofs.ReadBack.{IfOk-with, present, reads_back}
 use Rattle.lower_proof.proofs.printer.write_text.Goals as goal
 
@@ -17,7 +17,7 @@ returns-clause-reads_back c =
     let values = c.args.proof.now.values in
     let valid = c.places-2.ensures.valid in
     let few : count_by is_some values ≤ 999999999 = omega (arith, count_by-le-length (is_some {T = ℕ}) values, c.requires.as_many, valid.few_connections) in
-    IfOk-with c.put_values.result (λ (text : Vec ℕ Global). text.items ≡ proof_text n names q values)
+    IfOk-with c.put_values.result (λ (text : Vec ℕ Global). text.items ≡ certificate_text n names q values)
     (λ (text : Vec ℕ Global). q.start.0 ≤ q.deadline.0 → ReadsBack n names q values text.items) _
     (λ text is all in_time result read.
     let fit = subst (λ (list : List (Option ℕ)). AllFit (length list) list) c.as_slice.ensures all in
