@@ -3,3 +3,4 @@ pub mod AtOnce
 pub mod Tables
 pub mod Deadlines
 pub mod Means
+mod LeastChances

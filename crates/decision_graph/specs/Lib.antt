@@ -1,3 +1,4 @@
 pub mod GraphValues
 pub mod Expanded
 pub mod Planned
+pub mod LeastChances

@@ -8,7 +8,8 @@ use Rattle.plan_graph.specs.Unfold.{unfold_plan}
 use Rattle.graph_text.specs.GraphTexts.{plan_text}
 use Rattle.graph_text.specs.Reading.{IsReadAs}
 use Rattle.graph_score.specs.Scores.{IsScored}
-use Rattle.late_chance.specs.Punctual.{IsPunctual, IsSeenLater}
+use Rattle.late_chance.specs.Punctual.{IsPunctual}
+use Rattle.decision_graph.specs.LeastChances.{IsSeenLater}
 use Rattle.journey_model.specs.declared.problem.Problem.{Problem}
 use Rattle.journey_answers.specs.Answers.{head_of}
 use Rattle.journey_report.specs.Findings.{Findings, punctual_findings}

@@ -5,4 +5,3 @@ pub mod Rounded
 pub mod Punctual
 pub mod Shifts
 pub mod Spelled
-mod LeastChances

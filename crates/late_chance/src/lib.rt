@@ -1,6 +1,6 @@
 //! The least chance of being late for a promised moment: the chance as a score, a network as it is
-//! seen from a start on, so that the promise is a moment that the score knows, what a graph for that
-//! network says of the network itself, and the graph with the least chance.
+//! seen from a start on, so that the promise is a moment that the score knows, and what a graph for that
+//! network says of the network itself.
 //!
 //! A call that takes an allocator may answer that there is no memory, as `NoMemory` or as the variant
 //! of that name; then what it was lent is as it was, unless its own comment says otherwise.
@@ -23,12 +23,10 @@ ghost use Rattle.late_chance.specs.Punctual.{IsPunctual, PunctualAlike, TellsOfN
 ghost use Rattle.interval_fixed.specs.Interval.{Interval};
 
 mod chance;
-mod planned;
 mod shift;
 mod text;
 
 pub use chance::LateChance;
-pub use planned::{PromisedQuery, punctual_plan};
 pub use shift::{SECONDS_PER_WEEK, shifted, sooner, unshifted};
 pub use text::write_chance;
 

@@ -10,7 +10,8 @@ use Rattle.graph_score.specs.Spans.{span_of}
 use Rattle.graph_text.specs.GraphTexts.{plan_text}
 use Rattle.late_chance.specs.Chances.{chance_scoring}
 use Rattle.late_chance.specs.LaterGraphs.{later_graph}
-use Rattle.late_chance.specs.Punctual.{IsLeastChance, IsSeenLater, seen_for, asked_for, shift_for}
+use Rattle.late_chance.specs.Punctual.{seen_for, asked_for, shift_for}
+use Rattle.decision_graph.specs.LeastChances.{IsLeastChance, IsSeenLater}
 use Rattle.journey_model.specs.declared.problem.Problem.{Problem}
 use Rattle.journey_report.specs.Findings.{Findings, punctual_findings}
 use Rattle.journey_report.specs.AnswerTexts.{punctual_row}

@@ -10,7 +10,7 @@ use Rattle.plan_graph.specs.declared.PlanGraph.{PlanGraph}
 use Rattle.plan_graph.specs.Unfold.{unfold_plan}
 use Rattle.decision_graph.specs.Planned.{IsPlannedBy}
 use Rattle.late_chance.specs.Chances.{promised, chance_scoring}
-use Rattle.late_chance.specs.Punctual.{IsLeastChance}
+use Rattle.decision_graph.specs.LeastChances.{IsLeastChance}
 
 none_late : (promise start : ℕ) → start ≤ promise → ◌≡◌ {A = Interval} (record { lo = certainty * late promise start; hi = certainty * late promise start }) (record { lo = 0; hi = 0 })
 none_late promise start by = let test : nat_le start promise ≡ true = grind (arith, nat_tests) in rw test refl

@@ -3,12 +3,12 @@ ghost use Rattle.std.specs.Prelude.{◌≡◌, ◌<◌, ◌≤◌, ◌+◌, leng
 ghost use Rattle.plan_model.specs.Bounds.{end_of_time};
 ghost use Rattle.decision_graph.specs.Expanded.{IsNoneSafe};
 ghost use Rattle.late_chance.specs.Chances.{seconds_per_week};
-ghost use Rattle.late_chance.specs.Punctual.{IsLeastChance, IsPunctual, IsSeenLater, asked_for, seen_for};
+ghost use Rattle.late_chance.specs.Punctual.{IsPunctual, asked_for, seen_for};
+ghost use Rattle.decision_graph.specs.LeastChances.{IsLeastChance, IsSeenLater};
 
-use crate::chance::LateChance;
-use crate::punctual_by_shift;
-use crate::shift::{SECONDS_PER_WEEK, shifted, sooner, unshifted};
-use decision_graph::{Found, plan_by};
+use crate::found::Found;
+use crate::planned::plan_by;
+use late_chance::{LateChance, SECONDS_PER_WEEK, punctual_by_shift, shifted, sooner, unshifted};
 use merged_runs::MergedRuns;
 use plan_graph::PlanGraph;
 use plan_model::{Moment, Network, NoMemory, Query};
