@@ -21,10 +21,11 @@ mod outlooks;
 
 use interval_fixed::Span;
 use legs::{first_wrong, legs_of};
+use merged_runs::MergedRuns;
 use outlooks::{RisingGraph, arrived, outlooks_of, told};
 pub use outlooks::{Failure, Outlook};
 use plan_graph::PlanGraph;
-use plan_model::{Moment, Network, NoMemory, PlaceId, Query, SortedOrder};
+use plan_model::{Moment, Network, NoMemory, PlaceId, Query};
 use std::alloc::Global;
 
 /// Why a graph has no score.
@@ -73,7 +74,7 @@ fn outlook_by_legs(
     let Some(start) = rising.graph.start else {
         return Ok(stuck);
     };
-    let mut order = SortedOrder::new(alloc, network)?;
+    let mut order = MergedRuns::new(alloc, network)?;
     let outlooks = outlooks_of(alloc, &mut order, rising, network, query)?;
     Ok(told(&outlooks, start.exit))
 }
