@@ -12,11 +12,11 @@ ghost use Rattle.interval_fixed.specs.Interval.{end_of_nanos};
 
 use csv_rows::{Limits, Rows};
 use cut_file::{CutTable, read_cut};
-use decision_graph::{CompactPlan, ExpandedPlan, expand, plan};
+use decision_graph::{Found, expand, plan};
 use delay_table::DelayTable;
 use interval_fixed::Span;
 pub use links::{APART, Link, five_minutes, linked, links_of, walk, walked_limits};
-use plan_graph::{GraphRow, PlaceTable, PlanGraph};
+use plan_graph::{ExpandedGraph, GraphRow, PlaceTable, PlanGraph};
 use plan_model::{ConnectionId, Leg, Moment, Names, Network, PlaceId, Query, SortedOrder};
 use std::alloc::Global;
 use std::test::Fail;
@@ -190,12 +190,16 @@ pub fn rows_by_place(graph: &PlanGraph) -> Result<&[GraphRow], Fail> {
 }
 
 /// The graph by ride, and its bounds.
-pub fn expanded(alloc: Global, network: &Network, query: &Query) -> Result<ExpandedPlan, Fail>
+pub fn expanded(
+    alloc: Global,
+    network: &Network,
+    query: &Query,
+) -> Result<Found<ExpandedGraph, Span>, Fail>
     requires source { query.now.source.0 < length network.now.change }
     requires target { query.now.target.0 < length network.now.change }
     requires start { query.now.start.0 < end_of_nanos }
     requires deadline { query.now.start.0 ≤ query.now.deadline.0 }
-    ensures { IfOk result (λ found. IsExpanded network.now query.now found.graph found.bounds) }
+    ensures { IfOk result (λ found. IsExpanded network.now query.now found.graph found.value) }
 {
     let mut order = SortedOrder::new(alloc, network)?;
     match expand(alloc, &mut order, network, query) {
@@ -205,12 +209,16 @@ pub fn expanded(alloc: Global, network: &Network, query: &Query) -> Result<Expan
 }
 
 /// The graph by place, and its bounds.
-pub fn planned(alloc: Global, network: &Network, query: &Query) -> Result<CompactPlan, Fail>
+pub fn planned(
+    alloc: Global,
+    network: &Network,
+    query: &Query,
+) -> Result<Found<PlanGraph, Span>, Fail>
     requires source { query.now.source.0 < length network.now.change }
     requires target { query.now.target.0 < length network.now.change }
     requires start { query.now.start.0 < end_of_nanos }
     requires deadline { query.now.start.0 ≤ query.now.deadline.0 }
-    ensures { IfOk result (λ found. IsPlanned network.now query.now found.graph found.bounds) }
+    ensures { IfOk result (λ found. IsPlanned network.now query.now found.graph found.value) }
 {
     let mut order = SortedOrder::new(alloc, network)?;
     match plan(alloc, &mut order, network, query) {

@@ -284,7 +284,7 @@ fn plan_bytes(alloc: Global, network: &Network, names: &Names) -> Result<Vec<u8>
     let found = planned(alloc, network, &query)?;
     let head = Head {
         query,
-        bounds: found.bounds,
+        bounds: found.value,
     };
     let _count = network.count();
     fit_is_printable();
@@ -303,7 +303,7 @@ fn expanded_bytes(alloc: Global, network: &Network, names: &Names) -> Result<Vec
     let found = expanded(alloc, network, &query)?;
     let head = Head {
         query,
-        bounds: found.bounds,
+        bounds: found.value,
     };
     let _count = network.count();
     ready_is_printable();

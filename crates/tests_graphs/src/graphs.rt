@@ -6,9 +6,10 @@ ghost use Rattle.decision_graph.specs.Expanded.{HasSteadyChoice};
 ghost use Rattle.value_laws.specs.Means.{mean_scoring};
 ghost use Rattle.meat_scan.specs.Solves.{Solves};
 
-use decision_graph::{CompactPlan, ExpandedPlan, expand, plan};
+use decision_graph::{Found, expand, plan};
 use graph_compact::compact;
 use graph_prune::{prune, steady_is_coherent};
+use interval_fixed::Span;
 use leg_extract::extract;
 use meat_scan::{ScanTables, Scanned, scan};
 use merged_runs::MergedRuns;
@@ -93,7 +94,11 @@ fn compacted_to(alloc: Global, network: &Network, target: u32) -> Result<PlanGra
 }
 
 /// The graph by ride from A to a place, with its bounds.
-fn expanded_to(alloc: Global, network: &Network, target: u32) -> Result<ExpandedPlan, Fail> {
+fn expanded_to(
+    alloc: Global,
+    network: &Network,
+    target: u32,
+) -> Result<Found<ExpandedGraph, Span>, Fail> {
     if target >= network.places() {
         return Err("no such place".into());
     }
@@ -101,7 +106,11 @@ fn expanded_to(alloc: Global, network: &Network, target: u32) -> Result<Expanded
 }
 
 /// The graph by place from A to a place, with its bounds.
-fn planned_to(alloc: Global, network: &Network, target: u32) -> Result<CompactPlan, Fail> {
+fn planned_to(
+    alloc: Global,
+    network: &Network,
+    target: u32,
+) -> Result<Found<PlanGraph, Span>, Fail> {
     if target >= network.places() {
         return Err("no such place".into());
     }
@@ -213,8 +222,8 @@ fn compacts_to_one_table(rt: HostRuntime) -> Result<(), Fail> {
 /// The rows of a graph and its bounds in nanoseconds.
 pub(crate) type Told = (Vec<GraphRow>, (u64, u64));
 
-fn plan_told(alloc: Global, found: &CompactPlan) -> Result<Told, Fail> {
-    Ok((place_rows(alloc, &found.graph)?, nanos(found.bounds)))
+fn plan_told(alloc: Global, found: &Found<PlanGraph, Span>) -> Result<Told, Fail> {
+    Ok((place_rows(alloc, &found.graph)?, nanos(found.value)))
 }
 
 /// What is told of the graph by place.
@@ -223,8 +232,8 @@ pub(crate) fn planned_told(alloc: Global, network: &Network, target: u32) -> Res
     plan_told(alloc, &found)
 }
 
-fn expansion_told(alloc: Global, found: &ExpandedPlan) -> Result<Told, Fail> {
-    Ok((ride_rows(alloc, &found.graph)?, nanos(found.bounds)))
+fn expansion_told(alloc: Global, found: &Found<ExpandedGraph, Span>) -> Result<Told, Fail> {
+    Ok((ride_rows(alloc, &found.graph)?, nanos(found.value)))
 }
 
 /// What is told of the graph by ride.
@@ -264,7 +273,7 @@ fn plans_with_bounds(rt: HostRuntime) -> Result<(), Fail> {
 }
 
 /// The graph by place to T, by a scan over merged runs.
-fn merged_plan(alloc: Global, network: &Network) -> Result<Option<CompactPlan>, Fail> {
+fn merged_plan(alloc: Global, network: &Network) -> Result<Option<Found<PlanGraph, Span>>, Fail> {
     if network.places() != 3 {
         return Err("another number of places".into());
     }
@@ -345,7 +354,7 @@ type Begun = (Option<Leg>, usize, (u64, u64));
 fn planned_begun(alloc: Global, network: &Network) -> Result<Begun, Fail> {
     let found = planned_to(alloc, network, 0)?;
     let tables = found.graph.tables.len();
-    Ok((found.graph.start, tables, nanos(found.bounds)))
+    Ok((found.graph.start, tables, nanos(found.value)))
 }
 
 fn planned_at_once(alloc: Global) -> Result<Begun, Fail> {
@@ -363,7 +372,7 @@ fn plans_at_once(rt: HostRuntime) -> Result<(), Fail> {
 fn expanded_begun(alloc: Global, network: &Network) -> Result<Begun, Fail> {
     let found = expanded_to(alloc, network, 0)?;
     let rides = found.graph.rides.len();
-    Ok((found.graph.start, rides, nanos(found.bounds)))
+    Ok((found.graph.start, rides, nanos(found.value)))
 }
 
 fn expanded_at_once(alloc: Global) -> Result<Begun, Fail> {

@@ -1,6 +1,6 @@
 //! Scores of graphs over three buses, and of one whose trips are many more than its legs.
 ghost use Rattle.std.specs.Prelude.{◌≡◌, ◌≢◌, ◌<◌, ◌≤◌, Some, None, IfOk, IfSome, length};
-ghost use Rattle.graph_score.specs.Legs.{HasRisingTables};
+ghost use Rattle.plan_graph.specs.PickedRows.{HasRisingTables};
 ghost use Rattle.interval_fixed.specs.Interval.{end_of_nanos};
 
 use graph_score::{ScoreFault, fit_is_scored, score};

@@ -57,7 +57,7 @@ fn compare_plan(alloc: Global, network: &Network, query: &Query) -> Result<bool,
     let Some(expected) = best(network, query, Goal::Expected) else {
         return Err("a plan where nothing is safe".into());
     };
-    if !encloses(found.bounds, expected, network.count()) {
+    if !encloses(found.value, expected, network.count()) {
         return Err("the bounds do not enclose the expected arrival".into());
     }
     Ok(true)

@@ -1,6 +1,6 @@
 use Rattle.std.proofs.Common.{◌≡◌, None}
 use Rattle.std.proofs.lemmas.Option.{MatchOption-at_some}
-use Rattle.decision_graph.proofs.Found.{IsOfStart, steady_choice}
+use Rattle.decision_graph.proofs.BestStrategies.{IsOfStart, steady_choice}
 use Rattle.tests_graphs.proofs.graphs.extracted.Goals as goal
 
 pub returns-in-Ok-Some-clause-steady : goal.returns-in-Ok-Some-clause-steady
