@@ -19,11 +19,11 @@ use Rattle.journey_problem.specs.Files.{bytes_of}
 use Rattle.journey_problem.proofs.OneProblem.{one_problem}
 use Rattle.journey_problem.proofs.NoFaults.{none_unread}
 use Rattle.journey_answers.specs.Answers.{IsQueryOf, IsNoSafe}
-use Rattle.meat_engine.specs.Asks.{AnswersAsk, FailsAsk, EndsAsk, FailsJourney}
-use Rattle.journey_problem.specs.CertificateFiles.{FailsFile, FailsCheck}
+use Rattle.meat_engine.specs.Asks.{AnswersAsk, FailsAsk, EndsAsk, FailsJourney, FailsCheck, FailsReplay, FailsScore}
+use Rattle.journey_problem.specs.CertificateFiles.{FailsFile}
 use Rattle.meat_engine.specs.Ends.{HasSafe, EndsBySafety, EndsByGraphFile, EndsByCertificateFile, EndsByScore}
 use Rattle.journey_report.specs.Findings.{Findings}
-use Rattle.journey_problem.specs.GraphFiles.{graph_in, FailsReplay, FailsScore}
+use Rattle.journey_problem.specs.GraphFiles.{graph_in}
 
 -- a least worst arrival is that of a strategy
 has_tree : (n : NetworkModel) (source target start a b c : ℕ) (w : Moment) → a ≡ source → b ≡ target → c ≡ start → IsLeastWorst n a b c (Some w) → HasSafe n source target start

@@ -28,12 +28,12 @@ use Rattle.plan_model.specs.Network.{IsValid}
 use Rattle.std.proofs.lemmas.Bool.Decides.{nat_tests}
 use Rattle.journey_problem.specs.Files.{bytes_of}
 use Rattle.plan_model.specs.Results.{and_then}
-use Rattle.journey_problem.specs.GraphFiles.{graph_in, graph_as, FailsScore}
+use Rattle.journey_problem.specs.GraphFiles.{graph_in, graph_as}
 use Rattle.journey_answers.specs.Trips.{trip_by}
 use Rattle.journey_answers.specs.Answers.{TellsPlanned, head_of}
 use Rattle.journey_answers.specs.Certified.{TellsCertificate}
 use Rattle.journey_answers.specs.Departures.{query_until}
-use Rattle.meat_engine.specs.Asks.{AnswersAsk, EndsAsk, FailsJourney}
+use Rattle.meat_engine.specs.Asks.{AnswersAsk, EndsAsk, FailsJourney, FailsScore}
 use Rattle.meat_engine.specs.Ends.{EndsByGraphFile, EndsByWalk}
 use Rattle.meat_engine.specs.Received.{AnswersJob, Outcome}
 use Rattle.meat_engine.specs.RunPromises.{WritesLine}

@@ -29,10 +29,10 @@ use Rattle.journey_problem.specs.Files.{bytes_of}
 use Rattle.journey_answers.specs.Trips.{AnswersReplay, IsTripFault, trip_by}
 use Rattle.journey_answers.specs.Scores.{IsEnclosed, IsUnsafeGraph}
 use Rattle.journey_answers.specs.Checks.{IsHeld, IsBroken}
-use Rattle.journey_problem.specs.GraphFiles.{graph_in, InGraphFile, FailsGraph, FailsReplay, FailsScore}
-use Rattle.journey_problem.specs.CertificateFiles.{FailsText, FailsFile, FailsCheck, FailsCertificate, InCertificateFile}
+use Rattle.journey_problem.specs.GraphFiles.{graph_in, InGraphFile, FailsGraph}
+use Rattle.journey_problem.specs.CertificateFiles.{FailsText, FailsFile, FailsCertificate, InCertificateFile}
 use Rattle.journey_answers.specs.Answers.{IsNoSafe}
-use Rattle.meat_engine.specs.Asks.{AnswersAsk, FailsAsk}
+use Rattle.meat_engine.specs.Asks.{AnswersAsk, FailsAsk, FailsCheck, FailsReplay, FailsScore}
 use Rattle.run_laws.proofs.FirstFaults.{NotRead}
 use Rattle.run_laws.proofs.OneFile.{one_err, never_both, read_graph, in_graph, read_bytes, Reads, in_proof}
 use Rattle.run_laws.proofs.Queries.{not_none}
