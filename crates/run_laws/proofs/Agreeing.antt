@@ -130,6 +130,7 @@ module _ (limits : Limits) (files : FileMap) (old said : List ℕ) (r : RunModel
 
   -- and that nothing failed in it
   calm_run : r.report.fault ≢ Some fault.NoMemory → IsCalmRun files limits r.words r.report old said r.after.out.written r.after.err.written
+  unfolding known_run
   calm_run memory = record {
     known = known_run;
     had_said = calm.had_said;
