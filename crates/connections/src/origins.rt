@@ -2,6 +2,8 @@
 ghost use Rattle.std.specs.Prelude.{◌≡◌};
 ghost use Rattle.connections.specs.Origins.{origin_of_day, moment_of};
 
+use plan_model::SECONDS_PER_DAY;
+
 /// A service day.
 #[derive(Clone, Copy)]
 pub(crate) struct ServiceDay {
@@ -30,6 +32,8 @@ impl Origin {
     pub(crate) fn plus(self, seconds: u32) -> i64
         ensures { result ≡ moment_of self seconds }
     {
-        86_400 * i64::from(self.day.number) + i64::from(self.shift) + i64::from(seconds)
+        i64::from(SECONDS_PER_DAY) * i64::from(self.day.number)
+            + i64::from(self.shift)
+            + i64::from(seconds)
     }
 }

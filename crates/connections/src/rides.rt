@@ -12,7 +12,9 @@ use crate::runs::{Run, leaves};
 use crate::window::Window;
 use delay_table::{ClassName, DelayTable};
 use gtfs_tables::{Feed, StopRow};
-use plan_model::{ClassId, Connection, List, Moment, NoMemory, RunId};
+use plan_model::{
+    ClassId, Connection, HOURS_PER_DAY, List, Moment, NoMemory, RunId, SECONDS_PER_HOUR,
+};
 use std::alloc::Global;
 use text_index::TextIndex;
 
@@ -31,12 +33,6 @@ struct HourClass {
     hour: u64,
     class: u16,
 }
-
-/// The seconds of an hour.
-const SECONDS_PER_HOUR: u64 = 3_600;
-
-/// The hours of a day.
-const HOURS_PER_DAY: u64 = 24;
 
 /// The number of each route of a feed among those that the delays name, where it is one of them.
 #[tactic(auto, using(crate::proofs::JoinLemmas::list_steps))]

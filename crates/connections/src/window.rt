@@ -5,6 +5,7 @@ ghost use Rattle.connections.specs.TripRuns.{days};
 ghost use Rattle.connections.specs.Window.{window_of, holds, day_at, most_hours, IsWindow};
 
 use crate::origins::ServiceDay;
+use plan_model::{SECONDS_PER_DAY, SECONDS_PER_HOUR};
 
 /// How many service days a window has: from 14 before the date of its start to 3 after it.
 pub(crate) const DAYS: u32 = 18;
@@ -28,7 +29,7 @@ impl Window {
     {
         Window {
             start,
-            end: start + 3600 * u64::from(horizon),
+            end: start + SECONDS_PER_HOUR * u64::from(horizon),
         }
     }
 
@@ -64,7 +65,7 @@ impl Window {
         ensures { result ≡ day_at self d }
     {
         ServiceDay {
-            number: (self.start / 86_400) as i32 + d as i32 - DAYS_BEFORE,
+            number: (self.start / u64::from(SECONDS_PER_DAY)) as i32 + d as i32 - DAYS_BEFORE,
         }
     }
 }

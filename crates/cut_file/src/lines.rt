@@ -6,6 +6,9 @@ use crate::fields::{read_class, read_early, read_flag};
 use clock_text::{read_optional_seconds, read_whole};
 use csv_rows::{Column, read_name};
 
+/// The greatest `step`: nine digits.
+const MOST_STEP: u32 = 999_999_999;
+
 /// A row as it is read, with its names.
 #[derive(Clone, Copy)]
 pub(crate) struct NamedRow<'a> {
@@ -60,7 +63,7 @@ pub(crate) fn read_fields<'a>(f: Fields<'a>) -> Result<NamedRow<'a>, Column>
     let Some(run) = read_name(f.run) else {
         return Err(Column::Run);
     };
-    let Some(step) = read_whole(f.step, 999_999_999) else {
+    let Some(step) = read_whole(f.step, MOST_STEP) else {
         return Err(Column::Step);
     };
     let Some(from) = read_name(f.from) else {

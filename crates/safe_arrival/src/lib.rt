@@ -10,13 +10,11 @@ ghost use Rattle.plan_model.specs.Tree.{Tree};
 ghost use Rattle.meat_scan.specs.ScanTables.{FitsTables};
 
 use meat_scan::{ScanTables, start_value};
-use plan_model::{BackwardOrder, Moment, Network, PlaceId, Query};
+use plan_model::{BackwardOrder, Moment, Network, PlaceId, Query, SECONDS_PER_HOUR};
 use value_laws::WorstMoment;
 
 // A day after the last arrival that a network may have: whatever always arrives does so by then.
 const LAST_MOMENT: Moment = Moment(13_601_174_400);
-
-const SECONDS_PER_HOUR: u64 = 3600;
 
 // The least worst arrival, if it is by the deadline of the query. The tables come back empty, and the
 // order is used up.

@@ -41,6 +41,9 @@ pub(crate) struct TimedRow {
     pub(crate) visit: Option<StopRow>,
 }
 
+/// The greatest `stop_sequence`: nine digits.
+const MOST_SEQUENCE: u32 = 999_999_999;
+
 /// The indexes of the columns; `None` of a column that is absent.
 #[derive(Clone, Copy)]
 pub(crate) struct TimeColumns {
@@ -279,7 +282,7 @@ pub(crate) fn read_timed_row(
 {
     let trip = read_trip_number(&named.trips, line, row.field_at(columns.trip), known)?;
     let stop = read_stop_number(&named.stops, line, row.field_at(columns.stop), expected)?;
-    let Some(sequence) = read_whole(row.field_at(columns.sequence), 999_999_999) else {
+    let Some(sequence) = read_whole(row.field_at(columns.sequence), MOST_SEQUENCE) else {
         return Err(FeedFault::BadField(Table::StopTimes, line, Column::StopSequence));
     };
     let arrival_text = row.field_at(columns.arrival);
