@@ -1,6 +1,8 @@
 //! The decision graph with the least chance of an arrival after a promised moment.
 ghost use Rattle.std.specs.Prelude.{◌≡◌, ◌<◌, ◌≤◌, ◌+◌, length, IfOk, MatchOption};
 ghost use Rattle.plan_model.specs.Bounds.{end_of_time};
+ghost use Rattle.plan_model.specs.Network.{IsValid};
+ghost use Rattle.plan_model.specs.Propositions.{IsValid-prop};
 ghost use Rattle.decision_graph.specs.Expanded.{IsNoneSafe};
 ghost use Rattle.late_chance.specs.Chances.{seconds_per_week};
 ghost use Rattle.late_chance.specs.Punctual.{IsPunctual, asked_for, seen_for};
@@ -23,6 +25,8 @@ pub struct PromisedQuery<'a> {
     pub query: Query,
     /// The promised moment.
     pub moment: Moment,
+    /// That the network's numbers are in range and its lists in order, as in each network.
+    pub ghost valid: { IsValid network.now } by { IsValid-prop network.now },
     /// That the source is a place of the network.
     pub ghost source_in: { query.source.0 < length network.now.change },
     /// That the target is one.
@@ -90,7 +94,6 @@ pub fn punctual_plan(
         (λ p. IsPunctual promised.now.network.now promised.now.query promised.now.moment.0 p.graph p.value
         × IsSeenLater promised.now.network.now promised.now.query promised.now.moment.0 p.graph p.value)) }
 {
-    let _count = promised.network.count();
     punctual_by_shift();
     let Some(found) = seen_plan(alloc, promised)? else {
         return Ok(None);
