@@ -1,4 +1,4 @@
--- What rows tell, one more at a time.
+-- What rows say, one more at a time.
 use Rattle.std.proofs.Common.{◌≡◌, ℕ, ◌+◌, ◌≤◌, ◌&&◌, Bool, true, false, cond, [], ◌∷◌, ◌++◌, length, count_by, Option, Some, None, IfSome, is_none, nat_eq}
 use Rattle.std.proofs.Common.{◌==◌, if◌then◌else◌, refl, sym, ap, ◌∙◌, subst, arith}
 use Rattle.std.specs.Map.{lookup}
@@ -10,13 +10,13 @@ use Rattle.table_files.specs.Required.{Records}
 use Rattle.gtfs_tables.specs.Feeds.{FeedParts}
 use Rattle.change_times.specs.declared.transfers.Transfer.{Transfer}
 use Rattle.change_times.specs.declared.transfers.TransferColumns.{TransferColumns}
-use Rattle.change_times.specs.Transfers.{transfer_columns, transfer_in, transfer_at, transfer_told_by}
+use Rattle.change_times.specs.Transfers.{transfer_columns, transfer_in, transfer_at, transfer_reported_by}
 use Rattle.change_times.specs.Greatest.{greatest_below}
-use Rattle.change_times.specs.declared.changes.Told.{Told}
+use Rattle.change_times.specs.declared.changes.TransfersSoFar.{TransfersSoFar}
 use Rattle.change_times.specs.Walks.{seconds_between, link_between, walks_of, most_to}
-use Rattle.change_times.specs.Told.{AreTold}
+use Rattle.change_times.specs.TransfersSoFar.{AreCollected}
 use Rattle.change_times.specs.Links.{ways_at}
-use Rattle.change_times.specs.Changes.{change_seconds, greatest_link, ChangeParts, AreToldChanges}
+use Rattle.change_times.specs.Changes.{change_seconds, greatest_link, ChangeParts, AreCollectedChanges}
 use Rattle.change_times.proofs.GreatestLemmas.{IsShort, greatest-zero}
 use Rattle.change_times.proofs.LinkLemmas.{ways-none}
 
@@ -62,29 +62,29 @@ pub no_own_link : (place : ℕ) (o : Option Transfer) → link_between place pla
 no_own_link place None = refl
 no_own_link place (Some t) = grind (arith, nat_tests)
 
--- no rows tell nothing
-pub no_rows : (feed : FeedParts) (c : ChangeParts) → c.told ≡ [] → c.links ≡ [] → c.passed ≡ 0 → AreToldChanges feed c []
-no_rows feed c told links passed =
+-- no rows say nothing
+pub no_rows : (feed : FeedParts) (c : ChangeParts) → c.reported ≡ [] → c.links ≡ [] → c.passed ≡ 0 → AreCollectedChanges feed c []
+no_rows feed c reported links passed =
     record {
       links = λ place inside. ap (λ ls. ways_at ls place) links
-          ∙ sym (ways-none (λ from. greatest_below (λ i. link_between from place (transfer_told_by feed [] i)) 0) (length feed.stop_ids)
-          (λ from. greatest-zero (λ i. link_between from place (transfer_told_by feed [] i))));
+          ∙ sym (ways-none (λ from. greatest_below (λ i. link_between from place (transfer_reported_by feed [] i)) 0) (length feed.stop_ids)
+          (λ from. greatest-zero (λ i. link_between from place (transfer_reported_by feed [] i))));
       few = omega (arith, ap length links);
-      seconds = λ place. ap (λ es. change_seconds (lookup (nat_eq place) es)) told ∙ ap change_seconds (sym (greatest-zero (λ i. seconds_between place place (transfer_told_by feed [] i))));
-      passed = passed ∙ sym (ap (count_by is_none) (list_below-zero (transfer_told_by feed [])));
+      seconds = λ place. ap (λ es. change_seconds (lookup (nat_eq place) es)) reported ∙ ap change_seconds (sym (greatest-zero (λ i. seconds_between place place (transfer_reported_by feed [] i))));
+      passed = passed ∙ sym (ap (count_by is_none) (list_below-zero (transfer_reported_by feed [])));
     }
 
--- what no rows tell
-pub told_none : (feed : FeedParts) (t : Records) (told : Told) → length told.walks.items ≡ length feed.stop_ids → ((from : ℕ) → walks_of told.walks.items from ≡ [])
-    → told.seconds.entries ≡ [] → told.passed ≡ 0 → AreTold feed t 0 told
-told_none feed t told size walks seconds passed =
-    let zero : (from to : ℕ) → greatest_link feed t 0 from to ≡ None = λ from to. greatest-zero (λ i. link_between from to (transfer_told_by feed t i)) in
+-- what no rows give
+pub reported_none : (feed : FeedParts) (t : Records) (reported : TransfersSoFar) → length reported.walks.items ≡ length feed.stop_ids → ((from : ℕ) → walks_of reported.walks.items from ≡ [])
+    → reported.seconds.entries ≡ [] → reported.passed ≡ 0 → AreCollected feed t 0 reported
+reported_none feed t reported size walks seconds passed =
+    let zero : (from to : ℕ) → greatest_link feed t 0 from to ≡ None = λ from to. greatest-zero (λ i. link_between from to (transfer_reported_by feed t i)) in
     record {
       size = size;
-      seconds = λ place. ap (λ es. lookup (nat_eq place) es) seconds ∙ sym (greatest-zero (λ k. seconds_between place place (transfer_told_by feed t k)));
+      seconds = λ place. ap (λ es. lookup (nat_eq place) es) seconds ∙ sym (greatest-zero (λ k. seconds_between place place (transfer_reported_by feed t k)));
       walks = λ from to. ap (most_to to) (walks from) ∙ sym (zero from to);
       short = λ place. subst (λ es. IsShort (lookup (nat_eq place) es)) (sym seconds) tt;
       brief = λ from to. subst IsShort (sym (zero from to)) tt;
-      passed = passed ∙ sym (ap (count_by is_none) (list_below-zero (transfer_told_by feed t)));
+      passed = passed ∙ sym (ap (count_by is_none) (list_below-zero (transfer_reported_by feed t)));
       few = omega (arith, passed);
     }

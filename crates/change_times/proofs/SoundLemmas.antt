@@ -6,11 +6,11 @@ use Rattle.std.proofs.lemmas.List.Elements.{All-get_or, All-nil, All-push}
 use Rattle.plan_model.specs.declared.model.Way.{Way}
 use Rattle.change_times.specs.Links.{link_from, ways_below, ways_at}
 use Rattle.plan_model.specs.Network.{AreLinksInto}
-use Rattle.change_times.specs.declared.changes.Told.{Told}
+use Rattle.change_times.specs.declared.changes.TransfersSoFar.{TransfersSoFar}
 use Rattle.table_files.specs.Required.{Records}
 use Rattle.gtfs_tables.specs.Feeds.{FeedParts}
-use Rattle.change_times.specs.Transfers.{transfer_told_by}
-use Rattle.change_times.specs.Told.{AreTold}
+use Rattle.change_times.specs.Transfers.{transfer_reported_by}
+use Rattle.change_times.specs.TransfersSoFar.{AreCollected}
 use Rattle.change_times.specs.Walks.{walks_of, most_to, link_between}
 use Rattle.change_times.proofs.ChangeLemmas.{no_own_link}
 use Rattle.change_times.proofs.GreatestLemmas.{IsShort, greatest-none}
@@ -60,25 +60,25 @@ sound places r (suc n) f few own short =
     (subst (AreLinksInto places r) (sym (ways-next f n))
     (add places r n (ways_below f n) (f n) (omega arith) (λ same. ap f same ∙ own) (short n) (ways_before f n) (sound places r n f (omega arith) own short)))
 
--- the links that rows tell, by the walks that they tell
-module _ (feed : FeedParts) (t : Records) (n : ℕ) (told : Told) (is : AreTold feed t n told) (links : List (List Way)) (size : length links ≡ length feed.stop_ids)
-    (ways : (to : ℕ) → to < length feed.stop_ids → ways_at links to ≡ ways_below (λ from. most_to to (walks_of told.walks.items from)) (length feed.stop_ids)) where
-  told_into : (places to : ℕ) → length feed.stop_ids ≤ places → to < length feed.stop_ids → AreLinksInto places to (ways_at links to)
-  told_into places to few inside =
+-- the links of rows, by their walks
+module _ (feed : FeedParts) (t : Records) (n : ℕ) (reported : TransfersSoFar) (is : AreCollected feed t n reported) (links : List (List Way)) (size : length links ≡ length feed.stop_ids)
+    (ways : (to : ℕ) → to < length feed.stop_ids → ways_at links to ≡ ways_below (λ from. most_to to (walks_of reported.walks.items from)) (length feed.stop_ids)) where
+  reported_into : (places to : ℕ) → length feed.stop_ids ≤ places → to < length feed.stop_ids → AreLinksInto places to (ways_at links to)
+  reported_into places to few inside =
       subst (AreLinksInto places to) (sym (ways to inside))
-      (sound places to (length feed.stop_ids) (λ from. most_to to (walks_of told.walks.items from)) few
-      (is.walks to to ∙ greatest-none (λ i. link_between to to (transfer_told_by feed t i)) n (λ i. no_own_link to (transfer_told_by feed t i)))
+      (sound places to (length feed.stop_ids) (λ from. most_to to (walks_of reported.walks.items from)) few
+      (is.walks to to ∙ greatest-none (λ i. link_between to to (transfer_reported_by feed t i)) n (λ i. no_own_link to (transfer_reported_by feed t i)))
       (λ from. subst IsShort (sym (is.walks from to)) (is.brief from to)))
 
-  pub told_sound : length feed.stop_ids ≤ 4294967296 → (to : ℕ) → AreLinksInto 4294967296 to (ways_at links to)
-  told_sound few to =
-      ⊎_elim (λ (inside : to < length feed.stop_ids). told_into 4294967296 to few inside)
+  pub reported_sound : length feed.stop_ids ≤ 4294967296 → (to : ℕ) → AreLinksInto 4294967296 to (ways_at links to)
+  reported_sound few to =
+      ⊎_elim (λ (inside : to < length feed.stop_ids). reported_into 4294967296 to few inside)
       (λ (past : length feed.stop_ids ≤ to). no_links 4294967296 to (ways_at links to) (get_or_past links to [] (omega (arith, size))))
       (cases_lt to (length feed.stop_ids))
 
-  pub told_from : (to : ℕ) → All (λ (way : Way). way.from.0 < length feed.stop_ids) (ways_at links to)
-  told_from to =
-      ⊎_elim (λ (inside : to < length feed.stop_ids). (told_into (length feed.stop_ids) to (omega arith) inside).inside)
+  pub reported_from : (to : ℕ) → All (λ (way : Way). way.from.0 < length feed.stop_ids) (ways_at links to)
+  reported_from to =
+      ⊎_elim (λ (inside : to < length feed.stop_ids). (reported_into (length feed.stop_ids) to (omega arith) inside).inside)
       (λ (past : length feed.stop_ids ≤ to).
       subst (All (λ (way : Way). way.from.0 < length feed.stop_ids)) (sym (get_or_past links to [] (omega (arith, size)))) (All-nil (λ (way : Way). way.from.0 < length feed.stop_ids)))
       (cases_lt to (length feed.stop_ids))

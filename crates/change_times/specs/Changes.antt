@@ -15,7 +15,7 @@ use Rattle.table_files.specs.Loading.{load_in, loaded_rows}
 use Rattle.plan_model.specs.declared.model.Way.{Way}
 use Rattle.table_files.specs.Required.{Records}
 use Rattle.gtfs_tables.specs.Feeds.{FeedParts}
-use Rattle.change_times.specs.Transfers.{transfer_told_by, transfers_fault}
+use Rattle.change_times.specs.Transfers.{transfer_reported_by, transfers_fault}
 use Rattle.change_times.specs.Greatest.{greatest_below}
 use Rattle.change_times.specs.Links.{ways_at, ways_below}
 use Rattle.change_times.specs.Walks.{seconds_between, link_between}
@@ -27,7 +27,7 @@ change_seconds (Some seconds) = max 1 seconds
 
 -- the greatest seconds of a transfer that stays at a place, of the first n rows
 abbrev pub greatest_change : FeedParts → Records → ℕ → (place : ℕ) → Option ℕ
-greatest_change feed t n place = greatest_below (λ i. seconds_between place place (transfer_told_by feed t i)) n
+greatest_change feed t n place = greatest_below (λ i. seconds_between place place (transfer_reported_by feed t i)) n
 
 -- the change time of a place: the greatest of the transfers that stay there
 abbrev pub change_time : FeedParts → Records → ℕ → ℕ
@@ -35,7 +35,7 @@ change_time feed t place = change_seconds (greatest_change feed t (row_count t) 
 
 -- the greatest seconds of a transfer from one place to another, of the first n rows
 abbrev pub greatest_link : FeedParts → Records → ℕ → (from to : ℕ) → Option ℕ
-greatest_link feed t n from to = greatest_below (λ i. link_between from to (transfer_told_by feed t i)) n
+greatest_link feed t n from to = greatest_below (λ i. link_between from to (transfer_reported_by feed t i)) n
 
 -- the links into a place: the greatest of the transfers from each other place to it
 abbrev pub links_in : FeedParts → Records → ℕ → List Way
@@ -43,18 +43,18 @@ links_in feed t place = ways_below (λ from. greatest_link feed t (row_count t) 
 
 -- how many of the first n rows have no transfer
 abbrev pub passed_below : FeedParts → Records → ℕ → ℕ
-passed_below feed t n = count_by is_none (list_below (transfer_told_by feed t) n)
+passed_below feed t n = count_by is_none (list_below (transfer_reported_by feed t) n)
 
 -- the places for which a row has seconds, with the greatest of these, the links into each place, and how many rows
 -- have neither; where the lists of links end, no link leads into the places from there on
 pub record ChangeParts : Type 0 where
-  pub told : List (ℕ × ℕ)
+  pub reported : List (ℕ × ℕ)
   pub links : List (List Way)
   pub passed : ℕ
 
 -- the seconds that a change at a place takes
-abbrev pub seconds_of : ChangeParts → ℕ → ℕ
-seconds_of c place = change_seconds (lookup (nat_eq place) c.told)
+abbrev pub change_seconds : ChangeParts → ℕ → ℕ
+change_seconds c place = change_seconds (lookup (nat_eq place) c.reported)
 
 -- the links into a place
 abbrev pub links_of : ChangeParts → ℕ → List Way
@@ -65,8 +65,8 @@ abbrev pub LinksComeFrom : ℕ → ChangeParts → Type 0
 LinksComeFrom places c = (place : ℕ) → All (λ way. way.from.0 < places) (links_of c place)
 
 -- these are the change times and the links of a table; a place that the feed does not have has no link into it
-pub record AreToldChanges (feed : FeedParts) (c : ChangeParts) (t : Records) : Type 0 where
-  pub seconds : (place : ℕ) → seconds_of c place ≡ change_time feed t place
+pub record AreCollectedChanges (feed : FeedParts) (c : ChangeParts) (t : Records) : Type 0 where
+  pub seconds : (place : ℕ) → change_seconds c place ≡ change_time feed t place
   pub links : (place : ℕ) → place < length feed.stop_ids → links_of c place ≡ links_in feed t place
   pub few : length c.links ≤ length feed.stop_ids
   pub passed : c.passed ≡ passed_below feed t (row_count t)
@@ -78,10 +78,10 @@ fault_of_transfers feed Absent = None
 fault_of_transfers feed NoRecord = None
 
 -- whatever the files say, change times and links are those of some table with no fault
-pub record AreToldBySome (feed : FeedParts) (c : ChangeParts) : Type 0 where
+pub record AreReportedBySome (feed : FeedParts) (c : ChangeParts) : Type 0 where
   pub loaded : Loaded
   pub no_fault : fault_of_transfers feed loaded ≡ None
-  pub told : AreToldChanges feed c (loaded_rows loaded)
+  pub reported : AreCollectedChanges feed c (loaded_rows loaded)
 
 abbrev pub transfers_from : FeedParts → Result Loaded FeedFault → Result Records FeedFault
 transfers_from feed loaded = and_then loaded (λ l. unless (fault_of_transfers feed l) (loaded_rows l))

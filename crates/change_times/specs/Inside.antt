@@ -8,7 +8,7 @@ use Rattle.change_times.specs.Links.{ways_at}
 use Rattle.plan_model.specs.Network.{AreLinksInto}
 
 abbrev pub change_parts_of : Inside → ChangeParts
-change_parts_of c = record { told = c.seconds.entries; links = c.links.items; passed = c.passed }
+change_parts_of c = record { reported = c.seconds.entries; links = c.links.items; passed = c.passed }
 
 -- no change is longer than a day, and the links into each place rise and come from others
 pub record AreSound (c : Inside) : Type 0 where

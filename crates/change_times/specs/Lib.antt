@@ -4,5 +4,5 @@ pub mod Greatest
 pub mod Links
 pub mod Walks
 pub mod Changes
-pub mod Told
+pub mod TransfersSoFar
 pub mod Inside

@@ -12,7 +12,7 @@ use Rattle.csv_rows.specs.declared.feed_tables.FeedFault.TheVariants.{BadField, 
 use Rattle.csv_rows.specs.First.{first_below}
 use Rattle.csv_rows.specs.Names.{name_in}
 use Rattle.csv_rows.specs.RowFaults.{first_lack}
-use Rattle.csv_rows.specs.Tables.{row_count, place_in, place_of, field_at}
+use Rattle.csv_rows.specs.Tables.{row_count, number_in, index_of, field_at}
 use Rattle.gtfs_tables.specs.Feeds.{FeedParts}
 use Rattle.change_times.specs.declared.transfers.Transfer.{Transfer}
 use Rattle.change_times.specs.declared.transfers.TransferColumns.{TransferColumns}
@@ -20,7 +20,7 @@ use Rattle.change_times.specs.TransferForms.{is_timed_in}
 
 -- the place of the stop of this id
 abbrev pub place_of_stop : FeedParts → List ℕ → Option ℕ
-place_of_stop feed id = option_map (λ stop. slice_index feed.places stop) (place_in id feed.stop_ids)
+place_of_stop feed id = option_map (λ stop. slice_index feed.places stop) (number_in id feed.stop_ids)
 
 -- the place of the stop that a field names
 abbrev pub place_named_by : FeedParts → ℕ → Column → List ℕ → Result ℕ FeedFault
@@ -54,14 +54,14 @@ transfer_from kind line general timed =
 -- the indexes of the columns
 abbrev pub transfer_columns : List (List (List ℕ)) → TransferColumns
 transfer_columns t = record {
-  from = place_of FromStopId t;
-  to = place_of ToStopId t;
-  kind = place_of TransferType t;
-  seconds = place_of MinTransferTime t;
-  from_route = place_of FromRouteId t;
-  to_route = place_of ToRouteId t;
-  from_trip = place_of FromTripId t;
-  to_trip = place_of ToTripId t;
+  from = index_of FromStopId t;
+  to = index_of ToStopId t;
+  kind = index_of TransferType t;
+  seconds = index_of MinTransferTime t;
+  from_route = index_of FromRouteId t;
+  to_route = index_of ToRouteId t;
+  from_trip = index_of FromTripId t;
+  to_trip = index_of ToTripId t;
 }
 
 abbrev pub timed_transfer_in : FeedParts → List (List (List ℕ)) → TransferColumns → ℕ → Result (Option Transfer) FeedFault
@@ -82,8 +82,8 @@ abbrev pub bad_transfer : FeedParts → List (List (List ℕ)) → ℕ → Optio
 bad_transfer feed t i = result_err (transfer_at feed t i)
 
 -- the transfer of row i, where it has one
-abbrev pub transfer_told_by : FeedParts → List (List (List ℕ)) → ℕ → Option Transfer
-transfer_told_by feed t i = value_or None (transfer_at feed t i)
+abbrev pub transfer_reported_by : FeedParts → List (List (List ℕ)) → ℕ → Option Transfer
+transfer_reported_by feed t i = value_or None (transfer_at feed t i)
 
 -- the first fault of the transfers
 unfoldable pub transfers_fault : FeedParts → List (List (List ℕ)) → Option FeedFault

@@ -3,9 +3,9 @@ ghost use Rattle.std.specs.Prelude.{◌≡◌, ◌≢◌, ◌<◌, ◌≤◌, �
 ghost use Rattle.plan_model.specs.Bounds.{seconds_per_day};
 ghost use Rattle.std.specs.HashMap.{get};
 ghost use Rattle.csv_rows.specs.declared.feed_tables.Table.TheVariants.{Transfers as TransfersTable};
-ghost use Rattle.csv_rows.specs.FeedTables.{unread_of, IsFaultOf};
+ghost use Rattle.csv_rows.specs.FeedTables.{unread_table, IsFaultOf};
 ghost use Rattle.csv_rows.specs.First.{first_below};
-ghost use Rattle.csv_rows.specs.RowFaults.{TellsFirst};
+ghost use Rattle.csv_rows.specs.RowFaults.{ReportsFirst};
 ghost use Rattle.table_files.specs.Loading.{HasFeedCauses, loaded_rows};
 ghost use Rattle.csv_rows.specs.Tables.{row_count};
 ghost use Rattle.table_files.specs.Required.{Records};
@@ -14,8 +14,8 @@ ghost use Rattle.change_times.specs.Transfers.{bad_transfer, transfers_fault};
 ghost use Rattle.change_times.specs.Greatest.{greater};
 ghost use Rattle.plan_model.specs.Network.{AreLinksInto};
 ghost use Rattle.change_times.specs.Walks.{walks_of, most_to, seconds_between, link_between};
-ghost use Rattle.change_times.specs.Told.{AreTold};
-ghost use Rattle.change_times.specs.Changes.{fault_of_transfers, seconds_of, links_of, transfers_in, AreToldChanges, AreToldBySome, LinksComeFrom};
+ghost use Rattle.change_times.specs.TransfersSoFar.{AreCollected};
+ghost use Rattle.change_times.specs.Changes.{fault_of_transfers, change_seconds, links_of, transfers_in, AreCollectedChanges, AreReportedBySome, LinksComeFrom};
 
 use crate::links::{Walk, Ways, add_walk, links_of, no_walks};
 use crate::stops::FeedStops;
@@ -61,7 +61,7 @@ impl Model for Changes {
 
 /// What rows say: the change times of places, the walks from each place, and how many rows say neither.
 #[derive(Drop)]
-pub(crate) struct Told {
+pub(crate) struct TransfersSoFar {
     seconds: HashMap<u32, u32, HashKey>,
     walks: Vec<List<Walk>>,
     passed: u64,
@@ -82,12 +82,12 @@ fn note_change(seconds: &mut HashMap<u32, u32, HashKey>, transfer: Transfer) -> 
 }
 
 /// What no rows say of this number of places, which will be hashed by a key.
-fn nothing_told(alloc: Global, places: u32, key: HashKey) -> Result<Told, NoMemory>
-    ensures { IfOk result (λ told. (feed : FeedParts) → (t : Records) → length feed.stop_ids ≡ places
-        → AreTold feed t 0 told) }
+fn nothing_reported(alloc: Global, places: u32, key: HashKey) -> Result<TransfersSoFar, NoMemory>
+    ensures { IfOk result (λ reported. (feed : FeedParts) → (t : Records) → length feed.stop_ids ≡ places
+        → AreCollected feed t 0 reported) }
 {
     let walks = no_walks(alloc, places)?;
-    Ok(Told {
+    Ok(TransfersSoFar {
         seconds: HashMap::with_hasher(alloc, key),
         walks,
         passed: 0,
@@ -95,76 +95,76 @@ fn nothing_told(alloc: Global, places: u32, key: HashKey) -> Result<Told, NoMemo
 }
 
 /// Notes the transfer of a row, or that it has none.
-fn note(told: &mut Told, transfer: Option<Transfer>) -> Result<(), NoMemory>
-    requires few { told.old.passed < 2 ^ 64 - 1 }
-    requires from { IfSome transfer (λ t. t.from < length told.old.walks.items) }
-    ensures size { OnOk result (length told.new.walks.items ≡ length told.old.walks.items) }
-    ensures seconds { OnOk result ((place : ℕ) → get nat_eq told.new.seconds place
-        ≡ greater (get nat_eq told.old.seconds place) (seconds_between place place transfer)) }
-    ensures walks { OnOk result ((from to : ℕ) → most_to to (walks_of told.new.walks.items from)
-        ≡ greater (most_to to (walks_of told.old.walks.items from)) (link_between from to transfer)) }
-    ensures passed { OnOk result (told.new.passed
-        ≡ told.old.passed + (if is_none transfer then 1 else 0)) }
+fn note(reported: &mut TransfersSoFar, transfer: Option<Transfer>) -> Result<(), NoMemory>
+    requires few { reported.old.passed < 2 ^ 64 - 1 }
+    requires from { IfSome transfer (λ t. t.from < length reported.old.walks.items) }
+    ensures size { OnOk result (length reported.new.walks.items ≡ length reported.old.walks.items) }
+    ensures seconds { OnOk result ((place : ℕ) → get nat_eq reported.new.seconds place
+        ≡ greater (get nat_eq reported.old.seconds place) (seconds_between place place transfer)) }
+    ensures walks { OnOk result ((from to : ℕ) → most_to to (walks_of reported.new.walks.items from)
+        ≡ greater (most_to to (walks_of reported.old.walks.items from)) (link_between from to transfer)) }
+    ensures passed { OnOk result (reported.new.passed
+        ≡ reported.old.passed + (if is_none transfer then 1 else 0)) }
 {
     let Some(transfer) = transfer else {
-        told.passed += 1;
+        reported.passed += 1;
         return Ok(());
     };
     if transfer.from == transfer.to {
-        return note_change(&mut told.seconds, transfer);
+        return note_change(&mut reported.seconds, transfer);
     }
-    add_walk(&mut told.walks, transfer)
+    add_walk(&mut reported.walks, transfer)
 }
 
 /// What the rows say, or the first of their faults.
-fn tell(nothing: Told, feed: &FeedStops<'_>, rows: &Rows) -> Result<Told, FeedFault>
-    requires { AreTold feed.now rows.now 0 nothing }
-    ensures told { IfOk result (AreTold feed.now rows.now (row_count rows.now)) }
-    ensures tells { TellsFirst TransfersTable
+fn collect(nothing: TransfersSoFar, feed: &FeedStops<'_>, rows: &Rows) -> Result<TransfersSoFar, FeedFault>
+    requires { AreCollected feed.now rows.now 0 nothing }
+    ensures reported { IfOk result (AreCollected feed.now rows.now (row_count rows.now)) }
+    ensures reports { ReportsFirst TransfersTable
         (first_below (bad_transfer feed.now rows.now) (row_count rows.now)) result }
 {
     let columns = transfer_columns(rows);
-    let mut told = nothing;
+    let mut reported = nothing;
     for i in 0..rows.count() {
         let transfer = read_transfer(feed, rows, columns, i)?;
-        note(&mut told, transfer)?;
+        note(&mut reported, transfer)?;
     }
-    Ok(told)
+    Ok(reported)
 }
 
 /// What the rows say of a feed, whose stops are found by their ids, or the first of their faults.
-fn told_of(alloc: Global, nothing: Told, feed: &Feed, rows: &Rows) -> Result<Told, FeedFault>
-    requires { AreTold feed.now rows.now 0 nothing }
-    ensures told { IfOk result (AreTold feed.now rows.now (row_count rows.now)) }
-    ensures tells { TellsFirst TransfersTable
+fn reported_of(alloc: Global, nothing: TransfersSoFar, feed: &Feed, rows: &Rows) -> Result<TransfersSoFar, FeedFault>
+    requires { AreCollected feed.now rows.now 0 nothing }
+    ensures reported { IfOk result (AreCollected feed.now rows.now (row_count rows.now)) }
+    ensures reports { ReportsFirst TransfersTable
         (first_below (bad_transfer feed.now rows.now) (row_count rows.now)) result }
 {
     let stops = FeedStops::of(alloc, feed)?;
-    tell(nothing, &stops, rows)
+    collect(nothing, &stops, rows)
 }
 
 /// The change times and the links of the rows, or the first of their faults.
 fn read_rows(alloc: Global, feed: &Feed, rows: &Rows) -> Result<Changes, FeedFault>
-    ensures changes { IfOk result (λ c. AreToldChanges feed.now c rows.now) }
+    ensures changes { IfOk result (λ c. AreCollectedChanges feed.now c rows.now) }
     ensures links { IfOk result (λ c. LinksComeFrom (length feed.now.stop_ids) c) }
-    ensures tells { TellsFirst TransfersTable
+    ensures reports { ReportsFirst TransfersTable
         (first_below (bad_transfer feed.now rows.now) (row_count rows.now)) result }
 {
-    let nothing = nothing_told(alloc, feed.stop_count(), rows.key())?;
-    let told = told_of(alloc, nothing, feed, rows)?;
-    let links = links_of(alloc, told.walks.as_slice())?;
+    let nothing = nothing_reported(alloc, feed.stop_count(), rows.key())?;
+    let reported = reported_of(alloc, nothing, feed, rows)?;
+    let links = links_of(alloc, reported.walks.as_slice())?;
     Ok(Changes {
-        seconds: told.seconds,
+        seconds: reported.seconds,
         links,
-        passed: told.passed,
+        passed: reported.passed,
     })
 }
 
 /// The change times and the links of a table, or the first of its faults.
 fn read_transfers(alloc: Global, feed: &Feed, rows: &Rows) -> Result<Changes, FeedFault>
-    ensures changes { IfOk result (λ c. AreToldChanges feed.now c rows.now) }
+    ensures changes { IfOk result (λ c. AreCollectedChanges feed.now c rows.now) }
     ensures links { IfOk result (λ c. LinksComeFrom (length feed.now.stop_ids) c) }
-    ensures tells { TellsFirst TransfersTable (transfers_fault feed.now rows.now) result }
+    ensures reports { ReportsFirst TransfersTable (transfers_fault feed.now rows.now) result }
 {
     check_columns(
         rows,
@@ -176,7 +176,7 @@ fn read_transfers(alloc: Global, feed: &Feed, rows: &Rows) -> Result<Changes, Fe
 
 /// No change times and no links, as of a table with no rows, whatever the feed is.
 fn no_changes(alloc: Global) -> Changes
-    ensures changes { (feed : FeedParts) → AreToldChanges feed result [] }
+    ensures changes { (feed : FeedParts) → AreCollectedChanges feed result [] }
     ensures links { (places : ℕ) → LinksComeFrom places result }
 {
     Changes {
@@ -188,9 +188,9 @@ fn no_changes(alloc: Global) -> Changes
 
 /// The change times and the links of the table that is loaded, or the first of its faults.
 fn changes_of(alloc: Global, feed: &Feed, loaded: &Loaded) -> Result<Changes, FeedFault>
-    ensures changes { IfOk result (λ c. AreToldChanges feed.now c (loaded_rows loaded.now)) }
+    ensures changes { IfOk result (λ c. AreCollectedChanges feed.now c (loaded_rows loaded.now)) }
     ensures links { IfOk result (λ c. LinksComeFrom (length feed.now.stop_ids) c) }
-    ensures tells { TellsFirst TransfersTable (fault_of_transfers feed.now loaded.now) result }
+    ensures reports { ReportsFirst TransfersTable (fault_of_transfers feed.now loaded.now) result }
 {
     match loaded {
         Loaded::Found(rows) => read_transfers(alloc, feed, rows),
@@ -213,11 +213,11 @@ impl Changes {
         limits: &Limits,
     ) -> Result<Changes, FeedFault>
         ensures changes { IfSome (F.state files.old).files (λ m. IfOk result (λ c. IsOkAnd
-            (transfers_in m folder.now limits.now None feed.now) (AreToldChanges feed.now c))) }
-        ensures sound { IfOk result (AreToldBySome feed.now) }
+            (transfers_in m folder.now limits.now None feed.now) (AreCollectedChanges feed.now c))) }
+        ensures sound { IfOk result (AreReportedBySome feed.now) }
         ensures links { IfOk result (λ c. LinksComeFrom (length feed.now.stop_ids) c) }
         ensures fault { IfSome (F.state files.old).files (λ m. IfErr result (λ f. f ≢ FeedFault.NoMemory
-            → transfers_in m folder.now limits.now (unread_of f) feed.now ≡ Err f)) }
+            → transfers_in m folder.now limits.now (unread_table f) feed.now ≡ Err f)) }
         ensures own { IfErr result (IsFaultOf TransfersTable) }
         ensures causes { HasFeedCauses folder.now (F.state files.old) (F.state files.new) result }
     {
@@ -228,7 +228,7 @@ impl Changes {
     /// The seconds that a change at a place takes: the greatest `min_transfer_time` of the rows of type 2 that name no route
     /// and no trip and whose two stops have this place, 1 at least, and 120 if there is no such row.
     pub fn seconds(&self, place: PlaceId) -> u32
-        ensures value { result ≡ seconds_of self.now place.0 }
+        ensures value { result ≡ change_seconds self.now place.0 }
         ensures least { 1 ≤ result }
         ensures most { result ≤ seconds_per_day }
     {

@@ -1,6 +1,6 @@
 //! The stops of a feed, found by their ids.
 ghost use Rattle.std.specs.Prelude.{◌≡◌, ◌<◌, length, slice_index, option_map, IfOk, IfSome};
-ghost use Rattle.csv_rows.specs.Tables.{place_in};
+ghost use Rattle.csv_rows.specs.Tables.{number_in};
 
 use gtfs_tables::Feed;
 use plan_model::{NoMemory, PlaceId};
@@ -38,7 +38,7 @@ impl<'a> FeedStops<'a> {
     /// The place of the stop with this id: its parent station, or else itself.
     pub(crate) fn place_of(&self, id: &str) -> Option<PlaceId>
         ensures place { option_map (λ p. p.0) result
-            ≡ option_map (λ stop. slice_index self.now.places stop) (place_in id.now self.now.stop_ids) }
+            ≡ option_map (λ stop. slice_index self.now.places stop) (number_in id.now self.now.stop_ids) }
         ensures in_range { IfSome result (λ p. p.0 < length self.now.stop_ids) }
     {
         match self.numbers.number(id) {

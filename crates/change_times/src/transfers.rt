@@ -3,8 +3,8 @@ ghost use Rattle.std.specs.Prelude.{◌≡◌, ◌<◌, ◌≤◌, length, None,
 ghost use Rattle.std.specs.Result.{result_err};
 ghost use Rattle.plan_model.specs.Bounds.{seconds_per_day};
 ghost use Rattle.csv_rows.specs.declared.feed_tables.Table.TheVariants.{Transfers as TransfersTable};
-ghost use Rattle.csv_rows.specs.FeedTables.{unread_of, IsFaultOf};
-ghost use Rattle.csv_rows.specs.RowFaults.{TellsFirst};
+ghost use Rattle.csv_rows.specs.FeedTables.{unread_table, IsFaultOf};
+ghost use Rattle.csv_rows.specs.RowFaults.{ReportsFirst};
 ghost use Rattle.csv_rows.specs.Tables.{row_count};
 ghost use Rattle.change_times.specs.Transfers.{place_named_by, transfer_between, transfer_columns, timed_transfer_in, is_general_in, transfer_in};
 
@@ -40,14 +40,14 @@ pub(crate) fn transfer_columns(rows: &Rows) -> TransferColumns
     ensures { result ≡ transfer_columns rows.now }
 {
     TransferColumns {
-        from: rows.place_of(Column::FromStopId),
-        to: rows.place_of(Column::ToStopId),
-        kind: rows.place_of(Column::TransferType),
-        seconds: rows.place_of(Column::MinTransferTime),
-        from_route: rows.place_of(Column::FromRouteId),
-        to_route: rows.place_of(Column::ToRouteId),
-        from_trip: rows.place_of(Column::FromTripId),
-        to_trip: rows.place_of(Column::ToTripId),
+        from: rows.index_of(Column::FromStopId),
+        to: rows.index_of(Column::ToStopId),
+        kind: rows.index_of(Column::TransferType),
+        seconds: rows.index_of(Column::MinTransferTime),
+        from_route: rows.index_of(Column::FromRouteId),
+        to_route: rows.index_of(Column::ToRouteId),
+        from_trip: rows.index_of(Column::FromTripId),
+        to_trip: rows.index_of(Column::ToTripId),
     }
 }
 
@@ -61,7 +61,7 @@ fn read_place(
     ensures place { IfOk result (λ p. place_named_by feed.now line column text.now ≡ Ok p.0) }
     ensures in_range { IfOk result (λ p. p.0 < length feed.now.stop_ids) }
     ensures fault { IfErr result (λ f. place_named_by feed.now line column text.now ≡ Err f) }
-    ensures content { IfErr result (λ f. unread_of f ≡ None) }
+    ensures content { IfErr result (λ f. unread_table f ≡ None) }
     ensures own { IfErr result (IsFaultOf TransfersTable) }
 {
     let Some(id) = read_name(text) else {
@@ -99,7 +99,7 @@ fn read_timed(
     ensures from { IfOk result (λ t. IfSome t (λ transfer. transfer.from < length feed.now.stop_ids)) }
     ensures short { IfOk result (λ t. IfSome t (λ transfer. transfer.seconds ≤ seconds_per_day)) }
     ensures fault { IfErr result (λ f. timed_transfer_in feed.now rows.now columns row ≡ Err f) }
-    ensures content { IfErr result (λ f. unread_of f ≡ None) }
+    ensures content { IfErr result (λ f. unread_table f ≡ None) }
     ensures own { IfErr result (IsFaultOf TransfersTable) }
 {
     let line = rows.line(row);
@@ -136,7 +136,7 @@ pub(crate) fn read_transfer(
     ensures transfer { IfOk result (λ t. transfer_in feed.now rows.now columns row ≡ Ok t) }
     ensures from { IfOk result (λ t. IfSome t (λ transfer. transfer.from < length feed.now.stop_ids)) }
     ensures short { IfOk result (λ t. IfSome t (λ transfer. transfer.seconds ≤ seconds_per_day)) }
-    ensures tells { TellsFirst TransfersTable
+    ensures reports { ReportsFirst TransfersTable
         (result_err (transfer_in feed.now rows.now columns row)) result }
 {
     let Some(is_timed) = read_is_timed(rows.field_at(row, columns.kind)) else {

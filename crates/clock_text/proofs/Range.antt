@@ -1,4 +1,4 @@
--- Moments that a text tells are before the year 10000.
+-- Moments of a text are before the year 10000.
 use Rattle.std.proofs.Common.{◌≡◌, ℕ, ◌+◌, ◌*◌, ◌<◌, ◌≤◌, List, arith, subst, ℤ, pos, negsuc, ◌≤ℤ◌, Some, unsigned_abs}
 use Rattle.jiff_core.specs.Calendar.{days_from_civil}
 use Rattle.jiff_core.proofs.SignedLemmas.{signed_arith}

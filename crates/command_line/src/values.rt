@@ -154,7 +154,7 @@ fn delays_of(alloc: Global, text: &str) -> Result<Vec<u32>, AllocError>
     text.split(',').map(|piece| delay_in(piece)).collect(alloc)
 }
 
-/// The delays that a text tells, in seconds: none, or those that are joined by commas; none too where
+/// The delays of a text, in seconds: none, or those that are joined by commas; none too where
 /// it has not their form.
 pub fn read_late(alloc: Global, text: &str) -> Result<Vec<u32>, AllocError>
     ensures { IfOk result (λ delays. delays.items ≡ late_in text.now) }

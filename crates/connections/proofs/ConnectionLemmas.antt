@@ -38,7 +38,7 @@ pub not_before : (z : ℤ) → pos 0 ≤ℤ z → pos (unsigned_abs z) ≡ z
 not_before (pos n) h = refl
 not_before (negsuc n) h = absurd (omega (arith, ints, h))
 
--- one stands before the other, and the later one of a run departs when the earlier one has arrived
+-- one comes before the other, and the later one of a run departs when the earlier one has arrived
 abbrev pub Follows : Connection → Connection → Type 0
 Follows a b = (a.run.0 < b.run.0) ⊎ ((a.run.0 ≡ b.run.0) × (a.step < b.step) × (a.arr.0 ≤ b.dep.0))
 

@@ -118,7 +118,7 @@ module _ (f : FeedParts) (s : ServiceParts) (d : DelayLists) (w : Window) where
       sum_by-join own (λ d. day_runs f s w (day_at w d) (length f.trip_ids)) n
       ∙ ap (λ (g : ℕ → ℕ). sum_below g n) (fun_ext (λ d. by_day (day_at w d) (length f.trip_ids)))
 
-  -- the rides of all runs are as many as the sum tells
+  -- the connections of all runs are as many as the sum
   pub rides_counted : (rs : List Run) → rs ≡ window_runs f s w → length (rides_below f d w rs (length rs)) ≡ count_in f s w
   unfolding rides_below run_rides
   rides_counted rs e =

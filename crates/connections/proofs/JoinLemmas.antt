@@ -37,7 +37,7 @@ pub join-none : {A : Type 0} (f : ℕ → List A) (n : ℕ) → ((i : ℕ) → i
 join-none f zero h = join-zero f
 join-none f (suc n) h = cc (join-suc f n, join-none f n (λ i l. h i (omega arith)), h n (omega arith), append-nil (join_below f n))
 
--- nothing stands from a place on
+-- nothing is from an index on
 pub join-rest : {A : Type 0} (f : ℕ → List A) (a j : ℕ) → ((i : ℕ) → a ≤ i → f i ≡ []) → join_below f (a + j) ≡ join_below f a
 join-rest f a zero h = let e : a + zero ≡ a = omega arith in ap (join_below f) e
 join-rest f a (suc j) h =
@@ -69,7 +69,7 @@ pub All-join : {A : Type 0} (P : A → Type 0) (f : ℕ → List A) (n : ℕ) �
 All-join P f zero h = subst (All P) (sym (join-zero f)) (All-nil P)
 All-join P f (suc n) h = subst (All P) (sym (join-suc f n)) (All-append P (join_below f n) (f n) (All-join P f n (λ i l. h i (omega arith))) (h n (omega arith)))
 
--- each list has pairs of a relation, and so have any two, since what stands in a list tells its place
+-- each list has pairs of a relation, and so have any two, since what is in a list gives its place
 pub AllPairs-join : {A : Type 0} (R : A → A → Type 0) (Of : ℕ → A → Type 0) (f : ℕ → List A) (n : ℕ) → ((i : ℕ) → i < n → All (Of i) (f i))
     → ((i : ℕ) → i < n → AllPairs R (f i)) → ((i j : ℕ) (x y : A) → i < j → j < n → Of i x → Of j y → R x y) → AllPairs R (join_below f n)
 AllPairs-join R Of f zero are own across = subst (AllPairs R) (sym (join-zero f)) (AllPairs-nil R)
@@ -80,7 +80,7 @@ AllPairs-join {A} R Of f (suc n) are own across =
     (AllPairs-join R Of f n (λ i l. are i (omega arith)) (λ i l. own i (omega arith)) (λ i j x y l h. across i j x y l (omega arith))) (own n (omega arith))
     (λ i j d l h. All-get_or Before (join_below f n) i d l before (get_or (f n) j d) (All-get_or (Of n) (f n) j d h (are n (omega arith)))))
 
--- what stands in one of the lists
+-- what is in one of the lists
 pub Contains-join : {A : Type 0} (f : ℕ → List A) (n i : ℕ) (x : A) → i < n → Contains (f i) x → Contains (join_below f n) x
 Contains-join f zero i x l has = absurd (omega arith)
 Contains-join {A} f (suc n) i x l has = subst (λ (xs : List A). Contains xs x) (sym (join-suc f n)) (elim (cases_eq i n) [

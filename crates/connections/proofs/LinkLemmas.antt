@@ -10,7 +10,7 @@ use Rattle.plan_model.specs.Network.{AreLinksInto, connection, no_connection}
 use Rattle.plan_model.specs.NetworkModel.{NetworkModel}
 use Rattle.change_times.specs.Changes.{ChangeParts, links_of, LinksComeFrom}
 
--- the links of changes, one list for each of so many places, are links of a network with so many
+-- the links of changes, one list for each of this many places, are links of a network with this many
 pub links_fit : (places : ℕ) (c : ChangeParts) → ((to : ℕ) → AreLinksInto 4294967296 to (links_of c to)) → LinksComeFrom places c → (links : List (List Way))
     → links ≡ list_below (links_of c) places → (r : ℕ) → r < places → AreLinksInto places r (slice_index_or links r [])
 links_fit places c are from links e r inside =

@@ -54,7 +54,7 @@ digits_end (x ∷ xs) (y ∷ ys) us vs a b h k n m e =
 heads_differ : (xs ys : List ℕ) → 58 ∷ xs ≡ 64 ∷ ys → ⊥
 heads_differ xs ys e = let first : ℕ = 58 in let second : ℕ = 64 in let x : first ≡ second = cc in omega (arith, x)
 
--- how a run starts and what follows tell how it starts
+-- how a run starts follows from that and from what follows
 same_start : (a b : Option Repeat) → IsSmallRepeat a → IsSmallRepeat b → (us vs : List ℕ) → start_text a ++ 58 ∷ us ≡ start_text b ++ 58 ∷ vs → (a ≡ b) × (us ≡ vs)
 same_start None None h k us vs e = (refl, same_rest 58 us vs e)
 same_start None (Some r) h k us vs e = absurd (heads_differ _ _ e)

@@ -114,7 +114,7 @@ between-count p a c (suc n) inside out =
     (λ (not : p n ≡ false). let none = ap one_if not in ⊎_elim (λ (less : n < a). omega arith)
     (λ (ge : a ≤ n). ⊎_elim (λ (below : n < c). omega (arith, in' ge below)) (λ (past : c ≤ n). omega arith) (cases_lt n c)) (cases_lt n a)) (cases_Bool (p n))
 
--- and adds up to so many times as much
+-- and adds up to this many times as much
 pub between-sum : (p : ℕ → Bool) (a c x n : ℕ) → ((m : ℕ) → p m ≡ true → (a ≤ m) × (m < c)) → ((m : ℕ) → a ≤ m → m < c → p m ≡ true) → sum_below (λ m. if p m then x else 0) n ≡ (min c n - a) * x
 between-sum p a c x n inside out = sum-times p x n ∙ ap (λ k. k * x) (between-count p a c n inside out)
 
@@ -191,7 +191,7 @@ module _ (most : ℕ) (w : Window) (each : PlaceId → ℕ) where
       (origin_at rows day r.departure))
       (riding_by w rows day (repeat_at fs i)) (λ r. steps-scale rows h (origin_at rows day r.departure)))
 
-  -- where each place that a trip leaves counts for so many at most, the sum is at most so many times that of ones
+  -- where each place that a trip leaves counts for this many at most, the sum is at most this many times that of ones
   pub window-scale : (f : FeedParts) (s : ServiceParts) → ((trip k : ℕ) → trip < length f.trip_ids → each (kept_at (rows_of f trip) k).place ≤ most)
       → window_sum each f s w ≤ window_sum (λ place. 1) f s w * most
   unfolding day_sum days_sum
@@ -231,7 +231,7 @@ runs-few w v rows few (row ∷ more) are day =
     omega (arith, row_sum-leaving (λ place. 1) w rows day (repeat_at fs i), here, few)) in
     omega (arith, all)
 
--- the connections of a window are at most so many
+-- the connections of a window are at most this many
 pub window-few : (f : FeedParts) (s : ServiceParts) (w : Window) → IsWindow w → AreRepeating f → IsSmall f → length f.trip_ids ≤ 4194304 → window_sum (λ place. 1) f s w ≤ 10262335758312407040
 unfolding day_sum days_sum
 window-few f s w v repeats small few =

@@ -74,7 +74,7 @@ count_in f s w = window_sum (λ place. 1) f s w
 abbrev pub entries_in : FeedParts → ServiceParts → ChangeParts → Window → ℕ
 entries_in f s c w = window_sum (each_of c Entries) f s w
 
--- no more ways than this lead into any of so many places, or into the first one
+-- no more ways than this lead into any of this many places, or into the first one
 pub record HaveWays (c : ChangeParts) (places most : ℕ) : Type 0 where
   pub first : length (links_of c 0) + 1 ≤ most
   pub each : (place : ℕ) → place < places → length (links_of c place) + 1 ≤ most

@@ -5,7 +5,7 @@ use Rattle.csv_rows.specs.declared.limits.Limits.{Limits}
 use Rattle.connections.specs.declared.cuts.WindowFault.{WindowFault}
 use Rattle.connections.specs.declared.cuts.WindowFault.TheVariants.{TooMany, TooManyEntries}
 
--- the first fault of a window with so many connections and entries
+-- the first fault of a window with this many connections and entries
 abbrev pub window_fault : Limits → (count entries : ℕ) → Option WindowFault
 window_fault limits count entries = option_or
     (if nat_lt limits.connections count then Some (TooMany count) else None)

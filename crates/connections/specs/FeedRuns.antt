@@ -23,7 +23,7 @@ pub record IsRunOfFeed (f : FeedParts) (run : Run) : Type 0 where
   pub trip : run.trip < length f.trip_ids
   pub day : IsDay run.origin.day
 
--- no run stands twice
+-- no run is twice
 pub record AreRunsOf (f : FeedParts) (rs : List Run) : Type 0 where
   pub each : (r : ℕ) → r < length rs → IsRunOfFeed f (run_at rs r)
   pub apart : (i j : ℕ) → i < j → j < length rs → (run_at rs i).origin.day.number ≡ (run_at rs j).origin.day.number

@@ -8,6 +8,6 @@ use Rattle.connections.specs.declared.origins.Origin.{Origin}
 abbrev pub origin_of_day : ServiceDay → Origin
 origin_of_day day = record { day = day; shift = pos 0 }
 
--- so many seconds later, in seconds since 1970-01-01
+-- this many seconds later, in seconds since 1970-01-01
 abbrev pub moment_of : Origin → ℕ → ℤ
 moment_of o seconds = ((pos seconds_per_day *ℤ o.day.number) +ℤ o.shift) +ℤ pos seconds

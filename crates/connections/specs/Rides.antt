@@ -16,7 +16,7 @@ use Rattle.connections.specs.Window.{holds}
 abbrev pub departs : List StopRow → Origin → ℕ → ℤ
 departs rows o k = moment_of o (kept_at rows k).departure
 
--- no kept row is left before one that stands before it
+-- no kept row is left before one that comes before it
 abbrev pub DepartInOrder : List StopRow → Type 0
 DepartInOrder rows = (i j : ℕ) → i ≤ j → j < length rows → (kept_at rows i).departure ≤ (kept_at rows j).departure
 

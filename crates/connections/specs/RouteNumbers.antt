@@ -1,7 +1,7 @@
 -- The routes of a feed by their numbers among those that delays name.
 use Rattle.std.specs.Prelude.{◌≡◌, ℕ, List, [], length, slice_index_or, Option}
 use Rattle.csv_rows.specs.Lists.{list_below}
-use Rattle.csv_rows.specs.Tables.{place_in}
+use Rattle.csv_rows.specs.Tables.{number_in}
 use Rattle.delay_table.specs.DelayLists.{DelayLists, hour_of}
 use Rattle.delay_table.specs.Groups.{routes_of}
 use Rattle.gtfs_tables.specs.Feeds.{FeedParts}
@@ -10,7 +10,7 @@ use Rattle.connections.specs.declared.rides.HourClass.{HourClass}
 
 -- the number of a route, where the delays name it
 abbrev pub route_number : DelayLists → List ℕ → Option ℕ
-route_number d route = place_in route (routes_of d.others)
+route_number d route = number_in route (routes_of d.others)
 
 -- that of each route of a feed
 abbrev pub route_numbers : FeedParts → DelayLists → List (Option ℕ)

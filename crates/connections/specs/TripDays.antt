@@ -1,7 +1,7 @@
 -- The services of trips by their numbers.
 use Rattle.std.specs.Prelude.{ℕ, List, [], length, slice_index_or, Option}
 use Rattle.csv_rows.specs.Lists.{list_below}
-use Rattle.csv_rows.specs.Tables.{place_in}
+use Rattle.csv_rows.specs.Tables.{number_in}
 use Rattle.gtfs_tables.specs.Feeds.{FeedParts}
 use Rattle.service_days.specs.Services.{ServiceParts}
 
@@ -12,4 +12,4 @@ pub record FeedDays : Type 0 where
 
 -- the number of the service of each trip, where the calendars name it
 abbrev pub service_numbers : FeedParts → ServiceParts → List (Option ℕ)
-service_numbers f s = list_below (λ trip. place_in (slice_index_or f.services trip []) s.ids) (length f.trip_ids)
+service_numbers f s = list_below (λ trip. number_in (slice_index_or f.services trip []) s.ids) (length f.trip_ids)

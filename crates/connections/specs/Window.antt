@@ -4,7 +4,7 @@ use Rattle.plan_model.specs.Bounds.{first_start, last_start, seconds_per_day}
 use Rattle.connections.specs.declared.origins.ServiceDay.{ServiceDay}
 use Rattle.connections.specs.declared.window.Window.{Window}
 
--- from the start to so many hours later, both ends included
+-- from the start to this many hours later, both ends included
 abbrev pub window_of : ℕ → ℕ → Window
 window_of start horizon = record { start = start; end = start + 3600 * horizon }
 
@@ -19,7 +19,7 @@ day_at w d = record { number = pos (w.start / seconds_per_day + d) -ℤ pos 14 }
 abbrev pub most_hours : ℕ
 most_hours = 72
 
--- so many hours, in seconds
+-- this many hours, in seconds
 abbrev pub longest_window : ℕ
 longest_window = 259200
 

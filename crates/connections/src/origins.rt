@@ -11,7 +11,7 @@ pub(crate) struct ServiceDay {
     pub(crate) number: i32,
 }
 
-/// The moment from which the times of a run count: so many seconds after the start of a service day.
+/// The moment from which the times of a run count: this many seconds after the start of a service day.
 #[derive(Clone, Copy)]
 pub(crate) struct Origin {
     /// The service day.
@@ -28,7 +28,7 @@ impl Origin {
         Origin { day, shift: 0 }
     }
 
-    /// So many seconds later, in seconds since 1970-01-01.
+    /// This many seconds later, in seconds since 1970-01-01.
     pub(crate) fn plus(self, seconds: u32) -> i64
         ensures { result ≡ moment_of self seconds }
     {

@@ -21,7 +21,7 @@ pub(crate) struct Window {
 }
 
 impl Window {
-    /// The window of so many hours from a start on.
+    /// The window of this many hours from a start on.
     pub(crate) fn new(start: u64, horizon: u32) -> Window
         requires start { start ≤ last_start }
         requires horizon { horizon ≤ most_hours }

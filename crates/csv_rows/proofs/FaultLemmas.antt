@@ -5,10 +5,10 @@ use Rattle.std.specs.Option.{option_or}
 use Rattle.csv_rows.specs.declared.feed_tables.Table.{Table}
 use Rattle.csv_rows.specs.declared.feed_tables.FeedFault.{FeedFault}
 use Rattle.csv_rows.specs.First.{first_below}
-use Rattle.csv_rows.specs.RowFaults.{IsFirstFault, TellsFirst}
+use Rattle.csv_rows.specs.RowFaults.{IsFirstFault, ReportsFirst}
 use Rattle.csv_rows.proofs.FirstLemmas.{first-at}
 
--- what a step that failed tells of its error holds of what `?` raises again
+-- what a step that failed says of its error holds of what `?` passes on
 pub match_raised : {A E : Type 0} {e : E} (Q : Type 0) (P : E → Type 0) (r : Result A E) → IsErr r × IsErrAnd r (λ raised. raised ≡ e) → P e → MatchResult r (λ _. Q) P
 match_raised Q P (Ok value) h p = absurd h.1
 match_raised Q P (Err raised) h p = subst P (sym h.1) p
@@ -16,13 +16,13 @@ match_raised Q P (Err raised) h p = subst P (sym h.1) p
 pub if_raised : {A E : Type 0} {e : E} (P : E → Type 0) (r : Result A E) → IsErr r × IsErrAnd r (λ raised. raised ≡ e) → P e → IfErr r P
 if_raised P r h p = match_raised ⊤ P r h p
 
--- the same where something else is told
+-- the same for another statement
 pub some_raised : {F A E : Type 0} (o : Option F) (e : E) (P : F → E → Type 0) (r : Result A E) → IsErr r × IsErrAnd r (λ raised. raised ≡ e)
     → IfSome o (λ m. P m e) → IfSome o (λ m. IfErr r (P m))
 some_raised None e P r h p = tt
 some_raised (Some m) e P r h p = if_raised (P m) r h p
 
--- a fault that a step tells is told again by the steps that it is the first of
+-- the fault of a step is that of the steps of which it is the first
 module _ {table : Table} (a b : Option FeedFault) (fault : FeedFault) where
   pub fault-first : IsFirstFault table a fault → IsFirstFault table (option_or a b) fault
   fault-first h = record { why = λ free. ap (λ o. option_or o b) (h.why free); content = h.content; own = h.own }
@@ -30,10 +30,10 @@ module _ {table : Table} (a b : Option FeedFault) (fault : FeedFault) where
   pub fault-then : a ≡ None → IsFirstFault table b fault → IsFirstFault table (option_or a b) fault
   fault-then none h = record { why = λ free. ap (λ o. option_or o b) none ∙ h.why free; content = h.content; own = h.own }
 
--- a step after others that told none
-pub tells-then : {T : Type 0} (table : Table) (a b : Option FeedFault) (r : Result T FeedFault) → a ≡ None → TellsFirst table b r → TellsFirst table (option_or a b) r
-tells-then table a b (Ok value) none h = ap (λ o. option_or o b) none ∙ h
-tells-then table a b (Err fault) none h = fault-then a b fault none h
+-- a step after others that had none
+pub reports-then : {T : Type 0} (table : Table) (a b : Option FeedFault) (r : Result T FeedFault) → a ≡ None → ReportsFirst table b r → ReportsFirst table (option_or a b) r
+reports-then table a b (Ok value) none h = ap (λ o. option_or o b) none ∙ h
+reports-then table a b (Err fault) none h = fault-then a b fault none h
 
 -- the fault of a row, where those before it have none
 pub fault-at : {table : Table} (f : ℕ → Option FeedFault) (i n : ℕ) {first : Option FeedFault} {fault : FeedFault} → i < n → first_below f i ≡ None → f i ≡ first

@@ -105,20 +105,20 @@ pub first-same : {F : Type 0} (f g : ℕ → Option F) (n : ℕ) → ((k : ℕ) 
 first-same f g zero h = first-zero f ∙ sym (first-zero g)
 first-same f g (suc n) h = first-suc f n ∙ ap₂ option_or (first-same f g n (λ k l. h k (omega arith))) (h n (omega arith)) ∙ sym (first-suc g n)
 
-told-if : {F : Type 0} (fault : ℕ → F) (b : Bool) (i : ℕ) (o : Option ℕ)
+reported-if : {F : Type 0} (fault : ℕ → F) (b : Bool) (i : ℕ) (o : Option ℕ)
     → option_or (option_map fault o) (if b then Some (fault i) else None) ≡ option_map fault (option_or o (if b then Some i else None))
-told-if fault true i None = refl
-told-if fault false i None = refl
-told-if fault b i (Some k) = refl
+reported-if fault true i None = refl
+reported-if fault false i None = refl
+reported-if fault b i (Some k) = refl
 
 -- the fault of the first place at which it holds
-pub first-told : {F : Type 0} (fault : ℕ → F) (p : ℕ → Bool) (n : ℕ)
+pub first-reported : {F : Type 0} (fault : ℕ → F) (p : ℕ → Bool) (n : ℕ)
     → first_below (λ i. if p i then Some (fault i) else None) n ≡ option_map fault (first_below (λ i. if p i then Some i else None) n)
-first-told fault p zero = first-zero (λ i. if p i then Some (fault i) else None) ∙ sym (ap (option_map fault) (first-zero (λ i. if p i then Some i else None)))
-first-told fault p (suc n) =
+first-reported fault p zero = first-zero (λ i. if p i then Some (fault i) else None) ∙ sym (ap (option_map fault) (first-zero (λ i. if p i then Some i else None)))
+first-reported fault p (suc n) =
     first-suc (λ i. if p i then Some (fault i) else None) n
-    ∙ ap (λ o. option_or o (if p n then Some (fault n) else None)) (first-told fault p n)
-    ∙ told-if fault (p n) n (first_below (λ i. if p i then Some i else None) n)
+    ∙ ap (λ o. option_or o (if p n then Some (fault n) else None)) (first-reported fault p n)
+    ∙ reported-if fault (p n) n (first_below (λ i. if p i then Some i else None) n)
     ∙ sym (ap (option_map fault) (first-suc (λ i. if p i then Some i else None) n))
 
 -- the first place at which a test holds

@@ -1,4 +1,4 @@
--- What the key before a key tells of the rows before its row in its group.
+-- What the key before a key says of the rows before its row in its group.
 use Rattle.std.proofs.Common.{rules, ◌≡◌, ◌≢◌, ℕ, ◌-◌, ◌<◌, ◌≤◌, ◌==◌, nat_lt, ◌⊎◌, Bool, true, false, not, ◌&&◌, List, length, Option, Some, None, IfSome}
 use Rattle.std.proofs.Common.{if◌then◌else◌, refl, sym, ap, ◌∙◌, subst, arith, ⊎_elim, eq-or-lt_of_le, eqb-true, eq-eqb, ltb-true, lt-ltb, true≢false}
 use Rattle.std.proofs.lemmas.Grind.{common_steps}
@@ -43,7 +43,7 @@ module _ (test : ℕ → Bool) (group order : ℕ → ℕ) (n : ℕ) (keys : Lis
       → (key_at keys k).row < (key_at keys m).row
   earlier_place k m less h same same' = grind (arith, common_steps, less_places)
 
-  -- an earlier key of the group is the one before, or stands before that
+  -- an earlier key of the group is the one before, or comes before that
   earlier_key : (m k : ℕ) → m < k → k < length keys → (key_at keys m).group ≡ (key_at keys k).group
       → ((key_at keys (k - 1)).group ≡ (key_at keys k).group) × ((key_at keys m).order ≤ (key_at keys (k - 1)).order) × ((m ≡ k - 1) ⊎ (m < k - 1))
   earlier_key m k l inside same = search (rules, less_group, less_orders)
@@ -61,7 +61,7 @@ module _ (test : ℕ → Bool) (group order : ℕ → ℕ) (n : ℕ) (keys : Lis
       (λ (lower : (key_at keys k).order < (key_at keys m).order). lower)
       (eq-or-lt_of_le (less_orders (key_at keys k) (key_at keys m) (s.rising k m less h) same))
 
-  -- of one group the key with the lower order stands before
+  -- of one group the key with the lower order comes before
   lower : AreApart group order n → (m k : ℕ) → m < length keys → k < length keys → (key_at keys m).group ≡ (key_at keys k).group → (key_at keys m).order < (key_at keys k).order → m < k
   lower apart m k g h same less = search (rules, rises)
 
@@ -78,7 +78,7 @@ module _ (test : ℕ → Bool) (group order : ℕ → ℕ) (n : ℕ) (keys : Lis
   unfolding stands
   stands_to m k g h same less = grind (arith, common_steps, and_from, eq-eqb, lt-ltb)
 
-  -- the test holds of a row that stands before, and so it has a key
+  -- the test holds of a row that comes before, and so it has a key
   key_of_first : (x i : ℕ) → x < n → stands x i ≡ true → (k : ℕ) × (k < length keys) × ((key_at keys k).row ≡ x)
   unfolding stands
   key_of_first x i less b = s.all x less (and_parts (test x) (test i) (and_parts (test x && test i) ((group x == group i) && nat_lt (order x) (order i)) b).0).0
@@ -89,7 +89,7 @@ module _ (test : ℕ → Bool) (group order : ℕ → ℕ) (n : ℕ) (keys : Lis
   just : ℕ → ℕ → Bool
   just j i = stands j i && not (any_below (between j i) n)
 
-  -- the row of the key before stands just before
+  -- the row of the key before comes just before
   just_to : AreApart group order n → (k : ℕ) → 0 < k → k < length keys → (key_at keys (k - 1)).group ≡ (key_at keys k).group → just (key_at keys (k - 1)).row (key_at keys k).row ≡ true
   unfolding just between
   just_to apart k some h same =
@@ -130,7 +130,7 @@ module _ (test : ℕ → Bool) (group order : ℕ → ℕ) (n : ℕ) (keys : Lis
       any-one (λ x. just x (key_at keys k).row) q n j (s.inside (k - 1) (omega arith)) (just_to apart k b.0 h same) (λ x less t. (just_from apart k h x less t).1) ∙ ap q (sym e)
 
 module _ (group order : ℕ → ℕ) (n : ℕ) (keys : List Key) (s : AreSorted (λ i. true) group order n keys) where
-  -- a row that is repeated stands before, in the order of the keys
+  -- a row that is repeated comes before, in the order of the keys
   twin_before : (k j : ℕ) → k < length keys → j < (key_at keys k).row → twin group order (key_at keys k).row j ≡ true
       → (0 < k) × ((key_at keys (k - 1)).group ≡ (key_at keys k).group) × ((key_at keys (k - 1)).order ≡ (key_at keys k).order)
   unfolding twin
@@ -149,18 +149,18 @@ module _ (group order : ℕ → ℕ) (n : ℕ) (keys : List Key) (s : AreSorted 
       (λ (up : k < m). absurd (omega (arith, w.2, less, earlier_place (λ i. true) group order n keys s k m up w.1 (sym same) (sym same')))) (eq-or-lt_of_le ge))
       (cases_lt m k)
 
-  told : Bool → ℕ → Option ℕ
-  told b i = if b then Some i else None
+  reported : Bool → ℕ → Option ℕ
+  reported b i = if b then Some i else None
 
   pub twin_is : (k : ℕ) → k < length keys → (o : Option Key) → IsBefore keys k o → twin_at group order (key_at keys k).row ≡ repeated o (key_at keys k)
-  unfolding twin_at twin told
+  unfolding twin_at twin reported
   twin_is k h None b =
-      ap (λ t. told t (key_at keys k).row) (any-false (twin group order (key_at keys k).row) (key_at keys k).row (λ j less t. let w = twin_before k j h less t in b w.0 w.1))
+      ap (λ t. reported t (key_at keys k).row) (any-false (twin group order (key_at keys k).row) (key_at keys k).row (λ j less t. let w = twin_before k j h less t in b w.0 w.1))
   twin_is k h (Some x) b =
       let i = (key_at keys k).row in let j = (key_at keys (k - 1)).row in
       let e : x.order ≡ (key_at keys (k - 1)).order = ap (λ (y : Key). y.order) b.1 in
       let same : (key_at keys (k - 1)).group ≡ (key_at keys k).group = ap (λ (y : Key). y.group) (sym b.1) ∙ b.2 in
-      ap (λ t. told t i)
+      ap (λ t. reported t i)
       (⊎_elim (λ (t : (x.order == (key_at keys k).order) ≡ true).
       let same' : (key_at keys (k - 1)).order ≡ (key_at keys k).order = sym e ∙ eqb-true x.order (key_at keys k).order t in
       let g : k - 1 < length keys = omega arith in

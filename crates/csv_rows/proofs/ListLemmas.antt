@@ -36,11 +36,11 @@ get-list_below f (suc n) i d h =
 pub same_length : {A B : Type 0} (f : ℕ → A) (g : ℕ → B) (n : ℕ) (xs : List A) (ys : List B) → xs ≡ list_below f n → ys ≡ list_below g n → length xs ≡ length ys
 same_length f g n xs ys e h = ap length e ∙ length-list_below f n ∙ sym (ap length h ∙ length-list_below g n)
 
--- all that stands after a place
+-- all that comes after a place
 pub take-rest : {A : Type 0} (n : ℕ) (xs : List A) → take (length xs - n) (drop n xs) ≡ drop n xs
 take-rest n xs = take_all (length xs - n) (drop n xs) (omega (arith, length-drop n xs))
 
--- one more of a list, where it is what stands next
+-- one more of a list, if it comes next
 pub take-next : (xs : List ℕ) (n x : ℕ) (rest : List ℕ) → drop n xs ≡ x ∷ rest → take (n + 1) xs ≡ take n xs ++ x ∷ []
 take-next xs n x rest e =
     let inside : n < length xs = omega (arith, length-drop n xs, ap length e) in
@@ -48,7 +48,7 @@ take-next xs n x rest e =
     take_more xs n 0 inside
     ∙ ap (λ v. take n xs ++ v ∷ []) (ap (λ k. slice_index_or xs k 0) same ∙ sym (get_or-drop n xs 0 0) ∙ ap (λ l. slice_index_or l 0 0) e)
 
--- what stands next in a list, and what is left after it
+-- what comes next in a list, and what remains after it
 pub drop-next : {A : Type 0} (xs : List A) (n : ℕ) (x : A) (rest : List A) (d : A) → drop n xs ≡ x ∷ rest
     → (slice_index_or xs n d ≡ x) × (drop (n + 1) xs ≡ rest) × (length xs ≡ n + 1 + length rest)
 drop-next xs n x rest d e =

@@ -2,7 +2,7 @@
 use Rattle.std.proofs.Common.{◌≡◌, ℕ, ◌<◌, false, List, [], length, slice_index_or, Option, Some, None, IfSome, IfNone, sym, bytes_eq}
 use Rattle.std.proofs.lemmas.Slice.Eq.{bytes_eq-Decides}
 use Rattle.std.proofs.lemmas.Bool.{false_from_ne_true}
-use Rattle.csv_rows.specs.Tables.{place_in}
+use Rattle.csv_rows.specs.Tables.{number_in}
 use Rattle.csv_rows.proofs.FirstLemmas.{absent_by, found_by}
 
 pub bytes_ne : (a b : List ℕ) → (a ≡ b → ⊥) → bytes_eq a b ≡ false
@@ -13,8 +13,8 @@ pub place_is : (o : Option ℕ) (name : List ℕ) (names : List (List ℕ))
     → IfSome o (λ i. (i < length names) × (slice_index_or names i [] ≡ name))
     → IfSome o (λ i. (k : ℕ) → k < i → slice_index_or names k [] ≡ name → ⊥)
     → IfNone o ((k : ℕ) → k < length names → slice_index_or names k [] ≡ name → ⊥)
-    → o ≡ place_in name names
-unfolding place_in
+    → o ≡ number_in name names
+unfolding number_in
 place_is None name names found first none =
     sym (absent_by (λ k. bytes_eq (slice_index_or names k []) name) (length names) (λ k l. bytes_ne (slice_index_or names k []) name (none k l)))
 place_is (Some i) name names found first none =

@@ -6,7 +6,7 @@ use Rattle.std.proofs.lemmas.Option.{same_Some}
 use Rattle.std.specs.Str.{is_utf8}
 use Rattle.std.specs.Option.{option_or}
 use Rattle.csv_rows.specs.Names.{name_in}
-use Rattle.csv_rows.specs.Tables.{place_in}
+use Rattle.csv_rows.specs.Tables.{number_in}
 use Rattle.csv_rows.proofs.FirstLemmas.{place_by-some}
 
 -- the first of two faults
@@ -26,7 +26,7 @@ name_is text x h = by (length text == 0) (is_utf8 text) h
 pub name_text : (text x : List ℕ) → name_in text ≡ Some x → x ≡ text
 name_text text x h = let e : Some x ≡ Some text = sym h ∙ name_is text x h in cc
 
--- what holds of each value of a field, holds of the one that is there, where it may lack
+-- what holds of each value of a field, holds of the one that is there, where it is optional
 pub mapped-each : {A : Type 0} (P : A → Type 0) (o : Option A) → ((x : A) → o ≡ Some x → P x) → (r : Option A) → option_map Some o ≡ Some r → IfSome r P
 mapped-each P None h r e = absurd (cc)
 mapped-each P (Some x) h r e = subst (λ (y : Option _). IfSome y P) (same_Some (Some x) r e) (h x refl)
@@ -36,6 +36,6 @@ pub optional-each : {A : Type 0} (P : A → Type 0) (none : Bool) (o : Option A)
 optional-each P none o h r e = grind (arith, cases_Bool none, same_Some, mapped-each)
 
 -- the place of a name is inside
-pub place_inside : (name : List ℕ) (names : List (List ℕ)) (k : ℕ) → place_in name names ≡ Some k → k < length names
-unfolding place_in
+pub place_inside : (name : List ℕ) (names : List (List ℕ)) (k : ℕ) → number_in name names ≡ Some k → k < length names
+unfolding number_in
 place_inside name names k h = (place_by-some (λ i. bytes_eq (slice_index_or names i []) name) (length names) k h).0

@@ -38,7 +38,7 @@ module _ (test : ℕ → Bool) (group order : ℕ → ℕ) where
   unfoldable pub IsOwn : ℕ → Key → Type 0
   IsOwn m x = (x ≡ key_of x.row) × (x.row < m) × (test x.row ≡ true)
 
-  -- the keys of those of the first m rows of which the test holds, as they stand in the file
+  -- the keys of those of the first m rows of which the test holds, in the order of the file
   pub record AreKeys (m : ℕ) (xs : List Key) : Type 0 where
     pub own : All (IsOwn m) xs
     pub all : (i : ℕ) → i < m → test i ≡ true → Contains xs (key_of i)

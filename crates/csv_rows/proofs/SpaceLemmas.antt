@@ -20,7 +20,7 @@ pub drop_spaces-start : (field rest : List ℕ) → drop_spaces field ≡ 32 ∷
 drop_spaces-start [] rest h = cc
 drop_spaces-start (b ∷ bs) rest h = start_if (b == 32) b bs (drop_spaces bs) rest refl (drop_spaces-start bs rest) h
 
--- what is dropped stands before the rest
+-- what is dropped comes before the rest
 record Drops (field : List ℕ) : Type 0 where
   spaces : List ℕ
   is : field ≡ spaces ++ drop_spaces field

@@ -32,22 +32,22 @@ rank_of CalendarDates = 6
 rank_of Transfers = 7
 
 -- the table that could not be read, where the fault is of this kind
-abbrev pub unread_of : FeedFault → Option Table
-unread_of (Read table) = Some table
-unread_of (TooLong table) = None
-unread_of (MissingTable table) = None
-unread_of (MissingColumn table column) = None
-unread_of (BadField table line column) = None
-unread_of (UnknownKey table line column) = None
-unread_of (DuplicateKey table line) = None
-unread_of (BackwardTime line) = None
-unread_of (TooManyRows table count) = None
-unread_of NoMemory = None
+abbrev pub unread_table : FeedFault → Option Table
+unread_table (Read table) = Some table
+unread_table (TooLong table) = None
+unread_table (MissingTable table) = None
+unread_table (MissingColumn table column) = None
+unread_table (BadField table line column) = None
+unread_table (UnknownKey table line column) = None
+unread_table (DuplicateKey table line) = None
+unread_table (BackwardTime line) = None
+unread_table (TooManyRows table count) = None
+unread_table NoMemory = None
 
 -- whether this table is the one that could not be read
-abbrev pub is_unread : Option Table → Table → Bool
-is_unread None table = false
-is_unread (Some unread) table = rank_of unread == rank_of table
+abbrev pub is_unread_table : Option Table → Table → Bool
+is_unread_table None table = false
+is_unread_table (Some unread) table = rank_of unread == rank_of table
 
 -- the table that a fault is in; out of memory is in none
 abbrev pub table_of_fault : FeedFault → Option Table

@@ -6,9 +6,9 @@ use Rattle.csv_rows.specs.declared.columns.Column.{Column}
 use Rattle.csv_rows.specs.declared.feed_tables.Table.{Table}
 use Rattle.csv_rows.specs.declared.feed_tables.FeedFault.{FeedFault}
 use Rattle.csv_rows.specs.declared.feed_tables.FeedFault.TheVariants.{MissingColumn, DuplicateKey, NoMemory}
-use Rattle.csv_rows.specs.FeedTables.{unread_of, IsFaultOf}
+use Rattle.csv_rows.specs.FeedTables.{unread_table, IsFaultOf}
 use Rattle.csv_rows.specs.First.{any_below}
-use Rattle.csv_rows.specs.Tables.{place_of}
+use Rattle.csv_rows.specs.Tables.{index_of}
 
 -- a required column is not in the header
 abbrev pub lack : Table → Column → Option ℕ → Option FeedFault
@@ -17,7 +17,7 @@ lack table column place = if is_none place then Some (MissingColumn table column
 -- the first of these columns that is not in a table's header
 abbrev pub first_lack : Table → List (List (List ℕ)) → List Column → Option FeedFault
 first_lack table t [] = None
-first_lack table t (column ∷ columns) = option_or (lack table column (place_of column t)) (first_lack table t columns)
+first_lack table t (column ∷ columns) = option_or (lack table column (index_of column t)) (first_lack table t columns)
 
 -- an earlier row has the id of row i
 unfoldable pub repeated_id : Table → (ℕ → List ℕ) → ℕ → Option FeedFault
@@ -26,9 +26,9 @@ repeated_id table id i = if any_below (λ j. bytes_eq (id j) (id i)) i then Some
 -- a step in reading a table answers its first fault, or that there is no memory; and never that the file cannot be read
 pub record IsFirstFault (table : Table) (first : Option FeedFault) (fault : FeedFault) : Type 0 where
   pub why : fault ≢ NoMemory → first ≡ Some fault
-  pub content : unread_of fault ≡ None
+  pub content : unread_table fault ≡ None
   pub own : IsFaultOf table fault
 
 -- the step has a value where the table has none of its faults, and else such a fault
-abbrev pub TellsFirst : {T : Type 0} → Table → Option FeedFault → Result T FeedFault → Type 0
-TellsFirst table first result = MatchResult result (λ _. first ≡ None) (IsFirstFault table first)
+abbrev pub ReportsFirst : {T : Type 0} → Table → Option FeedFault → Result T FeedFault → Type 0
+ReportsFirst table first result = MatchResult result (λ _. first ≡ None) (IsFirstFault table first)

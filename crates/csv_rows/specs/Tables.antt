@@ -21,12 +21,12 @@ abbrev pub row_count : List (List (List ℕ)) → ℕ
 row_count t = length t - 1
 
 -- the place of the first of these names that is this one
-unfoldable pub place_in : List ℕ → List (List ℕ) → Option ℕ
-place_in name names = first_below (λ k. if bytes_eq (slice_index_or names k []) name then Some k else None) (length names)
+unfoldable pub number_in : List ℕ → List (List ℕ) → Option ℕ
+number_in name names = first_below (λ k. if bytes_eq (slice_index_or names k []) name then Some k else None) (length names)
 
 -- the place of a column in the header
-abbrev pub place_of : Column → List (List (List ℕ)) → Option ℕ
-place_of column t = place_in (name_of column) (header t)
+abbrev pub index_of : Column → List (List (List ℕ)) → Option ℕ
+index_of column t = number_in (name_of column) (header t)
 
 -- the field of a row at an index: empty past the row's end, and if the table does not have the column
 abbrev pub field_at : List (List (List ℕ)) → Option ℕ → ℕ → List ℕ
@@ -35,4 +35,4 @@ field_at t (Some k) i = slice_index_or (slice_index_or t (i + 1) []) k []
 
 -- the field of a row under a column
 abbrev pub field : List (List (List ℕ)) → Column → ℕ → List ℕ
-field t column i = field_at t (place_of column t) i
+field t column i = field_at t (index_of column t) i

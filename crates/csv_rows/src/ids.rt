@@ -2,10 +2,10 @@
 ghost use Rattle.std.specs.Prelude.{◌≡◌, ◌<◌, ◌-◌, ◌^◌, ◌++◌, ◌∷◌, ℕ, [], length, None, Some, IfOk, IfErr, IfSome, OnOk, OnErr, All, Contains, slice_get};
 ghost use Rattle.csv_rows.specs.First.{first_below};
 ghost use Rattle.csv_rows.specs.Names.{name_in};
-ghost use Rattle.csv_rows.specs.Tables.{row_count, place_in, field, field_at};
+ghost use Rattle.csv_rows.specs.Tables.{row_count, number_in, field, field_at};
 ghost use Rattle.plan_model.specs.NameLists.{Adds, IsTrimmed};
 ghost use Rattle.csv_rows.specs.Ids.{AreIds};
-ghost use Rattle.csv_rows.specs.RowFaults.{repeated_id, TellsFirst};
+ghost use Rattle.csv_rows.specs.RowFaults.{repeated_id, ReportsFirst};
 ghost use Rattle.csv_rows.specs.Lists.{list_below};
 
 use crate::columns::Column;
@@ -101,7 +101,7 @@ impl Ids {
 
     /// The number of an id; `None` if it is not among them. Each id is looked at in turn.
     pub fn number(&self, id: &str) -> Option<u32>
-        ensures place { result ≡ place_in id.now self.now }
+        ensures place { result ≡ number_in id.now self.now }
         ensures inside { IfSome result (λ number. number < length self.now) }
     {
         self.ids.number(id)
@@ -141,10 +141,10 @@ pub fn read_ids(alloc: Global, rows: &Rows, table: Table, column: Column) -> Res
     requires named { (i : ℕ) → i < row_count rows.now
         → name_in (field rows.now column i) ≡ Some (field rows.now column i) }
     ensures ids { IfOk result (λ ids. ids ≡ list_below (field rows.now column) (row_count rows.now)) }
-    ensures tells { TellsFirst table
+    ensures reports { ReportsFirst table
         (first_below (repeated_id table (field rows.now column)) (row_count rows.now)) result }
 {
-    let index = rows.place_of(column);
+    let index = rows.index_of(column);
     let mut seen: IndexSet<&str, HashKey> = IndexSet::with_hasher(alloc, rows.key());
     let mut ids = Ids::with_key(alloc, rows.key());
     for i in 0..rows.count() {

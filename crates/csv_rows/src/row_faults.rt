@@ -1,7 +1,7 @@
 //! The faults that tables have alike.
 ghost use Rattle.std.specs.Prelude.{◌≡◌, None, IfSome};
-ghost use Rattle.csv_rows.specs.FeedTables.{unread_of, IsFaultOf};
-ghost use Rattle.csv_rows.specs.RowFaults.{lack, first_lack, TellsFirst};
+ghost use Rattle.csv_rows.specs.FeedTables.{unread_table, IsFaultOf};
+ghost use Rattle.csv_rows.specs.RowFaults.{lack, first_lack, ReportsFirst};
 
 use crate::columns::Column;
 use crate::feed_tables::{FeedFault, Table};
@@ -10,7 +10,7 @@ use crate::rows::Rows;
 /// `MissingColumn` of a required column that has no index in the header; `None` if it has one.
 pub fn lack(table: Table, column: Column, index: Option<usize>) -> Option<FeedFault>
     ensures fault { result ≡ lack table column index }
-    ensures content { IfSome result (λ f. unread_of f ≡ None) }
+    ensures content { IfSome result (λ f. unread_table f ≡ None) }
     ensures own { IfSome result (IsFaultOf table) }
 {
     if index.is_none() {
@@ -21,10 +21,10 @@ pub fn lack(table: Table, column: Column, index: Option<usize>) -> Option<FeedFa
 
 /// That the header has all of these columns; or `MissingColumn` of the first that is absent.
 pub fn check_columns(rows: &Rows, table: Table, required: &[Column]) -> Result<(), FeedFault>
-    ensures { TellsFirst table (first_lack table rows.now required.now) result }
+    ensures { ReportsFirst table (first_lack table rows.now required.now) result }
 {
     for i in 0..required.len() {
-        if let Some(fault) = lack(table, required[i], rows.place_of(required[i])) {
+        if let Some(fault) = lack(table, required[i], rows.index_of(required[i])) {
             return Err(fault);
         }
     }

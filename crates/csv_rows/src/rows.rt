@@ -3,7 +3,7 @@ ghost use Rattle.std.specs.Prelude.{◌≡◌, ◌<◌, ◌+◌, ◌-◌, ◌^�
 ghost use Rattle.csv.specs.Records as csv;
 ghost use Rattle.csv_rows.specs.Parts.{parts_from, Fills};
 ghost use Rattle.csv_rows.specs.Spaces.{trimmed_text, AreTrimmed};
-ghost use Rattle.csv_rows.specs.Tables.{table_of, header, row_count, place_of, field_at};
+ghost use Rattle.csv_rows.specs.Tables.{table_of, header, row_count, index_of, field_at};
 
 use crate::columns::Column;
 use crate::fields::{END_OF_ENDS, Fields, start_of};
@@ -226,8 +226,8 @@ impl Rows {
     }
 
     /// The index of a column: that of the first field of the header with its name; `None` if there is none.
-    pub fn place_of(&self, column: Column) -> Option<usize>
-        ensures { result ≡ place_of column self.now }
+    pub fn index_of(&self, column: Column) -> Option<usize>
+        ensures { result ≡ index_of column self.now }
     {
         self.column(column.name())
     }

@@ -3,7 +3,7 @@ use Rattle.std.proofs.Common.{◌≡◌, ℕ, suc, ◌+◌, ◌<◌, ◌==◌, m
 use Rattle.std.proofs.lemmas.Bool.{cases_Bool, eqb-true, eqb-false}
 use Rattle.cut_file.specs.declared.rows.CutRow.{CutRow}
 use Rattle.cut_file.specs.CutKeys.{cut_row}
-use Rattle.cut_file.specs.CutNetworks.{longest, change_by, seconds_of}
+use Rattle.cut_file.specs.CutNetworks.{longest, change_by, change_seconds_of}
 
 pub longest-zero : (rows : List CutRow) (p : ℕ) → longest rows 0 p ≡ 0
 unfolding longest
@@ -17,16 +17,16 @@ max_zero : (a : ℕ) → max a 0 ≡ a
 max_zero a = omega arith
 
 pub longest_next : (rows : List CutRow) (i : ℕ) (times : List ℕ) (places m : ℕ) → length times ≡ places → ((p : ℕ) → p < places → get_or times p 0 ≡ longest rows i p)
-    → (cut_row rows i).from < places → m ≡ max (get_or times (cut_row rows i).from 0) (seconds_of (cut_row rows i).change)
+    → (cut_row rows i).from < places → m ≡ max (get_or times (cut_row rows i).from 0) (change_seconds_of (cut_row rows i).change)
     → (p : ℕ) → p < places → get_or (set times (cut_row rows i).from m) p 0 ≡ longest rows (i + 1) p
 longest_next rows i times places m size each inside e p l =
     let f = (cut_row rows i).from in
     rw add-one
     (⊎_elim (λ (t : (f == p) ≡ true).
     let same : f ≡ p = eqb-true f p t in
-    let P : ℕ → Type 0 = λ x. get_or (set times f m) x 0 ≡ max (longest rows i x) (seconds_of (cut_row rows i).change) in
-    let here : get_or (set times f m) f 0 ≡ max (longest rows i f) (seconds_of (cut_row rows i).change) =
-    get_or-set_same times f m 0 (omega arith) ∙ e ∙ ap (λ x. max x (seconds_of (cut_row rows i).change)) (each f inside) in
+    let P : ℕ → Type 0 = λ x. get_or (set times f m) x 0 ≡ max (longest rows i x) (change_seconds_of (cut_row rows i).change) in
+    let here : get_or (set times f m) f 0 ≡ max (longest rows i f) (change_seconds_of (cut_row rows i).change) =
+    get_or-set_same times f m 0 (omega arith) ∙ e ∙ ap (λ x. max x (change_seconds_of (cut_row rows i).change)) (each f inside) in
     subst P same here ∙ ap (λ b. max (longest rows i p) (change_by b (cut_row rows i))) (sym t) ∙ sym (longest-suc rows i p))
     (λ (g : (f == p) ≡ false).
     get_or-set_other times f p m 0 (λ e. eqb-false f p g (sym e)) ∙ each p l ∙ sym (max_zero (longest rows i p))

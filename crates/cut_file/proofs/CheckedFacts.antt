@@ -12,7 +12,7 @@ use Rattle.cut_file.specs.declared.faults.CutFault.TheVariants.{TooManyRows}
 use Rattle.cut_file.specs.Faults.{missing_column, too_many_rows, bad_field, repeated_step, run_fault, first_cut_fault, row}
 use Rattle.cut_file.specs.NumberedRows.{AreColumns, missing_in, lack, run_names, place_names, IsNumbered}
 use Rattle.cut_file.specs.CutKeys.{AreKeysOf, no_row}
-use Rattle.cut_file.specs.Read.{IsRead}
+use Rattle.cut_file.specs.Read.{IsCutRead}
 
 pub missing_is : (t : List (List (List ℕ))) (c : Columns) → AreColumns t c → missing_column t ≡ missing_in c
 missing_is t c h =
@@ -50,17 +50,17 @@ field_first t o f h = ap (λ a. option_or a o) h
 
 -- the faults of the runs, in rows that are read, by the slices that were lent
 pub runs_here : (t : List (List (List ℕ))) (runs places : List (List ℕ)) (rows rows' : List CutRow) (keys keys' : List Key) (o : Option CutFault) → rows' ≡ rows → keys' ≡ keys
-    → IsRead t runs places rows keys → first_below (bad_field t) (row_count t) ≡ None
-    → ((t : List (List (List ℕ))) (runs places : List (List ℕ)) → IsRead t runs places rows' keys' → runs_of t ≡ o)
+    → IsCutRead t runs places rows keys → first_below (bad_field t) (row_count t) ≡ None
+    → ((t : List (List (List ℕ))) (runs places : List (List ℕ)) → IsCutRead t runs places rows' keys' → runs_of t ≡ o)
     → option_or (first_below (bad_field t) (row_count t)) (runs_of t) ≡ o
-runs_here t runs places rows rows' keys keys' o e f h none told =
+runs_here t runs places rows rows' keys keys' o e f h none reported =
     ap (λ a. option_or a (runs_of t)) none
-    ∙ told t runs places (subst (λ (x : List CutRow). IsRead t runs places x keys') (sym e) (subst (λ (x : List Key). IsRead t runs places rows x) (sym f) h))
+    ∙ reported t runs places (subst (λ (x : List CutRow). IsCutRead t runs places x keys') (sym e) (subst (λ (x : List Key). IsCutRead t runs places rows x) (sym f) h))
 
 pub read_here : (t : List (List (List ℕ))) (runs places : List (List ℕ)) (rows rows' : List CutRow) (keys : List Key) → runs ≡ run_names t (row_count t) → places ≡ place_names t (row_count t)
     → length rows ≡ row_count t → ((k : ℕ) (d : CutRow) → k < row_count t → IsNumbered runs places (row t k) (slice_index_or rows k d)) → rows' ≡ rows
     → length keys ≡ length rows' → AreKeysOf rows' keys
-    → IsRead t runs places rows keys
+    → IsCutRead t runs places rows keys
 read_here t runs places rows rows' keys a b size each e count s =
     record {
       run_names = a;

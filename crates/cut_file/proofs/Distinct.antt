@@ -6,7 +6,7 @@ use Rattle.std.proofs.lemmas.Slice.Eq.{bytes_eq-Decides}
 use Rattle.std.proofs.lemmas.Option.{slice_get_within, get_or_from_slice_get, same_Some}
 use Rattle.plan_model.specs.NameLists.{AreDistinct}
 use Rattle.plan_model.proofs.Texts.{AreDistinct-push}
-use Rattle.csv_rows.specs.Tables.{place_in}
+use Rattle.csv_rows.specs.Tables.{number_in}
 use Rattle.delay_table.proofs.NumberedFacts.{one_index}
 use Rattle.cut_file.specs.Faults.{row}
 use Rattle.cut_file.specs.NumberedRows.{add_new, run_names, place_names}
@@ -18,7 +18,7 @@ push_if names x false absent d = AreDistinct-push names x d (absent refl)
 
 add_distinct : (names : List (List ℕ)) (x : List ℕ) → AreDistinct names → AreDistinct (add_new names x)
 unfolding add_new
-add_distinct names x d = push_if names x (is_some (place_in x names)) (λ none there. let some = there_place names x there in absurd (cc)) d
+add_distinct names x d = push_if names x (is_some (number_in x names)) (λ none there. let some = there_place names x there in absurd (cc)) d
 
 none_distinct : AreDistinct []
 none_distinct i j less inside same = absurd (omega arith)

@@ -5,7 +5,7 @@ use Rattle.plan_model.specs.NetworkModel.{NetworkModel}
 use Rattle.plan_model.specs.NameLists.{NameLists, IsTrimmed, NamesFit}
 use Rattle.plan_model.specs.Network.{count}
 use Rattle.csv_rows.specs.declared.columns.Column.TheVariants.{Run, From, To}
-use Rattle.csv_rows.specs.Tables.{row_count, field, place_of}
+use Rattle.csv_rows.specs.Tables.{row_count, field, index_of}
 use Rattle.csv_rows.proofs.FirstLemmas.{none-each}
 use Rattle.csv_rows.proofs.SpaceLemmas.{IsTrimmed-field}
 use Rattle.delay_table.specs.DelayLists.{DelayLists}
@@ -32,7 +32,7 @@ module _ (cut : Cut) (delays : DelayLists) (n : NetworkModel) (s : IsFaultless c
       let w = run_occurs t (row_count t) k (omega (arith, l, ap length s.read.run_names)) in
       let P : List (List ℕ) → Type 0 = λ xs. slice_get xs k ≡ Some (row t w.at).run in
       let name = get_or_from_slice_get cut.runs k (row t w.at).run d (subst P (sym s.read.run_names) w.is) in
-      subst IsTrimmed (sym (name ∙ (form w.at w.inside).run_name)) (IsTrimmed-field t (place_of Run t) w.at s.trimmed)
+      subst IsTrimmed (sym (name ∙ (form w.at w.inside).run_name)) (IsTrimmed-field t (index_of Run t) w.at s.trimmed)
 
   trimmed_places : All IsTrimmed cut.places
   trimmed_places k d l =
@@ -42,11 +42,11 @@ module _ (cut : Cut) (delays : DelayLists) (n : NetworkModel) (s : IsFaultless c
       ⊎_elim (λ (h : slice_get (place_names t (row_count t)) k ≡ Some (row t w.at).from).
       let P : List (List ℕ) → Type 0 = λ xs. slice_get xs k ≡ Some (row t w.at).from in
       let name = get_or_from_slice_get cut.places k (row t w.at).from d (subst P (sym s.read.place_names) h) in
-      subst IsTrimmed (sym (name ∙ g.from_name)) (IsTrimmed-field t (place_of From t) w.at s.trimmed))
+      subst IsTrimmed (sym (name ∙ g.from_name)) (IsTrimmed-field t (index_of From t) w.at s.trimmed))
       (λ (h : slice_get (place_names t (row_count t)) k ≡ Some (row t w.at).to).
       let P : List (List ℕ) → Type 0 = λ xs. slice_get xs k ≡ Some (row t w.at).to in
       let name = get_or_from_slice_get cut.places k (row t w.at).to d (subst P (sym s.read.place_names) h) in
-      subst IsTrimmed (sym (name ∙ g.to_name)) (IsTrimmed-field t (place_of To t) w.at s.trimmed))
+      subst IsTrimmed (sym (name ∙ g.to_name)) (IsTrimmed-field t (index_of To t) w.at s.trimmed))
       w.is
 
   pub names_fit : NamesFit (name_lists cut) n

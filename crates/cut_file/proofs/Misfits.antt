@@ -10,9 +10,9 @@ use Rattle.csv_rows.proofs.KeyLemmas.{before_inside, asked, asked_before}
 use Rattle.cut_file.specs.declared.rows.CutRow.{CutRow}
 use Rattle.cut_file.specs.declared.faults.CutFault.{CutFault}
 use Rattle.cut_file.specs.declared.faults.CutFault.TheVariants.{Backward, Broken}
-use Rattle.cut_file.specs.Faults.{row, precedes, just_precedes, repeated_step, run_fault}
+use Rattle.cut_file.specs.Faults.{row, cut_precedes, cut_just_precedes, repeated_step, run_fault}
 use Rattle.cut_file.specs.CutKeys.{cut_row, run_of, step_of, beside}
-use Rattle.cut_file.specs.Read.{IsRead}
+use Rattle.cut_file.specs.Read.{IsCutRead}
 use Rattle.cut_file.proofs.Distinct.{same_name}
 use Rattle.cut_file.proofs.Repeats.{one_place_name, run_is, step_is, apart}
 
@@ -26,34 +26,34 @@ alone a line = grind (arith, cases_Bool a)
 with_last : (a q r : Bool) (line : ℕ) → fault_by (a || q) (not r) line ≡ (if a then Some (Backward line) else if q then Some (Backward line) else if r then None else Some (Broken line))
 with_last a q r line = grind (arith, cases_Bool a, cases_Bool q, cases_Bool r)
 
-module _ (t : List (List (List ℕ))) (runs places : List (List ℕ)) (rows : List CutRow) (keys : List Key) (r : IsRead t runs places rows keys)
+module _ (t : List (List (List ℕ))) (runs places : List (List ℕ)) (rows : List CutRow) (keys : List Key) (r : IsCutRead t runs places rows keys)
     (none : first_below (repeated_step t) (row_count t) ≡ None) where
   stands : ℕ → ℕ → Bool
   stands j i = (run_of rows j == run_of rows i) && nat_lt (step_of rows j) (step_of rows i)
 
-  stands_is : (j i : ℕ) → j < row_count t → i < row_count t → precedes t j i ≡ stands j i
+  stands_is : (j i : ℕ) → j < row_count t → i < row_count t → cut_precedes t j i ≡ stands j i
   unfolding stands
   stands_is j i l h = ap₂ (λ x y. x && y) (run_is t runs places rows keys r j i l h) (ap₂ nat_lt (step_is t runs places rows keys r j l) (step_is t runs places rows keys r i h))
 
   just : ℕ → ℕ → ℕ → Bool
   just m j i = stands j i && not (any_below (λ k. stands j k && stands k i) m)
 
-  just_is : (j i : ℕ) → j < row_count t → i < row_count t → just_precedes t j i ≡ just (row_count t) j i
+  just_is : (j i : ℕ) → j < row_count t → i < row_count t → cut_just_precedes t j i ≡ just (row_count t) j i
   unfolding just
   just_is j i l h =
       ap₂ (λ x y. x && not y) (stands_is j i l h)
-      (any-same (λ k. precedes t j k && precedes t k i) (λ k. stands j k && stands k i) (row_count t) (λ k m. ap₂ (λ x y. x && y) (stands_is j k l m) (stands_is k i m h)))
+      (any-same (λ k. cut_precedes t j k && cut_precedes t k i) (λ k. stands j k && stands k i) (row_count t) (λ k m. ap₂ (λ x y. x && y) (stands_is j k l m) (stands_is k i m h)))
 
   inside : (k : ℕ) → k < length keys → (key_at keys k).row < row_count t
   inside k h = omega (arith, r.sorted.inside k h, r.size)
 
   -- what is asked of the rows just before a row is asked of the row of the key before
-  asked_is : (k : ℕ) → k < length keys → (o : Option Key) → IsBefore keys k o → (q : ℕ → Bool) → any_below (λ j. just_precedes t j (key_at keys k).row && q j) (row_count t) ≡ asked q o
+  asked_is : (k : ℕ) → k < length keys → (o : Option Key) → IsBefore keys k o → (q : ℕ → Bool) → any_below (λ j. cut_just_precedes t j (key_at keys k).row && q j) (row_count t) ≡ asked q o
   unfolding just stands
   asked_is k h o b q =
       let i = (key_at keys k).row in
       let P : ℕ → Type 0 = λ m. any_below (λ j. just m j i && q j) m ≡ asked q o in
-      any-same (λ j. just_precedes t j i && q j) (λ j. just (row_count t) j i && q j) (row_count t) (λ j l. ap (λ x. x && q j) (just_is j i l (inside k h)))
+      any-same (λ j. cut_just_precedes t j i && q j) (λ j. just (row_count t) j i && q j) (row_count t) (λ j l. ap (λ x. x && q j) (just_is j i l (inside k h)))
       ∙ subst P r.size (asked_before (λ i. true) (run_of rows) (step_of rows) (length rows) keys r.sorted (apart t runs places rows keys r none) k h o b q)
 
   pub misfit_is : (k : ℕ) → k < length keys → (o : Option Key) → IsBefore keys k o → run_fault t (key_at keys k).row ≡ beside rows o (key_at keys k).row

@@ -8,15 +8,15 @@ use Rattle.delay_table.specs.DelayLists.{DelayLists, class_for}
 use Rattle.cut_file.specs.Faults.{row}
 use Rattle.csv_rows.specs.Keys.{key_at}
 use Rattle.cut_file.specs.CutKeys.{cut_row}
-use Rattle.cut_file.specs.Read.{Cut, IsRead}
-use Rattle.cut_file.specs.CutNetworks.{IsNetwork, longest, seconds_of, change_from}
+use Rattle.cut_file.specs.Read.{Cut, IsCutRead}
+use Rattle.cut_file.specs.CutNetworks.{IsNetwork, longest, change_seconds_of, change_from}
 use Rattle.cut_file.specs.CutNetwork.{IsRide, largest, IsCutNetwork}
 use Rattle.cut_file.proofs.ChangeFacts.{longest-zero, longest-suc}
 use Rattle.cut_file.proofs.Repeats.{one_place_name}
 use Rattle.cut_file.proofs.Distinct.{same_name}
 use Rattle.cut_file.proofs.Fit.{name_lists}
 
-module _ (t : List (List (List ℕ))) (cut : Cut) (delays : DelayLists) (n : NetworkModel) (read : IsRead t cut.runs cut.places cut.rows cut.keys) (net : IsNetwork cut delays n) where
+module _ (t : List (List (List ℕ))) (cut : Cut) (delays : DelayLists) (n : NetworkModel) (read : IsCutRead t cut.runs cut.places cut.rows cut.keys) (net : IsNetwork cut delays n) where
   ride : (i : ℕ) → i < count n → IsRide (name_lists cut) delays (row t (key_at cut.keys i).row) (connection n i)
   unfolding connection
   ride i l =
@@ -44,7 +44,7 @@ module _ (t : List (List (List ℕ))) (cut : Cut) (delays : DelayLists) (n : Net
       let here = same_name cut.places (one_place_name t cut.runs cut.places cut.rows cut.keys read) (cut_row cut.rows m).from p (row t m).from place a.from h in
       longest-suc cut.rows m p
       ∙ ap₂ max (largest_is p place h m (omega arith))
-      (ap (λ b. if b then seconds_of (cut_row cut.rows m).change else 0) (sym here) ∙ ap (λ x. if bytes_eq (row t m).from place then seconds_of x else 0) a.change)
+      (ap (λ b. if b then change_seconds_of (cut_row cut.rows m).change else 0) (sym here) ∙ ap (λ x. if bytes_eq (row t m).from place then change_seconds_of x else 0) a.change)
 
   pub cut_network : IsCutNetwork t delays n (name_lists cut)
   cut_network =

@@ -6,7 +6,7 @@ use Rattle.std.proofs.lemmas.List.{get_or_default, take_more}
 use Rattle.std.proofs.lemmas.Option.{none-some, slice_get_within, get_or_from_slice_get}
 use Rattle.plan_model.specs.NameLists.{Adds, AreDistinct}
 use Rattle.text_index.proofs.KeyLemmas.{new_after_those_before}
-use Rattle.csv_rows.specs.Tables.{place_in}
+use Rattle.csv_rows.specs.Tables.{number_in}
 use Rattle.csv_rows.proofs.FirstLemmas.{absent_by}
 use Rattle.csv_rows.proofs.IdLemmas.{got, place-contained}
 use Rattle.csv_rows.proofs.PlaceLemmas.{bytes_ne}
@@ -29,8 +29,8 @@ next_taken names taken more k name e h f =
 abbrev add_if : Bool → List (List ℕ) → List ℕ → List (List ℕ)
 add_if b names name = if b then names else names ++ name ∷ []
 
-absent_place : (names : List (List ℕ)) (name : List ℕ) → (Contains names name → ⊥) → place_in name names ≡ None
-unfolding place_in
+absent_place : (names : List (List ℕ)) (name : List ℕ) → (Contains names name → ⊥) → number_in name names ≡ None
+unfolding number_in
 absent_place names name h =
     absent_by (λ k. bytes_eq (get_or names k []) name) (length names)
     (λ k l. bytes_ne (get_or names k []) name (λ e. h (k, l, get_or_default names k name [] l ∙ e)))
@@ -39,8 +39,8 @@ some_from : (o : Option ℕ) → (o ≡ None → ⊥) → is_some o ≡ true
 some_from None h = absurd (h refl)
 some_from (Some k) h = refl
 
-pub there_place : (names : List (List ℕ)) (name : List ℕ) → Contains names name → is_some (place_in name names) ≡ true
-there_place names name c = some_from (place_in name names) (place-contained name names c)
+pub there_place : (names : List (List ℕ)) (name : List ℕ) → Contains names name → is_some (number_in name names) ≡ true
+there_place names name c = some_from (number_in name names) (place-contained name names c)
 
 -- what adding a name does
 pub add_new-from_adds : (old new : List (List ℕ)) (name : List ℕ) (added : Bool) → Adds old new name added → new ≡ add_new old name
@@ -57,7 +57,7 @@ length_if b names name = grind (arith, cases_Bool b, length-append)
 
 pub length_add : (names : List (List ℕ)) (name : List ℕ) → length (add_new names name) ≤ length names + 1
 unfolding add_new
-length_add names name = length_if (is_some (place_in name names)) names name
+length_add names name = length_if (is_some (number_in name names)) names name
 
 pub get_before : (xs ys : List (List ℕ)) (k : ℕ) (y : List ℕ) → slice_get xs k ≡ Some y → slice_get (xs ++ ys) k ≡ Some y
 get_before [] ys k y h = let w : ⊥ = none-some y h in absurd w
@@ -70,7 +70,7 @@ get_if b names name k y h = grind (arith, cases_Bool b, get_before)
 -- a name keeps its number
 pub get_add : (names : List (List ℕ)) (name : List ℕ) (k : ℕ) (y : List ℕ) → slice_get names k ≡ Some y → slice_get (add_new names name) k ≡ Some y
 unfolding add_new
-get_add names name k y h = get_if (is_some (place_in name names)) names name k y h
+get_add names name k y h = get_if (is_some (number_in name names)) names name k y h
 
 pub numbered_grows : (runs places : List (List ℕ)) (x y z : List ℕ) (r : Row) (c : CutRow) → IsNumbered runs places r c → IsNumbered (add_new runs x) (add_new (add_new places y) z) r c
 numbered_grows runs places x y z r c h = record {

@@ -1,7 +1,7 @@
 -- Each number is that of some row.
 use Rattle.std.proofs.Common.{◌≡◌, ℕ, zero, suc, ◌*◌, ◌<◌, ◌≤◌, ◌⊎◌, inl, inr, Bool, true, false, List, [], ◌∷◌, ◌++◌, length, slice_get, Some, is_some}
 use Rattle.std.proofs.Common.{if◌then◌else◌, refl, sym, subst, arith, ⊎_elim, length-append, eq-or-lt_of_le}
-use Rattle.csv_rows.specs.Tables.{place_in}
+use Rattle.csv_rows.specs.Tables.{number_in}
 use Rattle.cut_file.specs.Faults.{row}
 use Rattle.cut_file.specs.NumberedRows.{add_new, run_names, place_names}
 use Rattle.cut_file.proofs.NumberFacts.{get_add, length_add}
@@ -21,7 +21,7 @@ new_if false names x r l =
 -- a number is an old one, or that of the new name
 new_or_old : (names : List (List ℕ)) (x : List ℕ) (r : ℕ) → r < length (add_new names x) → (r < length names) ⊎ (slice_get (add_new names x) r ≡ Some x)
 unfolding add_new
-new_or_old names x r l = new_if (is_some (place_in x names)) names x r l
+new_or_old names x r l = new_if (is_some (number_in x names)) names x r l
 
 pub record OfRun (t : List (List (List ℕ))) (n r : ℕ) : Type 0 where
   pub at : ℕ

@@ -5,17 +5,17 @@ use Rattle.csv_rows.specs.First.{first_below}
 use Rattle.csv_rows.specs.Tables.{row_count}
 use Rattle.csv_rows.specs.declared.keys.Key.{Key}
 use Rattle.csv_rows.specs.Keys.{key_at, AreSorted, has_twin, twin_at}
-use Rattle.csv_rows.proofs.FirstLemmas.{any-same, first-same, first-told}
+use Rattle.csv_rows.proofs.FirstLemmas.{any-same, first-same, first-reported}
 use Rattle.csv_rows.proofs.KeyLemmas.{AreApart, no_twins, rises}
 use Rattle.cut_file.specs.declared.rows.CutRow.{CutRow}
 use Rattle.cut_file.specs.declared.faults.CutFault.{CutFault}
 use Rattle.cut_file.specs.declared.faults.CutFault.TheVariants.{DuplicateStep}
 use Rattle.cut_file.specs.Faults.{row, same_run, repeated_step}
 use Rattle.cut_file.specs.CutKeys.{run_of, step_of}
-use Rattle.cut_file.specs.Read.{IsRead}
+use Rattle.cut_file.specs.Read.{IsCutRead}
 use Rattle.cut_file.proofs.Distinct.{runs_distinct, places_distinct, same_name}
 
-module _ (t : List (List (List ℕ))) (runs places : List (List ℕ)) (rows : List CutRow) (keys : List Key) (r : IsRead t runs places rows keys) where
+module _ (t : List (List (List ℕ))) (runs places : List (List ℕ)) (rows : List CutRow) (keys : List Key) (r : IsCutRead t runs places rows keys) where
   pub one_run : AreDistinct runs
   one_run = subst AreDistinct (sym r.run_names) (runs_distinct t (row_count t))
 
@@ -29,17 +29,17 @@ module _ (t : List (List (List ℕ))) (runs places : List (List ℕ)) (rows : Li
   pub step_is : (i : ℕ) → i < row_count t → (row t i).step ≡ step_of rows i
   step_is i h = sym (r.each i h).step
 
-  told : Bool → ℕ → Option CutFault
-  told b i = if b then Some (DuplicateStep (i + 2)) else None
+  reported : Bool → ℕ → Option CutFault
+  reported b i = if b then Some (DuplicateStep (i + 2)) else None
 
   twins : ℕ → Option CutFault
   twins i = if has_twin (run_of rows) (step_of rows) i then Some (DuplicateStep (i + 2)) else None
 
   repeat_is : first_below (repeated_step t) (row_count t) ≡ first_below twins (row_count t)
-  unfolding repeated_step told twins
+  unfolding repeated_step reported twins
   repeat_is =
       first-same (repeated_step t) twins (row_count t) (λ i h.
-      ap (λ b. told b i)
+      ap (λ b. reported b i)
       (any-same (λ j. same_run t j i && ((row t j).step == (row t i).step)) (λ j. (run_of rows j == run_of rows i) && (step_of rows j == step_of rows i)) i
       (λ j l. ap₂ (λ x y. x && y) (run_is j i (omega arith) h) (ap₂ (λ (x y : ℕ). x == y) (step_is j (omega arith)) (step_is i h)))))
 
@@ -55,7 +55,7 @@ module _ (t : List (List (List ℕ))) (runs places : List (List ℕ)) (rows : Li
   unfolding twins twin_at
   repeats_first found h =
       repeat_is
-      ∙ first-told (λ i. DuplicateStep (i + 2)) (has_twin (run_of rows) (step_of rows)) (row_count t)
+      ∙ first-reported (λ i. DuplicateStep (i + 2)) (has_twin (run_of rows) (step_of rows)) (row_count t)
       ∙ ap (λ n. option_map (λ i. DuplicateStep (i + 2)) (first_below (twin_at (run_of rows) (step_of rows)) n)) (sym r.size)
       ∙ ap (option_map (λ i. DuplicateStep (i + 2))) (h (run_of rows) (step_of rows) (length rows) r.sorted)
 

@@ -22,11 +22,11 @@ use Rattle.csv_rows.specs.Keys.{key_at, IsBefore}
 use Rattle.csv_rows.proofs.KeyLemmas.{less_group}
 use Rattle.cut_file.specs.declared.faults.CutFault.{CutFault}
 use Rattle.cut_file.specs.declared.faults.CutFault.TheVariants.{TooManyRows, Backward, Broken}
-use Rattle.cut_file.specs.Faults.{row, just_precedes, goes_back, is_broken, missing_column, too_many_rows, bad_field, repeated_step, run_fault, first_cut_fault}
+use Rattle.cut_file.specs.Faults.{row, cut_just_precedes, goes_back, is_broken, missing_column, too_many_rows, bad_field, repeated_step, run_fault, first_cut_fault}
 use Rattle.cut_file.specs.CutKeys.{cut_row, misfit, beside}
 use Rattle.cut_file.specs.Read.{Cut}
 use Rattle.cut_file.specs.Sound.{IsFaultless}
-use Rattle.cut_file.specs.CutNetworks.{IsConnection, IsNetwork, longest, change_by, change_from, seconds_of}
+use Rattle.cut_file.specs.CutNetworks.{IsConnection, IsNetwork, longest, change_by, change_from, change_seconds_of}
 use Rattle.cut_file.proofs.Repeats.{one_run, steps_rise}
 use Rattle.cut_file.proofs.Misfits.{misfit_is}
 use Rattle.cut_file.proofs.Distinct.{one_number}
@@ -52,11 +52,11 @@ has_none t limit h =
     let d = none-both (first_below (repeated_step t) (row_count t)) _ c.1 in
     record { few = ltb-false limit (row_count t) (if_none (nat_lt limit (row_count t)) (TooManyRows (row_count t)) None b.0).0; fields = c.0; steps = d.0; runs = d.1 }
 
--- what a row without a fault beside the row before it tells
+-- what a row without a fault beside the row before it gives
 forward_own : (t : List (List (List ℕ))) (i : ℕ) → run_fault t i ≡ None → (row t i).dep ≤ (row t i).arr
 unfolding run_fault
 forward_own t i h =
-    ltb-false (row t i).arr (row t i).dep (or_parts (nat_lt (row t i).arr (row t i).dep) (any_below (λ j. just_precedes t j i && nat_lt (row t i).dep (row t j).arr) (row_count t))
+    ltb-false (row t i).arr (row t i).dep (or_parts (nat_lt (row t i).arr (row t i).dep) (any_below (λ j. cut_just_precedes t j i && nat_lt (row t i).dep (row t j).arr) (row_count t))
     (if_none (goes_back t i) (Backward (i + 2)) (if is_broken t i then Some (Broken (i + 2)) else None) h).0).0
 
 after_last : (rows : List CutRow) (b : Key) (i : ℕ) → beside rows (Some b) i ≡ None → (cut_row rows b.row).arr ≤ (cut_row rows i).dep
@@ -65,7 +65,7 @@ after_last rows b i h =
     let c = if_none (nat_lt (cut_row rows i).dep (cut_row rows b.row).arr) (Backward (i + 2)) (if (cut_row rows i).from == (cut_row rows b.row).to then None else Some (Broken (i + 2))) a.1 in
     ltb-false (cut_row rows i).dep (cut_row rows b.row).arr c.0
 
-seconds_few : (o : Option ℕ) → IfSome o (λ s. s ≤ 86400) → seconds_of o ≤ 86400
+seconds_few : (o : Option ℕ) → IfSome o (λ s. s ≤ 86400) → change_seconds_of o ≤ 86400
 seconds_few None h = omega arith
 seconds_few (Some s) h = omega (arith, h)
 

@@ -13,7 +13,7 @@ before_end (Some m) = if nat_lt m end_of_arrivals then Some m else None
 abbrev pub moment_before_end : List ℕ → Option ℕ
 moment_before_end text = before_end (moment_at text)
 
--- a route type, and none for `*`, which an empty field stands for
+-- a route type, and none for `*`, also for an empty field
 abbrev pub class_in : List ℕ → Option (Option ℕ)
 class_in text = if length text == 0 || bytes_eq text (codes "*") then Some None else option_map Some (whole_of 65534 text)
 

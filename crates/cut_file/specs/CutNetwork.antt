@@ -10,9 +10,9 @@ use Rattle.delay_table.specs.DelayLists.{DelayLists, class_for}
 use Rattle.cut_file.specs.CutRows.{Row}
 use Rattle.cut_file.specs.Faults.{row}
 use Rattle.cut_file.specs.NumberedRows.{run_names, place_names}
-use Rattle.cut_file.specs.CutNetworks.{seconds_of, change_from}
+use Rattle.cut_file.specs.CutNetworks.{change_seconds_of, change_from}
 
--- a row as a connection whose numbers are those of its names; its class is told by its class column and its arrival, since a
+-- a row as a connection whose numbers are those of its names; its class is given by its class column and its arrival, since a
 -- cut file has no routes
 pub record IsRide (names : NameLists) (delays : DelayLists) (r : Row) (c : Connection) : Type 0 where
   pub run : slice_get names.runs c.run.0 ≡ Some r.run
@@ -25,13 +25,13 @@ pub record IsRide (names : NameLists) (delays : DelayLists) (r : Row) (c : Conne
   pub board : c.can_board ≡ r.board
   pub exit : c.can_exit ≡ r.exit
 
--- the largest change of the first n rows that leave a place, at least 1 where one tells it, and 0 where none does
+-- the largest change of the first n rows that leave a place, at least 1 where one gives it, and 0 where none does
 unfoldable pub largest : List (List (List ℕ)) → List ℕ → ℕ → ℕ
 largest t place zero = 0
-largest t place (suc n) = max (largest t place n) (if bytes_eq (row t n).from place then seconds_of (row t n).change else 0)
+largest t place (suc n) = max (largest t place n) (if bytes_eq (row t n).from place then change_seconds_of (row t n).change else 0)
 
--- the connections are the rows, runs and places are numbered as they first stand, and the classes are those of the delays;
--- a cut file tells no links
+-- the connections are the rows, runs and places are numbered as they first occur, and the classes are those of the delays;
+-- a cut file has no links
 pub record IsCutNetwork (t : List (List (List ℕ))) (delays : DelayLists) (network : NetworkModel) (names : NameLists) : Type 0 where
   pub runs : names.runs ≡ run_names t (row_count t)
   pub places : names.places ≡ place_names t (row_count t)

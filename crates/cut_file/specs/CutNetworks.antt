@@ -28,14 +28,14 @@ pub record AreConnections (delays : DelayLists) (rows : List CutRow) (keys : Lis
   pub each : (k : ℕ) (d : Connection) → k < n → IsConnection delays (cut_row rows (key_at keys k).row) (slice_index_or connections k d)
 
 -- a change takes a second at least
-abbrev pub seconds_of : Option ℕ → ℕ
-seconds_of None = 0
-seconds_of (Some seconds) = max 1 seconds
+abbrev pub change_seconds_of : Option ℕ → ℕ
+change_seconds_of None = 0
+change_seconds_of (Some seconds) = max 1 seconds
 
 abbrev pub change_by : Bool → CutRow → ℕ
-change_by leaves r = if leaves then seconds_of r.change else 0
+change_by leaves r = if leaves then change_seconds_of r.change else 0
 
--- the longest change of the first n rows that leave a place, and 0 where none tells it
+-- the longest change of the first n rows that leave a place, and 0 where none gives it
 unfoldable pub longest : List CutRow → ℕ → ℕ → ℕ
 longest rows zero p = 0
 longest rows (suc n) p = max (longest rows n p) (change_by ((cut_row rows n).from == p) (cut_row rows n))
@@ -44,7 +44,7 @@ longest rows (suc n) p = max (longest rows n p) (change_by ((cut_row rows n).fro
 abbrev pub change_from : ℕ → ℕ
 change_from seconds = if seconds == 0 then 120 else seconds
 
--- the network of a cut file and delays, which tells no links
+-- the network of a cut file and delays, which has no links
 pub record IsNetwork (cut : Cut) (delays : DelayLists) (network : NetworkModel) : Type 0 where
   pub connections : AreConnections delays cut.rows cut.keys (length cut.keys) network.connections
   pub places : length network.change ≡ length cut.places

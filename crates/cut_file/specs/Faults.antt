@@ -5,13 +5,13 @@ use Rattle.std.specs.Option.{option_or}
 use Rattle.csv_rows.specs.declared.columns.Column.{Column}
 use Rattle.csv_rows.specs.declared.columns.Column.TheVariants.{Run, Step, From, To, Dep, Arr}
 use Rattle.csv_rows.specs.First.{first_below, any_below}
-use Rattle.csv_rows.specs.Tables.{place_of, row_count}
+use Rattle.csv_rows.specs.Tables.{index_of, row_count}
 use Rattle.cut_file.specs.declared.faults.CutFault.{CutFault}
 use Rattle.cut_file.specs.declared.faults.CutFault.TheVariants.{MissingColumn, TooManyRows, BadField, DuplicateStep, Backward, Broken}
 use Rattle.cut_file.specs.CutRows.{Row, row_at}
 
 abbrev pub lacks : List (List (List ℕ)) → Column → Option CutFault
-lacks t column = if is_none (place_of column t) then Some (MissingColumn column) else None
+lacks t column = if is_none (index_of column t) then Some (MissingColumn column) else None
 
 -- the first required column that is not there
 abbrev pub missing_column : List (List (List ℕ)) → Option CutFault
@@ -43,21 +43,21 @@ same_run t j i = bytes_eq (row t j).run (row t i).run
 unfoldable pub repeated_step : List (List (List ℕ)) → ℕ → Option CutFault
 repeated_step t i = if any_below (λ j. same_run t j i && ((row t j).step == (row t i).step)) i then Some (DuplicateStep (i + 2)) else None
 
--- row j stands before row i in its run
-abbrev pub precedes : List (List (List ℕ)) → ℕ → ℕ → Bool
-precedes t j i = same_run t j i && nat_lt (row t j).step (row t i).step
+-- row j comes before row i in its run
+abbrev pub cut_precedes : List (List (List ℕ)) → ℕ → ℕ → Bool
+cut_precedes t j i = same_run t j i && nat_lt (row t j).step (row t i).step
 
--- and no row of the run stands between
-abbrev pub just_precedes : List (List (List ℕ)) → ℕ → ℕ → Bool
-just_precedes t j i = precedes t j i && not (any_below (λ k. precedes t j k && precedes t k i) (row_count t))
+-- and no row of the run is between
+abbrev pub cut_just_precedes : List (List (List ℕ)) → ℕ → ℕ → Bool
+cut_just_precedes t j i = cut_precedes t j i && not (any_below (λ k. cut_precedes t j k && cut_precedes t k i) (row_count t))
 
 -- it arrives before it departs, or departs before the row before it arrives
 abbrev pub goes_back : List (List (List ℕ)) → ℕ → Bool
-goes_back t i = nat_lt (row t i).arr (row t i).dep || any_below (λ j. just_precedes t j i && nat_lt (row t i).dep (row t j).arr) (row_count t)
+goes_back t i = nat_lt (row t i).arr (row t i).dep || any_below (λ j. cut_just_precedes t j i && nat_lt (row t i).dep (row t j).arr) (row_count t)
 
 -- it does not begin where the row before it ends
 abbrev pub is_broken : List (List (List ℕ)) → ℕ → Bool
-is_broken t i = any_below (λ j. just_precedes t j i && not (bytes_eq (row t i).from (row t j).to)) (row_count t)
+is_broken t i = any_below (λ j. cut_just_precedes t j i && not (bytes_eq (row t i).from (row t j).to)) (row_count t)
 
 -- the fault of row i beside the row before it in its run
 unfoldable pub run_fault : List (List (List ℕ)) → ℕ → Option CutFault

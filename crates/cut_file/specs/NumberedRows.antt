@@ -5,7 +5,7 @@ use Rattle.csv_rows.specs.declared.columns.Column.{Column}
 use Rattle.cut_file.specs.declared.faults.CutFault.{CutFault}
 use Rattle.cut_file.specs.declared.faults.CutFault.TheVariants.{MissingColumn}
 use Rattle.csv_rows.specs.declared.columns.Column.TheVariants.{Class, Run, Step, From, To, Dep, Arr, Board, Exit, Change}
-use Rattle.csv_rows.specs.Tables.{place_in, place_of}
+use Rattle.csv_rows.specs.Tables.{number_in, index_of}
 use Rattle.cut_file.specs.declared.rows.CutRow.{CutRow}
 use Rattle.cut_file.specs.declared.rows.Columns.{Columns}
 use Rattle.cut_file.specs.CutRows.{Row}
@@ -13,9 +13,9 @@ use Rattle.cut_file.specs.Faults.{row}
 
 -- a name goes last, unless it is there
 unfoldable pub add_new : List (List ℕ) → List ℕ → List (List ℕ)
-add_new names name = if is_some (place_in name names) then names else names ++ name ∷ []
+add_new names name = if is_some (number_in name names) then names else names ++ name ∷ []
 
--- the runs of the first n rows, in the order in which they first stand there
+-- the runs of the first n rows, in the order in which they first occur there
 unfoldable pub run_names : List (List (List ℕ)) → ℕ → List (List ℕ)
 run_names t zero = []
 run_names t (suc n) = add_new (run_names t n) (row t n).run
@@ -40,16 +40,16 @@ pub record IsNumbered (runs places : List (List ℕ)) (r : Row) (c : CutRow) : T
 
 -- the places of the columns
 pub record AreColumns (t : List (List (List ℕ))) (c : Columns) : Type 0 where
-  pub run : c.run ≡ place_of Run t
-  pub step : c.step ≡ place_of Step t
-  pub from : c.from ≡ place_of From t
-  pub to : c.to ≡ place_of To t
-  pub dep : c.dep ≡ place_of Dep t
-  pub arr : c.arr ≡ place_of Arr t
-  pub class : c.class ≡ place_of Class t
-  pub board : c.board ≡ place_of Board t
-  pub exit : c.exit ≡ place_of Exit t
-  pub change : c.change ≡ place_of Change t
+  pub run : c.run ≡ index_of Run t
+  pub step : c.step ≡ index_of Step t
+  pub from : c.from ≡ index_of From t
+  pub to : c.to ≡ index_of To t
+  pub dep : c.dep ≡ index_of Dep t
+  pub arr : c.arr ≡ index_of Arr t
+  pub class : c.class ≡ index_of Class t
+  pub board : c.board ≡ index_of Board t
+  pub exit : c.exit ≡ index_of Exit t
+  pub change : c.change ≡ index_of Change t
 
 abbrev pub lack : Option ℕ → Column → Option CutFault
 lack place column = if is_none place then Some (MissingColumn column) else None

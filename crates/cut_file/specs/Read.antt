@@ -7,8 +7,8 @@ use Rattle.cut_file.specs.Faults.{row}
 use Rattle.cut_file.specs.NumberedRows.{run_names, place_names, IsNumbered}
 use Rattle.cut_file.specs.CutKeys.{cut_row, AreKeysOf}
 
--- its names in the order in which they first stand, its rows with their numbers, and the order of the rows by run and step
-pub record IsRead (t : List (List (List ℕ))) (runs places : List (List ℕ)) (rows : List CutRow) (keys : List Key) : Type 0 where
+-- its names in the order in which they first occur, its rows with their numbers, and the order of the rows by run and step
+pub record IsCutRead (t : List (List (List ℕ))) (runs places : List (List ℕ)) (rows : List CutRow) (keys : List Key) : Type 0 where
   pub run_names : runs ≡ run_names t (row_count t)
   pub place_names : places ≡ place_names t (row_count t)
   pub size : length rows ≡ row_count t

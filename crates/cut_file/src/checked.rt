@@ -3,7 +3,7 @@ ghost use Rattle.std.specs.Prelude.{◌≡◌, ◌≢◌, length, Some, None, On
 ghost use Rattle.csv_rows.specs.Spaces.{AreTrimmed};
 ghost use Rattle.cut_file.specs.Faults.{first_cut_fault};
 ghost use Rattle.cut_file.specs.NumberedRows.{AreColumns, missing_in};
-ghost use Rattle.cut_file.specs.Read.{IsRead};
+ghost use Rattle.cut_file.specs.Read.{IsCutRead};
 
 use crate::faults::CutFault;
 use crate::order::{run_fault, sorted_keys};
@@ -44,7 +44,7 @@ pub(crate) fn read_checked(alloc: Global, rows: &Rows, limits: &Limits) -> Resul
     ensures trimmed { OnOk result (AreTrimmed rows.now) }
     ensures none { OnOk result (first_cut_fault rows.now limits.now.cut_rows ≡ None) }
     ensures cut { IfOk result (λ c.
-        IsRead rows.now c.cut.names.runs c.cut.names.places c.cut.rows.items c.keys.items) }
+        IsCutRead rows.now c.cut.names.runs c.cut.names.places c.cut.rows.items c.keys.items) }
     ensures fault { IfErr result (λ f. f ≢ CutFault.NoMemory
         → first_cut_fault rows.now limits.now.cut_rows ≡ Some f) }
 {

@@ -8,11 +8,11 @@ use std::fmt;
 /// `Backward` and `Broken` come together by line, and `Backward` first at one line.
 #[derive(Clone, Copy, Debug, PartialEq, Eq)]
 pub enum CutFault {
-    /// The first required column that the header lacks.
+    /// The first required column that the header does not have.
     MissingColumn(Column),
     /// The count of rows, which passes the limit.
     TooManyRows(u64),
-    /// The field of this line and column is not of its form. The first column of a line is told.
+    /// The field of this line and column is not of its form. It is the first such column of the line.
     BadField(u64, Column),
     /// An earlier line has the run and step of this line.
     DuplicateStep(u64),

@@ -2,7 +2,7 @@
 ghost use Rattle.std.specs.Prelude.{◌≡◌, ℕ, ◌<◌, length, slice_index, IfOk, None};
 ghost use Rattle.delay_table.specs.DelayLists.{class_for};
 ghost use Rattle.cut_file.specs.CutKeys.{AreKeysOf, cut_row};
-ghost use Rattle.cut_file.specs.CutNetworks.{IsConnection, AreConnections, longest, change_from, seconds_of};
+ghost use Rattle.cut_file.specs.CutNetworks.{IsConnection, AreConnections, longest, change_from, change_seconds_of};
 
 use crate::rows::CutRow;
 use csv_rows::Key;
@@ -57,8 +57,8 @@ pub(crate) fn connections_of(
 }
 
 /// The seconds of a change, which takes one at least.
-fn seconds_of(change: Option<u32>) -> u32
-    ensures { result ≡ seconds_of change }
+fn change_seconds_of(change: Option<u32>) -> u32
+    ensures { result ≡ change_seconds_of change }
 {
     match change {
         None => 0,
@@ -76,7 +76,7 @@ fn longest_of(alloc: Global, rows: &[CutRow], places: u32) -> Result<Vec<u32>, N
     let mut times: Vec<u32> = vec![in alloc; 0; places as usize]?;
     for i in 0..rows.len() {
         let place = rows[i].from as usize;
-        let seconds = seconds_of(rows[i].change);
+        let seconds = change_seconds_of(rows[i].change);
         times[place] = times[place].max(seconds);
     }
     Ok(times)

@@ -58,16 +58,16 @@ pub(crate) fn columns_of(rows: &Rows) -> Columns
     ensures { AreColumns rows.now result }
 {
     Columns {
-        run: rows.place_of(Column::Run),
-        step: rows.place_of(Column::Step),
-        from: rows.place_of(Column::From),
-        to: rows.place_of(Column::To),
-        dep: rows.place_of(Column::Dep),
-        arr: rows.place_of(Column::Arr),
-        class: rows.place_of(Column::Class),
-        board: rows.place_of(Column::Board),
-        exit: rows.place_of(Column::Exit),
-        change: rows.place_of(Column::Change),
+        run: rows.index_of(Column::Run),
+        step: rows.index_of(Column::Step),
+        from: rows.index_of(Column::From),
+        to: rows.index_of(Column::To),
+        dep: rows.index_of(Column::Dep),
+        arr: rows.index_of(Column::Arr),
+        class: rows.index_of(Column::Class),
+        board: rows.index_of(Column::Board),
+        exit: rows.index_of(Column::Exit),
+        change: rows.index_of(Column::Change),
     }
 }
 

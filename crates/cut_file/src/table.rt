@@ -2,7 +2,7 @@
 ghost use Rattle.std.specs.Prelude.{◌≡◌, ◌≢◌, ℕ, List, Some, None, OnOk, IfOk, IfErr};
 ghost use Rattle.plan_model.specs.NameLists.{NamesFit};
 ghost use Rattle.cut_file.specs.Faults.{first_cut_fault};
-ghost use Rattle.cut_file.specs.Read.{IsRead};
+ghost use Rattle.cut_file.specs.Read.{IsCutRead};
 ghost use Rattle.cut_file.specs.CutNetworks.{IsNetwork};
 ghost use Rattle.cut_file.specs.CutNetwork.{IsCutNetwork};
 
@@ -60,7 +60,7 @@ impl Model for CutTable {
 /// `run`, `step`, `from`, `to`, `dep` and `arr`; `class`, `board`, `exit` and `change` are optional. Rows come in any order;
 /// runs and places are numbered as they first appear, `from` before `to` in one row.
 pub fn read_cut(alloc: Global, rows: &Rows, limits: &Limits) -> Result<CutTable, CutFault>
-    ensures table { IfOk result (λ table. IsRead rows.now table.runs table.places table.rows table.keys) }
+    ensures table { IfOk result (λ table. IsCutRead rows.now table.runs table.places table.rows table.keys) }
     ensures none { OnOk result (first_cut_fault rows.now limits.now.cut_rows ≡ None) }
     ensures fault { IfErr result (λ f. f ≢ CutFault.NoMemory
         → first_cut_fault rows.now limits.now.cut_rows ≡ Some f) }
@@ -82,7 +82,7 @@ impl CutTable {
         ensures runs { IfOk result (λ r. r.1.runs ≡ self.now.runs) }
         ensures places { IfOk result (λ r. r.1.places ≡ self.now.places) }
         ensures table { IfOk result (λ r. (t : List (List (List ℕ)))
-            → IsRead t self.now.runs self.now.places self.now.rows self.now.keys
+            → IsCutRead t self.now.runs self.now.places self.now.rows self.now.keys
             → IsCutNetwork t delays.now r.0 r.1) }
         ensures fit { IfOk result (λ r. NamesFit r.1 r.0) }
     {

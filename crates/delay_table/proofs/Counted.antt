@@ -1,4 +1,4 @@
--- The number of the groups is told where there are too many, and no other fault tells it.
+-- The number of the groups is reported where there are too many, and by no other fault.
 use Rattle.std.proofs.Common.{◌≡◌, ℕ, ◌<◌, ◌+◌, ◌-◌, nat_lt, nat_le, Bool, true, List, [], ◌∷◌, length, slice_get, slice_index, Option, Some, None, option_map}
 use Rattle.std.proofs.Common.{if◌then◌else◌, arith, is_none}
 use Rattle.std.proofs.lemmas.Bool.{cases_Bool}
@@ -7,7 +7,7 @@ use Rattle.plan_model.specs.declared.model.Outcome.{Outcome}
 use Rattle.csv_rows.specs.declared.columns.Column.{Column}
 use Rattle.csv_rows.specs.declared.columns.Column.TheVariants.{Class, Delay, Weight}
 use Rattle.csv_rows.specs.First.{first_below}
-use Rattle.csv_rows.specs.Tables.{place_of, row_count}
+use Rattle.csv_rows.specs.Tables.{index_of, row_count}
 use Rattle.csv_rows.proofs.FirstLemmas.{first-is}
 use Rattle.std.specs.Option.{option_or}
 use Rattle.delay_table.specs.declared.faults.DelayFault.{DelayFault}
@@ -17,7 +17,7 @@ use Rattle.delay_table.specs.Groups.{Group, is_plain, group_in}
 use Rattle.delay_table.specs.Delays.{Line, class_name, class_rows, class_sum, fault_of, group_sum_at, groups_fault, lacks, line_at, line_fault, missing_column, route_types_below}
 use Rattle.delay_table.specs.Delays.{no_default_of, other_sum, group_outcomes, type_sum_at, delay_rises}
 
--- a fault that tells no number of groups, or none
+-- a fault that has no number of groups, or none
 abbrev pub IsOther : Option DelayFault → Type 0
 IsOther o = (n : ℕ) → o ≡ Some (TooManyClasses n) → ⊥
 
@@ -48,8 +48,8 @@ counted b count n rest h e = grind (arith, cases_Bool b)
 passes : (count : ℕ) → nat_lt most_groups count ≡ true → most_groups < count
 passes count h = grind (arith, nat_tests)
 
-pub told-count : (rows : Group → List Outcome) (groups : List Group) (line_of : ℕ → ℕ) (n : ℕ) → groups_fault rows groups line_of ≡ Some (TooManyClasses n) → (n ≡ length groups) × (most_groups < n)
-told-count rows groups line_of n h =
+pub reported-count : (rows : Group → List Outcome) (groups : List Group) (line_of : ℕ → ℕ) (n : ℕ) → groups_fault rows groups line_of ≡ Some (TooManyClasses n) → (n ≡ length groups) × (most_groups < n)
+reported-count rows groups line_of n h =
     let types = route_types_below rows end_of_types in
     let sums = first_below (type_sum_at rows types) (length types) in
     let lines = first_below (group_sum_at rows groups line_of) (length groups) in
@@ -67,8 +67,8 @@ column_if b column n e = grind (arith, cases_Bool b)
 
 pub column-other : (t : List (List (List ℕ))) → IsOther (missing_column t)
 column-other t =
-    either (lacks t Class) (option_or (lacks t Delay) (lacks t Weight)) (column_if (is_none (place_of Class t)) Class)
-    (either (lacks t Delay) (lacks t Weight) (column_if (is_none (place_of Delay t)) Delay) (column_if (is_none (place_of Weight t)) Weight))
+    either (lacks t Class) (option_or (lacks t Delay) (lacks t Weight)) (column_if (is_none (index_of Class t)) Class)
+    (either (lacks t Delay) (lacks t Weight) (column_if (is_none (index_of Delay t)) Delay) (column_if (is_none (index_of Weight t)) Weight))
 
 row_if : (many rising plain : Bool) (a b c : DelayFault) → IsOther (Some a) → IsOther (Some b) → IsOther (Some c)
     → IsOther (if many then Some (if plain then a else b) else if rising then None else Some c)

@@ -1,4 +1,4 @@
--- Groups that are the same, and where a group stands among others.
+-- Groups that are the same, and where a group is among others.
 use Rattle.std.proofs.Common.{◌≡◌, ℕ, ◌+◌, ◌<◌, Bool, true, false, ◌&&◌, List, [], ◌∷◌, ◌++◌, length, Option, Some, None, if◌then◌else◌, refl, sym, ap, ap₂}
 use Rattle.std.proofs.Common.{◌∙◌, subst, arith, inl, inr, add-one, length-append, bytes_eq, eqb-true, eq-eqb}
 use Rattle.std.proofs.lemmas.Bool.{cases_order, and_from, and_parts, false_from_ne_true}
@@ -47,13 +47,13 @@ same-false a b h = false_from_ne_true (same_group a b) (λ t. h (same-equal a b 
 pub false-same : (a b : Group) → same_group a b ≡ false → a ≡ b → ⊥
 false-same a b f e = let t = same-true a b e in absurd (cc)
 
--- what stands at the index of a group
+-- what is at the index of a group
 pub group-here : (group : Group) (groups : List Group) (k : ℕ) → group_index group groups ≡ Some k → (k < length groups) × (group_in groups k ≡ group)
 unfolding group_index
 group-here group groups k h =
     let w = place_by-some (λ k. same_group (group_in groups k) group) (length groups) k h in (w.0, same-equal (group_in groups k) group w.1)
 
--- a group that has no index stands nowhere
+-- a group that has no index is nowhere
 pub nowhere : (group : Group) (groups : List Group) → group_index group groups ≡ None → (k : ℕ) → k < length groups → group_in groups k ≡ group → ⊥
 unfolding group_index
 nowhere group groups h k l = false-same (group_in groups k) group (place_by-none (λ k. same_group (group_in groups k) group) (length groups) h k l)
@@ -69,7 +69,7 @@ index-first group groups k l e first =
     found_by (λ k. same_group (group_in groups k) group) (length groups) k l (same-true (group_in groups k) group e)
     (λ j less. same-false (group_in groups j) group (first j less))
 
--- groups that stand at two indexes differ
+-- groups that are at two indexes differ
 pub apart-ne : (groups : List Group) → AreApart groups → (j k : ℕ) → j < length groups → k < length groups → (j ≡ k → ⊥) → group_in groups j ≡ group_in groups k → ⊥
 apart-ne groups apart j k inside within ne e = elim (cases_order j k) [
   | inl same ↦ ne same

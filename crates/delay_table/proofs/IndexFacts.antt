@@ -24,7 +24,7 @@ module _ {X : Type 0} (test : X → Bool) where
   push-from i (x ∷ xs) y n e =
       ⊎_elim (λ (t : test x ≡ true). rw t refl) (λ (f : test x ≡ false). rw f (push-from (i + 1) xs y n (omega arith))) (cases_Bool (test x))
 
-  -- one more stands last
+  -- one more comes last
   pub position-push : (xs : List X) (y : X) → position test (xs ++ y ∷ []) ≡ option_or (position test xs) (cond (test y) (Some (length xs)) None)
   position-push xs y =
       position_from-zero test (xs ++ y ∷ [])

@@ -64,7 +64,7 @@ module _ (key : LineGroup) (keys : List LineGroup) where
       let t = back k (omega (arith, w.0)) g in
       let f = w.2 k less in cc))
 
-  -- where the group of a line stands
+  -- where the group of a line is
   pub line-index : position (same_line key) keys ≡ group_index (line_group key) groups
   line-index = by-index (position (same_line key) keys) refl
 
@@ -98,9 +98,9 @@ module _ (key : LineGroup) (keys : List LineGroup) where
       ∙ shown-if (list_any (same_line key) keys)
       ∙ ap (λ (b : Bool). if b then groups else groups ++ line_group key ∷ []) (sym some-index)
 
-  -- what `insert_full` tells
-  pub told-new : not (list_any (same_line key) keys) ≡ true → None ≡ group_index (line_group key) groups
-  told-new h = line-new (turned (list_any (same_line key) keys) true h)
+  -- what `insert_full` gives
+  pub reported-new : not (list_any (same_line key) keys) ≡ true → None ≡ group_index (line_group key) groups
+  reported-new h = line-new (turned (list_any (same_line key) keys) true h)
 
-  pub told-there : (index : ℕ) → not (list_any (same_line key) keys) ≡ false → index ≡ position_or_len (same_line key) keys → Some index ≡ group_index (line_group key) groups
-  told-there index h = line-there index (turned (list_any (same_line key) keys) false h)
+  pub reported-there : (index : ℕ) → not (list_any (same_line key) keys) ≡ false → index ≡ position_or_len (same_line key) keys → Some index ≡ group_index (line_group key) groups
+  reported-there index h = line-there index (turned (list_any (same_line key) keys) false h)

@@ -7,7 +7,7 @@ use Rattle.plan_model.specs.declared.model.Outcome.{Outcome}
 use Rattle.delay_table.specs.Groups.{Group}
 use Rattle.delay_table.specs.Delays.{if_some, route_types_below, type_rows}
 
--- a list that delay_rises has what stands in its tail above its head
+-- a list that delay_rises has what is in its tail above its head
 after-head : (x : ℕ) (xs : List ℕ) → AllPairs (λ a b. a < b) (x ∷ xs) → (r : ℕ) → x < r → Contains (x ∷ xs) r → Contains xs r
 after-head x xs rising r less (zero, inside, is) = absurd (omega (arith, is))
 after-head x xs rising r less (suc k, inside, is) = (k, omega arith, is)

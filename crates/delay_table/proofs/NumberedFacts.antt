@@ -8,7 +8,7 @@ use Rattle.std.proofs.lemmas.List.{get_or_default, get_or_append_left, get_or_pu
 use Rattle.std.proofs.lemmas.List.Folds.{Any-from_list_any, list_any_at}
 use Rattle.std.proofs.lemmas.List.Quantifiers.{position-Some}
 use Rattle.plan_model.specs.NameLists.{AreDistinct}
-use Rattle.csv_rows.specs.Tables.{place_in}
+use Rattle.csv_rows.specs.Tables.{number_in}
 use Rattle.csv_rows.proofs.IdLemmas.{place-here}
 use Rattle.delay_table.specs.declared.numbered.NumberedGroup.{NumberedGroup}
 use Rattle.delay_table.specs.Groups.{Group, same_if, same_number, of_class, group_in, group_index, numbered_route, routes_of, with_route}
@@ -32,7 +32,7 @@ numbered-true a b e =
     (and_from (same_if same_number a.route a.route) (same_if same_number a.hour a.hour) (self a.route) (self a.hour)) in
     subst (λ (x : NumberedGroup). same_numbered a x ≡ true) e here
 
--- a name of a list whose names differ stands at one index
+-- a name of a list whose names differ is at one index
 pub one_index : (names : List (List ℕ)) → AreDistinct names → (m n : ℕ) → m < length names → n < length names → slice_index_or names m [] ≡ slice_index_or names n [] → m ≡ n
 one_index names distinct m n a b e = elim (cases_order m n) [
   | inl same ↦ same
@@ -73,7 +73,7 @@ module _ (routes : List (List ℕ)) (keys : List NumberedGroup) (distinct : AreD
     forth : (k : ℕ) → k < length keys → key ≡ key_at k → group_in groups k ≡ group
     forth k l e = at k l ∙ ap (named_group routes) (sym e) ∙ is
 
-    -- where it stands
+    -- where it is
     pub found-index : (o : Option ℕ) → o ≡ position (same_numbered key) keys → is_some o ≡ list_any (same_numbered key) keys → o ≡ group_index group groups
     found-index None e f = sym (none-index group groups (λ k l g.
         let inside : k < length keys = omega (arith, size) in
@@ -135,7 +135,7 @@ stays routes keys groups h (Some id) =
       are = same_names routes id keys h.numbers ∙ h.are;
     })
 
--- where a group stands, by the number of its route
+-- where a group is, by the number of its route
 pub index-is : (routes : List (List ℕ)) (keys : List NumberedGroup) (distinct : AreDistinct routes) (numbers : AreNumbers routes keys) (all : List Group)
     (class number hour : Option ℕ) (route : Option (List ℕ)) → map (named_group routes) keys ≡ all → IfSome number (λ n. n < length routes)
     → option_map (λ k. slice_index_or routes k []) number ≡ route → (o : Option ℕ)
@@ -148,7 +148,7 @@ index-is routes keys distinct numbers all class number hour route view inside is
     found-index routes keys distinct numbers key group inside named o here found ∙ ap (group_index group) view
 
 -- the number of a route is that of its id
-pub number-is : (routes : List (List ℕ)) (id : List ℕ) (n : ℕ) → place_in id routes ≡ Some n → IsNumber routes (Some n) (Some id)
+pub number-is : (routes : List (List ℕ)) (id : List ℕ) (n : ℕ) → number_in id routes ≡ Some n → IsNumber routes (Some n) (Some id)
 number-is routes id n h = let w = place-here id routes n h in record { inside = w.0; is = ap Some w.1 }
 
 module _ (routes : List (List ℕ)) (keys : List NumberedGroup) (distinct : AreDistinct routes) (numbers : AreNumbers routes keys) (all : List Group)

@@ -18,7 +18,7 @@ use Rattle.delay_table.specs.declared.reading.GroupRows.{GroupRows}
 use Rattle.delay_table.specs.DelayBounds.{end_of_types}
 use Rattle.delay_table.specs.Groups.{Group, group_in, is_plain, listed, of_class, group_index, plain_type, plain_types}
 use Rattle.delay_table.specs.Delays.{if_other, route_types_below, others, type_rows}
-use Rattle.delay_table.specs.Read.{AreApart, IsRead, outcomes_at, read_outcomes}
+use Rattle.delay_table.specs.Read.{AreApart, AreGroupsRead, outcomes_at, read_outcomes}
 use Rattle.delay_table.proofs.GroupFacts.{apart-ne, group-here}
 use Rattle.delay_table.proofs.NamedTypes.{AreNamed, HasNamed, are-route_types_below}
 
@@ -148,7 +148,7 @@ is-there groups rows group h =
     let w = somewhere rows (group_index group groups) h in
     let here = group-here group groups w.0 w.1 in (w.0, here.0, here.1)
 
-module _ (groups : List Group) (rows : List GroupRows) (is : IsRead groups rows) (sorted : List ℕ)
+module _ (groups : List Group) (rows : List GroupRows) (is : AreGroupsRead groups rows) (sorted : List ℕ)
     (moved : IsPermutation (plain_types groups (length groups)) sorted) (up : IsSorted nat_cmp sorted) where
   abbrev own : Group → List Outcome
   own = read_outcomes groups rows
@@ -180,7 +180,7 @@ module _ (groups : List Group) (rows : List GroupRows) (is : IsRead groups rows)
   sorted-are-route_types_below = are-route_types_below own end_of_types sorted route_types_below-are-sorted route_types_below-in-sorted
 
 -- `*`, the route types that are named and the other groups are all of them
-pub groups-are : (groups : List Group) (rows : List GroupRows) → IsRead groups rows → length (route_types_below (read_outcomes groups rows) end_of_types) ≡ length (plain_types groups (length groups))
+pub groups-are : (groups : List Group) (rows : List GroupRows) → AreGroupsRead groups rows → length (route_types_below (read_outcomes groups rows) end_of_types) ≡ length (plain_types groups (length groups))
     → 0 < length (read_outcomes groups rows (of_class None)) → length (route_types_below (read_outcomes groups rows) end_of_types) + 1 + length (others groups (length groups)) ≡ length groups
 groups-are groups rows is size some =
     let w = is-there groups rows (of_class None) some in

@@ -17,7 +17,7 @@ use Rattle.delay_table.specs.DelayBounds.{end_of_types, most_groups, whole_weigh
 use Rattle.delay_table.specs.Groups.{Group, group_in, is_plain, of_class, plain_types}
 use Rattle.delay_table.specs.Delays.{class_name, class_rows, class_sum, delays_in, group_sum, group_sum_at, groups_fault, groups_of, route_types_below, no_default_of, other_sum}
 use Rattle.delay_table.specs.Delays.{others, too_many_classes, type_rows, type_sum_at}
-use Rattle.delay_table.specs.Read.{IsRead, line_at, read_outcomes}
+use Rattle.delay_table.specs.Read.{AreGroupsRead, line_at, read_outcomes}
 use Rattle.delay_table.specs.Slots.{AreDelays, IsGroupStart}
 use mathlib.Core.Path.{fun_ext}
 use Rattle.csv_rows.specs.Tables.{row_count}
@@ -55,7 +55,7 @@ default_some : (r : List Outcome) → no_default_of r ≡ None → 0 < length r
 default_some [] h = absurd (cc)
 default_some (o ∷ os) h = omega arith
 
-module _ (groups : List Group) (read : List GroupRows) (is : IsRead groups read)
+module _ (groups : List Group) (read : List GroupRows) (is : AreGroupsRead groups read)
     (sound : groups_fault (read_outcomes groups read) groups (line_at read) ≡ None)
     (size : length (route_types_below (read_outcomes groups read) end_of_types) ≡ length (plain_types groups (length groups))) where
   abbrev own : Group → List Outcome
@@ -150,7 +150,7 @@ bound_at : (o : Option ℕ) (r : ℕ) → IfSome o (λ n. n < end_of_types) → 
 bound_at o r h e = subst (λ (x : Option ℕ). IfSome x (λ n. n < end_of_types)) e h
 
 -- the groups of all rows
-pub is-read : (t : List (List (List ℕ))) (groups : List Group) (rows : List GroupRows) → first_below (line_fault t) (row_count t) ≡ None → IsReadTo t (row_count t) groups rows → IsRead groups rows
+pub is-read : (t : List (List (List ℕ))) (groups : List Group) (rows : List GroupRows) → first_below (line_fault t) (row_count t) ≡ None → IsReadTo t (row_count t) groups rows → AreGroupsRead groups rows
 is-read t groups rows none r = record {
   size = r.size;
   apart = r.apart;

@@ -14,7 +14,7 @@ use Rattle.delay_table.specs.declared.faults.DelayFault.{DelayFault}
 use Rattle.delay_table.specs.declared.faults.DelayFault.TheVariants.{MissingColumn, BadField, TooManyRows, GroupRows, NotRising, TooManyClasses, WeightSum, GroupSum, NoDefault}
 use Rattle.csv_rows.specs.First.{first_below}
 use Rattle.csv_rows.specs.Names.{name_in}
-use Rattle.csv_rows.specs.Tables.{place_of, field, row_count}
+use Rattle.csv_rows.specs.Tables.{index_of, field, row_count}
 use Rattle.delay_table.specs.DelayBounds.{most_rows, most_groups, last_type, end_of_types, whole_weight, last_hour}
 use Rattle.delay_table.specs.DelayLists.{DelayLists}
 use Rattle.delay_table.specs.Groups.{Group, of_class, group_in, is_plain, same_group}
@@ -87,7 +87,7 @@ group_outcomes t (suc n) group = group_outcomes t n group ++ of_group group (lin
 
 -- the first column that is not there
 abbrev pub lacks : List (List (List ℕ)) → Column → Option DelayFault
-lacks t column = if is_none (place_of column t) then Some (MissingColumn column) else None
+lacks t column = if is_none (index_of column t) then Some (MissingColumn column) else None
 
 abbrev pub missing_column : List (List (List ℕ)) → Option DelayFault
 missing_column t = option_or (lacks t Class) (option_or (lacks t Delay) (lacks t Weight))

@@ -2,7 +2,7 @@
 use Rattle.std.specs.Prelude.{ℕ, zero, suc, ◌==◌, Bool, true, false, ◌&&◌, List, [], ◌∷◌, ◌++◌, length, slice_index_or, fold, Option, Some, None, is_none, is_some, option_map, if◌then◌else◌}
 use Rattle.std.specs.Str.{bytes_eq}
 use Rattle.csv_rows.specs.First.{first_below}
-use Rattle.csv_rows.specs.Tables.{place_in}
+use Rattle.csv_rows.specs.Tables.{number_in}
 
 -- what the rows are of: the route type of the class, and none for `*`; a route and an hour, if there are
 pub record Group : Type 0 where
@@ -55,7 +55,7 @@ plain_types groups (suc n) = plain_types groups n ++ listed (plain_type (group_i
 -- one more route goes last, unless there is none or it is among them
 abbrev pub with_route : List (List ℕ) → Option (List ℕ) → List (List ℕ)
 with_route routes None = routes
-with_route routes (Some id) = if is_some (place_in id routes) then routes else routes ++ id ∷ []
+with_route routes (Some id) = if is_some (number_in id routes) then routes else routes ++ id ∷ []
 
 -- the routes that groups name, each once, in the order of the groups
 unfoldable pub routes_of : List Group → List (List ℕ)

@@ -51,7 +51,7 @@ abbrev pub line_at : List GroupRows → ℕ → ℕ
 line_at rows k = (group_rows_at rows k).line
 
 -- groups that were read without a fault, and their outcomes
-pub record IsRead (groups : List Group) (rows : List GroupRows) : Type 0 where
+pub record AreGroupsRead (groups : List Group) (rows : List GroupRows) : Type 0 where
   pub size : length rows ≡ length groups
   pub apart : AreApart groups
   pub some : (k : ℕ) → k < length groups → 0 < length (read_outcomes groups rows (group_in groups k))

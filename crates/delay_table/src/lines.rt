@@ -42,11 +42,11 @@ pub(crate) fn columns_of(rows: &Rows) -> Columns
     ensures { AreColumns rows.now result }
 {
     Columns {
-        class: rows.place_of(Column::Class),
-        delay: rows.place_of(Column::Delay),
-        weight: rows.place_of(Column::Weight),
-        route: rows.place_of(Column::RouteId),
-        hour: rows.place_of(Column::Hour),
+        class: rows.index_of(Column::Class),
+        delay: rows.index_of(Column::Delay),
+        weight: rows.index_of(Column::Weight),
+        route: rows.index_of(Column::RouteId),
+        hour: rows.index_of(Column::Hour),
     }
 }
 
@@ -62,7 +62,7 @@ pub(crate) struct DelayRows<'a> {
 fn lacks(rows: &Rows, column: Column) -> Option<DelayFault>
     ensures { result ≡ lacks rows.now column }
 {
-    if rows.place_of(column).is_none() {
+    if rows.index_of(column).is_none() {
         return Some(DelayFault::MissingColumn(column));
     }
     None

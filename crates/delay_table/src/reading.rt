@@ -4,7 +4,7 @@ ghost use Rattle.csv_rows.specs.First.{first_below};
 ghost use Rattle.csv_rows.specs.Tables.{row_count};
 ghost use Rattle.delay_table.specs.Groups.{group_in, of_class, group_index};
 ghost use Rattle.delay_table.specs.Delays.{fault_after, line_fault, line_with, too_many};
-ghost use Rattle.delay_table.specs.Read.{AddsRow, IsPushed, IsRead, IsReadTo, line_at, group_rows_at, read_outcomes};
+ghost use Rattle.delay_table.specs.Read.{AddsRow, IsPushed, AreGroupsRead, IsReadTo, line_at, group_rows_at, read_outcomes};
 
 use crate::faults::DelayFault;
 use crate::groups::{Groups, LineGroup};
@@ -34,7 +34,7 @@ struct Reading<'a> {
 pub(crate) struct ReadRows<'a> {
     pub(crate) groups: Groups<'a>,
     pub(crate) rows: Vec<GroupRows>,
-    pub(crate) ghost read: { IsRead groups rows.items },
+    pub(crate) ghost read: { AreGroupsRead groups rows.items },
 }
 
 /// The fault of a 65th row of a group.

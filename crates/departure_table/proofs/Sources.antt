@@ -24,25 +24,25 @@ module _ (m : NetworkModel) (Safe : ℕ → Tree → Type 0) (first last : ℕ) 
       let best = subst (λ (o : Option DepartureRow). MatchOption o (IsNoneSafeFrom Safe first) (IsBestFrom m Safe first)) found (t.answers first (omega arith) order) in
       ((λ same. absurd (cc)), (λ none. absurd (none best.covers_one.0 best.covers_one.1)))
 
--- answers for one kind of safety are answers for the same kind told otherwise
+-- answers for one kind of safety are answers for the same kind in other words
 module _ (n m : NetworkModel) (S T : ℕ → Tree → Type 0) (many : count n ≡ count m)
     (to : (moment : ℕ) (tree : Tree) → 1 ≤ moment → S moment tree → T moment tree) (from : (moment : ℕ) (tree : Tree) → 1 ≤ moment → T moment tree → S moment tree) where
-  best_told : (moment : ℕ) (row : DepartureRow) → 1 ≤ moment → IsBestFrom n S moment row → IsBestFrom m T moment row
-  best_told moment row some b = record {
+  best_reported : (moment : ℕ) (row : DepartureRow) → 1 ≤ moment → IsBestFrom n S moment row → IsBestFrom m T moment row
+  best_reported moment row some b = record {
     below_safe = λ tree safe. b.below_safe tree (from moment tree some safe);
     least = λ tree safe. b.least tree (from moment tree some safe);
     covers_one = let c = b.covers_one in (c.0, to moment c.0 some c.1, c.2, c.3, c.4);
     gap = let g = b.gap in omega arith;
   }
 
-  pub answer_told : (moment : ℕ) (o : Option DepartureRow) → 1 ≤ moment → MatchOption o (IsNoneSafeFrom S moment) (IsBestFrom n S moment)
+  pub answer_reported : (moment : ℕ) (o : Option DepartureRow) → 1 ≤ moment → MatchOption o (IsNoneSafeFrom S moment) (IsBestFrom n S moment)
       → MatchOption o (IsNoneSafeFrom T moment) (IsBestFrom m T moment)
-  answer_told moment None some none = λ tree safe. none tree (from moment tree some safe)
-  answer_told moment (Some row) some best = best_told moment row some best
+  answer_reported moment None some none = λ tree safe. none tree (from moment tree some safe)
+  answer_reported moment (Some row) some best = best_reported moment row some best
 
-  pub greatest_told : (first : ℕ) (o : Option Moment) → 1 ≤ first → IsGreatestMoment S first o → IsGreatestMoment T first o
-  greatest_told first None some none = λ moment later tree safe. none moment later tree (from moment tree (omega arith) safe)
-  greatest_told first (Some g) some is =
+  pub greatest_reported : (first : ℕ) (o : Option Moment) → 1 ≤ first → IsGreatestMoment S first o → IsGreatestMoment T first o
+  greatest_reported first None some none = λ moment later tree safe. none moment later tree (from moment tree (omega arith) safe)
+  greatest_reported first (Some g) some is =
       (is.0, (is.1.0, to g.0 is.1.0 (let f = is.0 in omega arith) is.1.1), λ moment later tree safe. is.2 moment later tree (from moment tree (omega arith) safe))
 
 -- from the place that was added everything is a second away
@@ -64,31 +64,31 @@ module _ (n : NetworkModel) (q : Query) (m : NetworkModel) (source : ℕ) (e : I
   from_source : (moment : ℕ) (tree : Tree) → 1 ≤ moment → SafeFrom m source q moment tree → SafeAfter n q moment tree
   from_source moment tree some safe =
       let now : moment - 1 + 1 ≡ moment = omega arith in
-      let told = rw (← now) at safe in
-      rw e.last_place (added_back n m source e.extends e.valid q.target.0 (Some q.deadline.0) e.target_there e.away tree (moment - 1) told)
+      let reported = rw (← now) at safe in
+      rw e.last_place (added_back n m source e.extends e.valid q.target.0 (Some q.deadline.0) e.target_there e.away tree (moment - 1) reported)
 
-  departure_told : (row : DepartureRow) → IsDepartureRow n row → IsDepartureRow m row
-  departure_told row d =
+  departure_reported : (row : DepartureRow) → IsDepartureRow n row → IsDepartureRow m row
+  departure_reported row d =
       let there = leg_there n m 0 0 e.extends.view e.valid row.leg.enter.0 row.leg.exit.0 d.is_leg in
       let same = (seen n m 0 0 e.extends.view e.valid row.leg.enter.0 there.0.enter).departs (omega arith) in
       record { is_leg = there.0; departs = let f = d.departs in omega arith }
 
-  table_told : (first last : ℕ) (rows : List DepartureRow) → 1 ≤ first → IsTable n (SafeAfter n q) first last rows → IsTable m (SafeFrom m source q) first last rows
-  table_told first last rows some t = record {
-    answers = λ moment later within. answer_told n m (SafeAfter n q) (SafeFrom m source q) e.extends.view.as_many to_source from_source moment
+  table_reported : (first last : ℕ) (rows : List DepartureRow) → 1 ≤ first → IsTable n (SafeAfter n q) first last rows → IsTable m (SafeFrom m source q) first last rows
+  table_reported first last rows some t = record {
+    answers = λ moment later within. answer_reported n m (SafeAfter n q) (SafeFrom m source q) e.extends.view.as_many to_source from_source moment
         (first_row_by moment rows) (omega arith) (t.answers moment later within);
-    departures = λ k d h. departure_told _ (t.departures k d h);
+    departures = λ k d h. departure_reported _ (t.departures k d h);
     from_first = t.from_first;
     rising = t.rising;
   }
 
-  empty_told : (first last : ℕ) (rows : List DepartureRow) → 1 ≤ first → first ≤ last → IsTable n (SafeAfter n q) first last rows → (rows ≡ []) ↔ IsNoneSafeFrom (SafeFrom m source q) first
-  empty_told first last rows some order t = empty_exactly m (SafeFrom m source q) first last order rows (table_told first last rows some t)
+  empty_reported : (first last : ℕ) (rows : List DepartureRow) → 1 ≤ first → first ≤ last → IsTable n (SafeAfter n q) first last rows → (rows ≡ []) ↔ IsNoneSafeFrom (SafeFrom m source q) first
+  empty_reported first last rows some order t = empty_exactly m (SafeFrom m source q) first last order rows (table_reported first last rows some t)
 
   pub says : SaysOfSource n q m source
   says = record {
     second = subst (λ (place : ℕ). IsASecondAway n place) (sym e.last_place) (second_away n m source e.extends e.valid);
-    empty_exactly = empty_told;
-    tables = table_told;
-    greatest = λ first result some g. greatest_told n m (SafeAfter n q) (SafeFrom m source q) e.extends.view.as_many to_source from_source first result some g;
+    empty_exactly = empty_reported;
+    tables = table_reported;
+    greatest = λ first result some g. greatest_reported n m (SafeAfter n q) (SafeFrom m source q) e.extends.view.as_many to_source from_source first result some g;
   }

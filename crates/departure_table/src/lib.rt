@@ -1,5 +1,5 @@
 //! The departures from a place in a span of time, each with the best that can still be done by it,
-//! and the latest moment at which one can still set out. A scan answers whoever has arrived at a
+//! and the latest moment at which one can still set out. A scan answers a traveller who has arrived at a
 //! place, so the network is extended by a place from which one is at the source a second later:
 //! there the departures are legs after an arrival, and one scan has a row for each.
 //!
@@ -27,18 +27,18 @@ mod laws;
 pub use added_place::extended;
 pub use laws::{greatest_moment_agrees_with_the_least_worst, greatest_moment_is_of_the_last_row};
 
-/// A row of the table: what is best for whoever sets out by its moment, and too late for the row before.
+/// A row of the table: what is best for a traveller who sets out by its moment, and too late for the row before.
 #[derive(Clone, Copy, Debug)]
 pub struct DepartureRow {
     /// The departure of the leg: the last moment by which one sets out for it.
     pub by: Moment,
-    /// Bounds on the least expected arrival of whoever sets out then, in nanoseconds since 1970-01-01.
+    /// Bounds on the least expected arrival of a traveller who sets out then, in nanoseconds since 1970-01-01.
     pub bounds: Span,
     /// The leg that is taken.
     pub leg: Leg,
 }
 
-/// The row for whoever sets out at this moment or later; `None` if no strategy is safe any more.
+/// The row for a traveller who sets out at this moment or later; `None` if no strategy is safe any more.
 fn row_from(
     scanned: &Scanned<MeanSpan>,
     network: &Network,
@@ -62,7 +62,7 @@ fn row_from(
 }
 
 /// The departures that are taken from the place to which the source of the query leads in a second,
-/// from the first moment to the last one: each row's leg is the best to take for whoever sets out by
+/// from the first moment to the last one: each row's leg is the best to take for a traveller who sets out by
 /// its moment and too late for the row before. Only the last row may be by the last moment or later.
 pub fn table(
     alloc: Global,
@@ -92,7 +92,7 @@ pub fn table(
     Ok(rows)
 }
 
-/// The latest moment from the first one on at which whoever sets out from the place to which the
+/// The latest moment from the first one on at which a traveller who sets out from the place to which the
 /// source of the query leads in a second is still safe; `None` if nobody is from the first moment on.
 pub fn greatest(
     scanned: &Scanned<MeanSpan>,

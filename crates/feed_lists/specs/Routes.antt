@@ -10,7 +10,7 @@ use Rattle.csv_rows.specs.declared.feed_tables.FeedFault.{FeedFault}
 use Rattle.csv_rows.specs.declared.feed_tables.FeedFault.TheVariants.{BadField}
 use Rattle.csv_rows.specs.First.{first_below}
 use Rattle.csv_rows.specs.Names.{name_in}
-use Rattle.csv_rows.specs.Tables.{row_count, place_of, field_at, field}
+use Rattle.csv_rows.specs.Tables.{row_count, index_of, field_at, field}
 use Rattle.feed_lists.specs.declared.routes.RouteColumns.{RouteColumns}
 use Rattle.csv_rows.specs.RowFaults.{first_lack, repeated_id}
 use Rattle.csv_rows.specs.Lists.{list_below}
@@ -29,7 +29,7 @@ route_from line id kind =
 
 -- the indexes of the columns
 abbrev pub route_columns : List (List (List ℕ)) → RouteColumns
-route_columns t = record { id = place_of RouteId t; kind = place_of RouteType t }
+route_columns t = record { id = index_of RouteId t; kind = index_of RouteType t }
 
 -- the route of row i
 abbrev pub route_in : List (List (List ℕ)) → RouteColumns → ℕ → Result Route FeedFault

@@ -9,7 +9,7 @@ use Rattle.csv_rows.specs.declared.feed_tables.FeedFault.{FeedFault}
 use Rattle.csv_rows.specs.declared.feed_tables.FeedFault.TheVariants.{BadField, UnknownKey}
 use Rattle.csv_rows.specs.First.{first_below}
 use Rattle.csv_rows.specs.Names.{name_in}
-use Rattle.csv_rows.specs.Tables.{row_count, place_in, place_of, field_at, field}
+use Rattle.csv_rows.specs.Tables.{row_count, number_in, index_of, field_at, field}
 use Rattle.feed_lists.specs.declared.stops.StopColumns.{StopColumns}
 use Rattle.csv_rows.specs.RowFaults.{first_lack, repeated_id}
 use Rattle.feed_lists.specs.StopForms.{is_stop_in, parent_in}
@@ -30,7 +30,7 @@ stop_from line id kind parent =
 
 -- the indexes of the columns
 abbrev pub stop_columns : List (List (List ℕ)) → StopColumns
-stop_columns t = record { id = place_of StopId t; kind = place_of LocationType t; parent = place_of ParentStation t }
+stop_columns t = record { id = index_of StopId t; kind = index_of LocationType t; parent = index_of ParentStation t }
 
 -- the stop of row i
 abbrev pub stop_in : List (List (List ℕ)) → StopColumns → ℕ → Result Stop FeedFault
@@ -58,7 +58,7 @@ stop_ids t = list_below (field t StopId) (row_count t)
 abbrev pub unknown_in : List (List ℕ) → List ℕ → ℕ → Option FeedFault
 unknown_in ids parent i =
     if length parent == 0 then None
-    else if is_some (place_in parent ids) then None else Some (UnknownKey Stops (i + 2) ParentStation)
+    else if is_some (number_in parent ids) then None else Some (UnknownKey Stops (i + 2) ParentStation)
 
 abbrev pub unknown_parent : List (List (List ℕ)) → ℕ → Option FeedFault
 unknown_parent t i = unknown_in (stop_ids t) (parent_of t i) i
@@ -69,7 +69,7 @@ place_fault ids s i = option_or (result_err s) (unknown_in ids (parent_in_row s)
 
 -- the place of a stop is its parent, and itself where it has none; the parent's own parent does not matter
 abbrev pub place_from : List (List ℕ) → List ℕ → ℕ → ℕ
-place_from ids parent i = if length parent == 0 then i else unwrap_or (place_in parent ids) 0
+place_from ids parent i = if length parent == 0 then i else unwrap_or (number_in parent ids) 0
 
 abbrev pub stop_places : List (List (List ℕ)) → List ℕ
 stop_places t = list_below (λ i. place_from (stop_ids t) (parent_of t i) i) (row_count t)

@@ -9,7 +9,7 @@ use Rattle.csv_rows.specs.declared.feed_tables.FeedFault.{FeedFault}
 use Rattle.csv_rows.specs.declared.feed_tables.FeedFault.TheVariants.{BadField, UnknownKey}
 use Rattle.csv_rows.specs.First.{first_below}
 use Rattle.csv_rows.specs.Names.{name_in}
-use Rattle.csv_rows.specs.Tables.{row_count, place_in, place_of, field_at, field}
+use Rattle.csv_rows.specs.Tables.{row_count, number_in, index_of, field_at, field}
 use Rattle.feed_lists.specs.declared.trips.TripColumns.{TripColumns}
 use Rattle.csv_rows.specs.RowFaults.{first_lack, repeated_id}
 use Rattle.csv_rows.specs.Lists.{list_below}
@@ -24,14 +24,14 @@ pub record Trip : Type 0 where
 abbrev pub trip_from : List (List ℕ) → ℕ → (route service id : List ℕ) → Result Trip FeedFault
 trip_from routes line route service id =
     require (name_in route) (BadField Trips line RouteId) (λ route'.
-    require (place_in route' routes) (UnknownKey Trips line RouteId) (λ number.
+    require (number_in route' routes) (UnknownKey Trips line RouteId) (λ number.
     require (name_in service) (BadField Trips line ServiceId) (λ service'.
     require (name_in id) (BadField Trips line TripId) (λ id'.
     Ok (record { route = number; service = service'; id = id' })))))
 
 -- the indexes of the columns
 abbrev pub trip_columns : List (List (List ℕ)) → TripColumns
-trip_columns t = record { route = place_of RouteId t; service = place_of ServiceId t; id = place_of TripId t }
+trip_columns t = record { route = index_of RouteId t; service = index_of ServiceId t; id = index_of TripId t }
 
 -- the trip of row i, where these are the ids of the routes
 abbrev pub trip_in : List (List ℕ) → List (List (List ℕ)) → TripColumns → ℕ → Result Trip FeedFault

@@ -5,7 +5,7 @@ ghost use Rattle.clock_text.specs.Digits.{whole_of};
 ghost use Rattle.csv_rows.specs.declared.feed_tables.Table.TheVariants.{Routes as RoutesTable};
 ghost use Rattle.csv_rows.specs.First.{first_below};
 ghost use Rattle.csv_rows.specs.Tables.{row_count};
-ghost use Rattle.csv_rows.specs.RowFaults.{TellsFirst};
+ghost use Rattle.csv_rows.specs.RowFaults.{ReportsFirst};
 ghost use Rattle.feed_lists.specs.ListBounds.{most_routes};
 ghost use Rattle.feed_lists.specs.Routes.{route_columns, route_in, bad_route, route_types, routes_fault};
 
@@ -51,8 +51,8 @@ fn route_columns(rows: &Rows) -> RouteColumns
     ensures { result ≡ route_columns rows.now }
 {
     RouteColumns {
-        id: rows.place_of(Column::RouteId),
-        kind: rows.place_of(Column::RouteType),
+        id: rows.index_of(Column::RouteId),
+        kind: rows.index_of(Column::RouteType),
     }
 }
 
@@ -71,7 +71,7 @@ fn read_route(rows: &Rows, columns: RouteColumns, row: usize) -> Result<Route<'_
     requires { row < row_count rows.now }
     ensures route { IfOk result (λ r. route_in rows.now columns row
         ≡ Ok (record { id = r.id.now; kind = r.kind })) }
-    ensures tells { TellsFirst RoutesTable (result_err (route_in rows.now columns row)) result }
+    ensures reports { ReportsFirst RoutesTable (result_err (route_in rows.now columns row)) result }
 {
     let line = rows.line(row);
     let Some(id) = read_name(rows.field_at(row, columns.id)) else {
@@ -86,7 +86,7 @@ fn read_route(rows: &Rows, columns: RouteColumns, row: usize) -> Result<Route<'_
 /// The type of each route, or the first field that is not of its form.
 fn read_types(alloc: Global, rows: &Rows) -> Result<Vec<u16>, FeedFault>
     ensures types { IfOk result (λ types. types.items ≡ route_types rows.now) }
-    ensures tells { TellsFirst RoutesTable (first_below (bad_route rows.now) (row_count rows.now)) result }
+    ensures reports { ReportsFirst RoutesTable (first_below (bad_route rows.now) (row_count rows.now)) result }
 {
     let columns = route_columns(rows);
     let mut types: Vec<u16> = Vec::new(alloc);
@@ -105,7 +105,7 @@ impl Routes {
         requires { row_count rows.now ≤ most_routes }
         ensures routes { IfOk result (HasRoutes (Ok rows.now)) }
         ensures sound { IfOk result AreSoundRoutes }
-        ensures tells { TellsFirst RoutesTable (routes_fault rows.now) result }
+        ensures reports { ReportsFirst RoutesTable (routes_fault rows.now) result }
     {
         check_columns(rows, Table::Routes, &[Column::RouteId, Column::RouteType])?;
         let types = read_types(alloc, rows)?;

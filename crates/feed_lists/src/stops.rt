@@ -3,7 +3,7 @@ ghost use Rattle.std.specs.Prelude.{◌≡◌, ◌<◌, ◌≤◌, None, Ok, IfO
 ghost use Rattle.std.specs.Result.{result_err};
 ghost use Rattle.csv_rows.specs.declared.feed_tables.Table.TheVariants.{Stops as StopsTable};
 ghost use Rattle.csv_rows.specs.First.{first_below};
-ghost use Rattle.csv_rows.specs.RowFaults.{TellsFirst};
+ghost use Rattle.csv_rows.specs.RowFaults.{ReportsFirst};
 ghost use Rattle.csv_rows.specs.Tables.{row_count};
 ghost use Rattle.feed_lists.specs.Stops.{stop_columns, stop_in, bad_stop, parent_in_row, stop_ids, place_fault, unknown_parent, place_from, stop_places, stops_fault};
 ghost use Rattle.feed_lists.specs.ListBounds.{most_stops};
@@ -52,9 +52,9 @@ fn stop_columns(rows: &Rows) -> StopColumns
     ensures { result ≡ stop_columns rows.now }
 {
     StopColumns {
-        id: rows.place_of(Column::StopId),
-        kind: rows.place_of(Column::LocationType),
-        parent: rows.place_of(Column::ParentStation),
+        id: rows.index_of(Column::StopId),
+        kind: rows.index_of(Column::LocationType),
+        parent: rows.index_of(Column::ParentStation),
     }
 }
 
@@ -63,7 +63,7 @@ fn read_stop(rows: &Rows, columns: StopColumns, row: usize) -> Result<Stop<'_>, 
     requires { row < row_count rows.now }
     ensures stop { IfOk result (λ s. stop_in rows.now columns row
         ≡ Ok (record { id = s.id.now; parent = s.parent.now })) }
-    ensures tells { TellsFirst StopsTable (result_err (stop_in rows.now columns row)) result }
+    ensures reports { ReportsFirst StopsTable (result_err (stop_in rows.now columns row)) result }
 {
     let line = rows.line(row);
     let Some(id) = read_name(rows.field_at(row, columns.id)) else {
@@ -80,7 +80,7 @@ fn read_stop(rows: &Rows, columns: StopColumns, row: usize) -> Result<Stop<'_>, 
 
 /// That each field of the stops is of its form, or the first that is not.
 fn check_stops(rows: &Rows) -> Result<(), FeedFault>
-    ensures { TellsFirst StopsTable (first_below (bad_stop rows.now) (row_count rows.now)) result }
+    ensures { ReportsFirst StopsTable (first_below (bad_stop rows.now) (row_count rows.now)) result }
 {
     let columns = stop_columns(rows);
     for i in 0..rows.count() {
@@ -100,7 +100,7 @@ fn read_place(
     requires few { row_count rows.now ≤ most_stops }
     ensures place { IfOk result
         (λ p. place_from ids.now (parent_in_row (stop_in rows.now columns row)) row ≡ p) }
-    ensures tells { TellsFirst StopsTable
+    ensures reports { ReportsFirst StopsTable
         (place_fault ids.now (stop_in rows.now columns row) row) result }
 {
     let stop = read_stop(rows, columns, row)?;
@@ -119,7 +119,7 @@ fn read_places(alloc: Global, rows: &Rows, ids: &Ids) -> Result<Vec<u32>, FeedFa
     requires ids { ids.now ≡ stop_ids rows.now }
     requires formed { first_below (bad_stop rows.now) (row_count rows.now) ≡ None }
     ensures places { IfOk result (λ places. places.items ≡ stop_places rows.now) }
-    ensures tells { TellsFirst StopsTable
+    ensures reports { ReportsFirst StopsTable
         (first_below (unknown_parent rows.now) (row_count rows.now)) result }
 {
     let columns = stop_columns(rows);
@@ -140,7 +140,7 @@ impl Stops {
         requires { row_count rows.now ≤ most_stops }
         ensures stops { IfOk result (HasStops (Ok rows.now)) }
         ensures sound { IfOk result AreSoundStops }
-        ensures tells { TellsFirst StopsTable (stops_fault rows.now) result }
+        ensures reports { ReportsFirst StopsTable (stops_fault rows.now) result }
     {
         check_columns(rows, Table::Stops, &[Column::StopId])?;
         check_stops(rows)?;

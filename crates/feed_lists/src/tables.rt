@@ -1,7 +1,7 @@
 //! The tables of stops, routes and trips, each loaded and read.
 ghost use Rattle.std.specs.Prelude.{◌≡◌, ◌≢◌, None, Err, IfOk, IfErr, IfSome};
 ghost use Rattle.csv_rows.specs.declared.feed_tables.Table.TheVariants.{Stops as StopsTable, Routes as RoutesTable, Trips as TripsTable};
-ghost use Rattle.csv_rows.specs.FeedTables.{unread_of, IsFaultOf};
+ghost use Rattle.csv_rows.specs.FeedTables.{unread_table, IsFaultOf};
 ghost use Rattle.table_files.specs.Loading.{HasFeedCauses, load_in};
 ghost use Rattle.feed_lists.specs.Lists.{stops_from, routes_from, trips_from, HasStops, HasRoutes, HasTrips, AreSoundStops, AreSoundRoutes, AreSoundTrips};
 
@@ -23,7 +23,7 @@ pub fn load_stops<F: Files>(
     ensures stops { IfSome (F.state files.old).files (λ m. IfOk result
         (HasStops (stops_from (load_in m folder.now limits.now None StopsTable)))) }
     ensures fault { IfSome (F.state files.old).files (λ m. IfErr result (λ f. f ≢ FeedFault.NoMemory
-        → stops_from (load_in m folder.now limits.now (unread_of f) StopsTable) ≡ Err f)) }
+        → stops_from (load_in m folder.now limits.now (unread_table f) StopsTable) ≡ Err f)) }
     ensures sound { IfOk result AreSoundStops }
     ensures own { IfErr result (IsFaultOf StopsTable) }
     ensures causes { HasFeedCauses folder.now (F.state files.old) (F.state files.new) result }
@@ -42,7 +42,7 @@ pub fn load_routes<F: Files>(
     ensures routes { IfSome (F.state files.old).files (λ m. IfOk result
         (HasRoutes (routes_from (load_in m folder.now limits.now None RoutesTable)))) }
     ensures fault { IfSome (F.state files.old).files (λ m. IfErr result (λ f. f ≢ FeedFault.NoMemory
-        → routes_from (load_in m folder.now limits.now (unread_of f) RoutesTable) ≡ Err f)) }
+        → routes_from (load_in m folder.now limits.now (unread_table f) RoutesTable) ≡ Err f)) }
     ensures sound { IfOk result AreSoundRoutes }
     ensures own { IfErr result (IsFaultOf RoutesTable) }
     ensures causes { HasFeedCauses folder.now (F.state files.old) (F.state files.new) result }
@@ -63,7 +63,7 @@ pub fn load_trips<F: Files>(
     ensures trips { IfSome (F.state files.old).files (λ m. IfOk result (HasTrips routes.now
         (trips_from (load_in m folder.now limits.now None TripsTable) routes.now.ids))) }
     ensures fault { IfSome (F.state files.old).files (λ m. IfErr result (λ f. f ≢ FeedFault.NoMemory
-        → trips_from (load_in m folder.now limits.now (unread_of f) TripsTable) routes.now.ids
+        → trips_from (load_in m folder.now limits.now (unread_table f) TripsTable) routes.now.ids
         ≡ Err f)) }
     ensures sound { IfOk result (AreSoundTrips routes.now) }
     ensures own { IfErr result (IsFaultOf TripsTable) }

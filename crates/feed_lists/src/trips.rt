@@ -5,7 +5,7 @@ ghost use Rattle.csv_rows.specs.declared.feed_tables.Table.TheVariants.{Trips as
 ghost use Rattle.csv_rows.specs.First.{first_below};
 ghost use Rattle.csv_rows.specs.Tables.{row_count};
 ghost use Rattle.plan_model.specs.NameLists.{texts};
-ghost use Rattle.csv_rows.specs.RowFaults.{TellsFirst};
+ghost use Rattle.csv_rows.specs.RowFaults.{ReportsFirst};
 ghost use Rattle.feed_lists.specs.Lists.{HasTrips, AreSoundTrips};
 ghost use Rattle.feed_lists.specs.Trips.{trip_columns, trip_in, bad_trip, trip_routes, trip_services, trip_types, trips_fault};
 ghost use Rattle.feed_lists.specs.ListBounds.{most_trips};
@@ -76,9 +76,9 @@ fn trip_columns(rows: &Rows) -> TripColumns
     ensures { result ≡ trip_columns rows.now }
 {
     TripColumns {
-        route: rows.place_of(Column::RouteId),
-        service: rows.place_of(Column::ServiceId),
-        id: rows.place_of(Column::TripId),
+        route: rows.index_of(Column::RouteId),
+        service: rows.index_of(Column::ServiceId),
+        id: rows.index_of(Column::TripId),
     }
 }
 
@@ -92,7 +92,7 @@ fn read_trip<'a>(
     requires { row < row_count rows.now }
     ensures trip { IfOk result (λ r. trip_in routes.now rows.now columns row
         ≡ Ok (record { route = r.route; service = r.service.now; id = r.id.now })) }
-    ensures tells { TellsFirst TripsTable
+    ensures reports { ReportsFirst TripsTable
         (result_err (trip_in routes.now rows.now columns row)) result }
     ensures route { IfOk result (λ r. r.route < length routes.now) }
 {
@@ -146,7 +146,7 @@ fn read_of_trips(alloc: Global, rows: &Rows, routes: &Routes) -> Result<OfTrips,
         ≡ trip_types routes.now.ids routes.now.types.items rows.now) }
     ensures routes { IfOk result (λ o. o.routes.items ≡ trip_routes routes.now.ids rows.now) }
     ensures known { IfOk result (λ o. All (λ route. route < length routes.now.ids) o.routes.items) }
-    ensures tells { TellsFirst TripsTable
+    ensures reports { ReportsFirst TripsTable
         (first_below (bad_trip routes.now.ids rows.now) (row_count rows.now)) result }
 {
     let columns = trip_columns(rows);
@@ -168,7 +168,7 @@ pub(crate) fn read_trips(alloc: Global, rows: &Rows, routes: &Routes) -> Result<
     requires { row_count rows.now ≤ most_trips }
     ensures trips { IfOk result (HasTrips routes.now (Ok rows.now)) }
     ensures sound { IfOk result (AreSoundTrips routes.now) }
-    ensures tells { TellsFirst TripsTable (trips_fault routes.now.ids rows.now) result }
+    ensures reports { ReportsFirst TripsTable (trips_fault routes.now.ids rows.now) result }
 {
     check_columns(
         rows,

@@ -15,7 +15,7 @@ folder_more rest old new path put bytes same is puts = λ p.
     puts p ∙ ap (λ (text : List ℕ). if bytes_eq path p then Some text else file_at old p) is
     ∙ ap (λ (other : Option (List ℕ)). if bytes_eq path p then Some bytes else other) (same p)
 
--- a file that stands in front of the others
+-- a file that comes first of the others
 pub folder_front : (rest old : FileMap) (path put bytes : List ℕ) → SameFolder rest old → put ≡ bytes
     → SameFolder ((path, bytes) ∷ rest) ((path, put) ∷ old)
 folder_front rest old path put bytes same is = λ p.
@@ -48,7 +48,7 @@ moved_at before after path bytes p true is none =
     ∙ ap (λ (b : Bool). if b then Some bytes else file_at after p) is)
 moved_at before after path bytes p false is none = file_at-without before after path bytes p is
 
--- a file whose path no file before it has can as well stand in front
+-- a file whose path no file before it has may as well come first
 folder_moved : (before after : FileMap) (path bytes : List ℕ) → file_at before path ≡ None
     → SameFolder (before ++ (path, bytes) ∷ after) ((path, bytes) ∷ (before ++ after))
 folder_moved before after path bytes none = λ p. moved_at before after path bytes p (bytes_eq path p) refl none

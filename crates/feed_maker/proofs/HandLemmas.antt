@@ -1,4 +1,4 @@
--- A file that stands behind another one.
+-- A file that comes after another one.
 use Rattle.std.proofs.Common.{◌≡◌, ℕ, List, ◌∷◌, Bool, true, false, refl, ap, sym, ◌∙◌, Option, Some, Result, Ok, Err, if◌then◌else◌, bytes_eq}
 use Rattle.std.proofs.lemmas.Slice.Eq.{bytes_eq-Decides}
 use Rattle.file_ports.specs.Ports.{FileMap, file_at, Opens}

@@ -35,7 +35,7 @@ causes-next {path = path} {before = before} {middle = middle} {now = now} none g
   later = omega (arith, g.later, h.later);
   later_of = λ p. omega (arith, g.later_of p, h.later_of p);
   read = λ k is. omega (arith, g.later, h.read k is);
-  read_path = λ told k is. rose_at (path k) before.faults_of middle.faults_of now.faults_of g.later_of (h.read_path (subst (λ (o : Option FileMap). IsSome o) (sym g.same) told) k is);
+  read_path = λ reported k is. rose_at (path k) before.faults_of middle.faults_of now.faults_of g.later_of (h.read_path (subst (λ (o : Option FileMap). IsSome o) (sym g.same) reported) k is);
   grew = λ less. ⊎_elim
       (λ (rising : before.faults < middle.faults). let k = g.grew rising in absurd (none k.0 k.1))
       (λ (flat : middle.faults ≤ before.faults). h.grew (omega (arith, flat, less)))

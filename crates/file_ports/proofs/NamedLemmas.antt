@@ -29,7 +29,7 @@ pub none_at : {A : Type 0} (p : A → Bool) (xs : List A) → position p xs ≡ 
 none_at p xs h k d l = let far = none_pass p xs h in fails_before_first p xs k d (omega arith)
 
 module _ {T : Type 0} where
-  -- where the first entry with the path stands
+  -- where the first entry with the path is
   first_at : (es : List (Named T)) (q : List ℕ) (i : ℕ) (e : Named T) → i < length es → ((k : ℕ) → k < i → at_path q (get_or es k e) ≡ false)
       → get_or es i e ≡ e → string_bytes e.path ≡ q → value_at es q ≡ Some e.value
   first_at es q i e inside before here is =
@@ -84,7 +84,7 @@ module _ {T : Type 0} where
 pub searched : {T : Type 0} (es lent : List (Named T)) (q : List ℕ) (r w : Option ℕ) → r ≡ position (at_path q) lent → lent ≡ es → r ≡ w → position (at_path q) es ≡ w
 searched es lent q r w a b k = ap (λ z. position (at_path q) z) (sym b) ∙ sym a ∙ k
 
--- the first entry with this path stands at i
+-- the first entry with this path is at i
 pub record Stands {T : Type 0} (es : List (Named T)) (q : List ℕ) (i : ℕ) (e : Named T) : Type 0 where
   pub place : position (at_path q) es ≡ Some i
   pub item : e ≡ get_or es i e

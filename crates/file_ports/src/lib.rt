@@ -16,6 +16,6 @@ mod steady;
 
 pub use host::{HostFiles, HostSink};
 pub use loading::{LoadFault, load, put_all};
-pub use named::{Named, place_of};
+pub use named::{Named, index_of};
 pub use ports::{Failed, Files, Presence, Sink};
 pub use steady::SteadyFiles;

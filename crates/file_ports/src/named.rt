@@ -15,7 +15,7 @@ pub struct Named<T> {
 }
 
 /// The index of the first entry with this path; `None` if there is none.
-pub fn place_of<T>(entries: &[Named<T>], path: &str) -> Option<usize>
+pub fn index_of<T>(entries: &[Named<T>], path: &str) -> Option<usize>
     ensures { result ≡ position (λ e. bytes_eq (string_bytes e.path) path.now) entries.now }
 {
     entries.iter().position(|e| e.path.as_str() == path)
@@ -32,7 +32,7 @@ pub fn put<T: Drop>(
         ≡ (if bytes_eq path.now p then Some value else value_at entries.old.items p)) }
     ensures err { OnErr result (entries.new.items ≡ entries.old.items) }
 {
-    match place_of(entries, path) {
+    match index_of(entries, path) {
         Some(index) => {
             entries[index].value = value;
         }

@@ -1,7 +1,7 @@
 //! Files in memory of which no call fails.
 ghost use Rattle.std.specs.Prelude.{◌≡◌, ◌<◌, min, length, take, OnOk, OnErr};
 
-use crate::named::{Named, place_of, put};
+use crate::named::{Named, index_of, put};
 use crate::ports::{Failed, Files, Presence};
 use plan_model::NoMemory;
 use std::alloc::Global;
@@ -89,7 +89,7 @@ impl Files for SteadyFiles {
         ensures piece { piece_of self.new ≡ piece_of self.old }
     {
         self.place = 0;
-        self.hand = place_of(&self.held, path);
+        self.hand = index_of(&self.held, path);
         match self.hand {
             Some(_) => Ok(Presence::Present),
             None => Ok(Presence::Absent),

@@ -75,7 +75,7 @@ module _ (n : NetworkModel) (place : ℕ) where
     | inr away ↦ subst P (sym (with_ride-away r rows away)) all
   ])
 
-  -- a row stands after a ride that ends there
+  -- a row comes after a ride that ends there
   pub record IsOf (rides : List Ride) (x : GraphRow) : Type 0 where
     pub r : Ride
     pub has : Contains rides r

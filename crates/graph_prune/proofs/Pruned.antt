@@ -106,7 +106,7 @@ module _ (n : NetworkModel) (valid : IsValid n) (q : Query) (source : ExpandedGr
         } in
         subst (λ (w : GraphRow). IsReadyRow n place w) (sym m.is) here
 
-    -- rows by limits stand as they may, where their moments rise
+    -- rows by limits are in an order that is allowed, where their moments rise
     may_precede : (y z : GraphRow) → limit_of n place y.leg ≡ Some y.by.0 → limit_of n place z.leg ≡ Some z.by.0 → y.by.0 < z.by.0 → MayPrecede n place y z
     may_precede y z here other less = grind (arith, common_steps, nat_tests)
 

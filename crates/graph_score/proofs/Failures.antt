@@ -36,10 +36,10 @@ abbrev IsFirst : Option Failure → May → Type 0
 IsFirst None F = (p x : ℕ) → F p x → ⊥
 IsFirst (Some f) F = IsFirstFailure F f.place.0 f.moment.0
 
--- the same, told in other words
-told_as : (first : Option Failure) (F G : May) → ((p x : ℕ) → F p x → G p x) → ((p x : ℕ) → G p x → F p x) → IsFirst first F → IsFirst first G
-told_as None F G there back is = λ p x may. is p x (back p x may)
-told_as (Some f) F G there back is = record { fails = there f.place.0 f.moment.0 is.fails; first = λ r y may. is.first r y (back r y may) }
+-- the same, in other words
+reported_as : (first : Option Failure) (F G : May) → ((p x : ℕ) → F p x → G p x) → ((p x : ℕ) → G p x → F p x) → IsFirst first F → IsFirst first G
+reported_as None F G there back is = λ p x may. is p x (back p x may)
+reported_as (Some f) F G there back is = record { fails = there f.place.0 f.moment.0 is.fails; first = λ r y may. is.first r y (back r y may) }
 
 not_after_trans : (p x r y s z : ℕ) → IsNotAfter p x r y → IsNotAfter r y s z → IsNotAfter p x s z
 not_after_trans p x r y s z first second = grind arith
@@ -73,46 +73,46 @@ first_both a f F G own other = by_test (is_sooner f a) refl
 module _ (n : NetworkModel) (q : Query) where
   -- with what comes of one tree more
   with_tree : (first : Option Failure) (kid : Outlook) (tree : Tree) (F : May) → IsFirst first F → IsOutlook n q kid tree → IsFirst (with_outlook first kid) (λ p x. F p x ⊎ Fails q tree p x)
-  with_tree first (Safe span) tree F is own = told_as first F (λ p x. F p x ⊎ Fails q tree p x) (λ p x may. inl may) (λ p x may. elim may [
+  with_tree first (Safe span) tree F is own = reported_as first F (λ p x. F p x ⊎ Fails q tree p x) (λ p x may. inl may) (λ p x may. elim may [
     | inl here ↦ here
     | inr there ↦ absurd (own.0 p x there)
   ]) is
-  with_tree None (Failing f) tree F is own = told_as (Some f) (Fails q tree) (λ p x. F p x ⊎ Fails q tree p x) (λ p x may. inr may) (λ p x may. elim may [
+  with_tree None (Failing f) tree F is own = reported_as (Some f) (Fails q tree) (λ p x. F p x ⊎ Fails q tree p x) (λ p x may. inr may) (λ p x may. elim may [
     | inl here ↦ absurd (is p x here)
     | inr there ↦ there
   ]) own
   with_tree (Some a) (Failing f) tree F is own = first_both a f F (Fails q tree) is own
 
-  first_told : (row : List Outcome) (values : List Outlook) (kids : Kids) (first : Option Failure) (F : May) → EachKid (IsOutlook n q) row values kids
+  first_reported : (row : List Outcome) (values : List Outlook) (kids : Kids) (first : Option Failure) (F : May) → EachKid (IsOutlook n q) row values kids
       → IsFirst first F → IsFirst (first_failure_of first values) (λ p x. F p x ⊎ FailsIn q kids p x)
-  first_told [] [] Nil first F each is = told_as first F (λ p x. F p x ⊎ ⊥) (λ p x may. inl may) (λ p x may. elim may [
+  first_reported [] [] Nil first F each is = reported_as first F (λ p x. F p x ⊎ ⊥) (λ p x may. inl may) (λ p x may. elim may [
     | inl here ↦ here
     | inr there ↦ absurd there
   ]) is
-  first_told (o ∷ row) (value ∷ values) (Kid w tree kids) first F each is =
-      told_as (first_failure_of (with_outlook first value) values) (λ p x. (F p x ⊎ Fails q tree p x) ⊎ FailsIn q kids p x) (λ p x. F p x ⊎ (Fails q tree p x ⊎ FailsIn q kids p x))
+  first_reported (o ∷ row) (value ∷ values) (Kid w tree kids) first F each is =
+      reported_as (first_failure_of (with_outlook first value) values) (λ p x. (F p x ⊎ Fails q tree p x) ⊎ FailsIn q kids p x) (λ p x. F p x ⊎ (Fails q tree p x ⊎ FailsIn q kids p x))
       (λ p x may. grind arith) (λ p x may. grind arith)
-      (first_told row values kids (with_outlook first value) (λ p x. F p x ⊎ Fails q tree p x) each.2 (with_tree first value tree F is each.1))
-  first_told _ _ _ first F each is = absurd each
+      (first_reported row values kids (with_outlook first value) (λ p x. F p x ⊎ Fails q tree p x) each.2 (with_tree first value tree F is each.1))
+  first_reported _ _ _ first F each is = absurd each
 
-  -- where none fails, the bounds are those of the kids
-  spans_told : (row : List Outcome) (values : List Outlook) (kids : Kids) → EachKid (IsOutlook n q) row values kids → first_failure_of None values ≡ None → spans_in values ≡ spans_of n kids
-  spans_told [] [] Nil each none = refl
-  spans_told (o ∷ row) (Safe span ∷ values) (Kid w tree kids) each none =
-      ap (λ (s : Interval). s ∷ spans_in values) each.1.1 ∙ ap (λ (spans : List Interval). span_of n tree ∷ spans) (spans_told row values kids each.2 none)
-  spans_told (o ∷ row) (Failing f ∷ values) (Kid w tree kids) each none = absurd (first_failure_of-some f values none)
-  spans_told _ _ _ each none = absurd each
+  -- where none fails, the bounds are those of the children
+  spans_reported : (row : List Outcome) (values : List Outlook) (kids : Kids) → EachKid (IsOutlook n q) row values kids → first_failure_of None values ≡ None → spans_in values ≡ spans_of n kids
+  spans_reported [] [] Nil each none = refl
+  spans_reported (o ∷ row) (Safe span ∷ values) (Kid w tree kids) each none =
+      ap (λ (s : Interval). s ∷ spans_in values) each.1.1 ∙ ap (λ (spans : List Interval). span_of n tree ∷ spans) (spans_reported row values kids each.2 none)
+  spans_reported (o ∷ row) (Failing f ∷ values) (Kid w tree kids) each none = absurd (first_failure_of-some f values none)
+  spans_reported _ _ _ each none = absurd each
 
-  -- what comes of a ride, by what comes of its kids
-  pub blend_told : (i j : ℕ) (values : List Outlook) (kids : Kids) → EachKid (IsOutlook n q) (outcomes n j) values kids → IsOutlook n q (blend_of (outcomes n j) values) (Ride i j kids)
-  blend_told i j values kids each =
-      let told = first_told (outcomes n j) values kids None (λ p x. ⊥) each (λ p x may. may) in
-      let is = told_as (first_failure_of None values) (λ p x. ⊥ ⊎ FailsIn q kids p x) (FailsIn q kids) (λ p x may. elim may [
+  -- what comes of a ride, by what comes of its children
+  pub blend_reported : (i j : ℕ) (values : List Outlook) (kids : Kids) → EachKid (IsOutlook n q) (outcomes n j) values kids → IsOutlook n q (blend_of (outcomes n j) values) (Ride i j kids)
+  blend_reported i j values kids each =
+      let reported = first_reported (outcomes n j) values kids None (λ p x. ⊥) each (λ p x may. may) in
+      let is = reported_as (first_failure_of None values) (λ p x. ⊥ ⊎ FailsIn q kids p x) (FailsIn q kids) (λ p x may. elim may [
         | inl never ↦ absurd never
         | inr there ↦ there
-      ]) (λ p x may. inr may) told in
+      ]) (λ p x may. inr may) reported in
       by_first (first_failure_of None values) refl is
     where
       by_first : (first : Option Failure) → first_failure_of None values ≡ first → IsFirst first (FailsIn q kids) → IsOutlook n q (mean_or (outcomes n j) values first) (Ride i j kids)
-      by_first None e is = (is, ap (mean_of (outcomes n j)) (spans_told (outcomes n j) values kids each e))
+      by_first None e is = (is, ap (mean_of (outcomes n j)) (spans_reported (outcomes n j) values kids each e))
       by_first (Some f) e is = is

@@ -19,11 +19,11 @@ use Rattle.graph_score.specs.declared.legs.GraphLeg.TheVariants.{Start, Row}
 use Rattle.graph_score.specs.Legs.{IsFitLeg, IsFirstWrong, start_leg, legs_in, legs_of}
 use Rattle.graph_score.specs.Steps.{AreFitRows}
 
--- a row that fits stands at a place of the network
+-- a row that fits is at a place of the network
 pub fit_place : (n : NetworkModel) → IsValid n → (p : ℕ) (row : GraphRow) → IsFitRow n p row → p < length n.change
 fit_place n valid p row fit = grind (arith, limit_of-some, way_takes)
 
--- the k-th element of a list with what stands before and after it
+-- the k-th element of a list with what comes before and after it
 split_at : {X : Type 0} (xs : List X) (k : ℕ) (d : X) → k < length xs → xs ≡ take k xs ++ slice_index_or xs k d ∷ drop (k + 1) xs
 split_at xs k d within = sym (take-append-drop k xs) ∙ ap (λ rest. take k xs ++ rest) (drop_more xs k d within)
 

@@ -22,7 +22,7 @@ use Rattle.graph_score.specs.declared.outlooks.Outlook.{Outlook}
 use Rattle.graph_score.specs.declared.outlooks.Outlook.TheVariants.{Failing}
 use Rattle.graph_score.specs.Steps.{AreFitRows, AreOutlooks, IsOutlook, arrived_outlook, by_leg, failure, no_outlook}
 use Rattle.graph_score.specs.Steps.{outlook_at, outlook_of, outlooks_after, ride_by_rows}
-use Rattle.graph_score.proofs.Failures.{blend_told}
+use Rattle.graph_score.proofs.Failures.{blend_reported}
 use Rattle.graph_score.proofs.Trees.{taken_row, next_after, after-there, after-stuck, after-ride}
 
 -- one is known, so one was looked at
@@ -31,12 +31,12 @@ some_known [] i known = absurd known
 some_known (id ∷ taken) i known = omega arith
 
 -- where source and target are one place, or one has arrived
-pub arrived_told : (n : NetworkModel) (q : Query) (p x : ℕ) → p ≡ q.target.0 → IsOutlook n q (arrived_outlook q.deadline.0 p x) (Done x)
-arrived_told n q p x there = grind (arith, cases_lt)
+pub arrived_reported : (n : NetworkModel) (q : Query) (p x : ℕ) → p ≡ q.target.0 → IsOutlook n q (arrived_outlook q.deadline.0 p x) (Done x)
+arrived_reported n q p x there = grind (arith, cases_lt)
 
 -- one who is stuck
-pub stuck_told : (n : NetworkModel) (q : Query) (p x : ℕ) → IsOutlook n q (Failing (failure p x)) (Stuck p x)
-stuck_told n q p x = record { fails = (refl, refl); first = λ r y fails. inr (sym fails.1, omega (arith, fails.0)) }
+pub stuck_reported : (n : NetworkModel) (q : Query) (p x : ℕ) → IsOutlook n q (Failing (failure p x)) (Stuck p x)
+stuck_reported n q p x = record { fails = (refl, refl); first = λ r y fails. inr (sym fails.1, omega (arith, fails.0)) }
 
 -- of each connection that was looked at it is known what comes of leaving by it, over enough rides
 abbrev AreRight : NetworkModel → Query → List PlaceTable → List Outlook → List ConnectionId → Type 0
@@ -44,7 +44,7 @@ AreRight n q tables outlooks taken = (leg : Leg) (rides : ℕ) → Known Never t
     → IsOutlook n q (slice_index_or outlooks leg.exit.0 no_outlook) (ride_by_rows n q tables rides leg)
 
 -- the rest of the scan order was not looked at
-pub record AreTold (n : NetworkModel) (q : Query) (tables : List PlaceTable) (order rest : List ConnectionId) (outlooks : List Outlook) : Type 0 where
+pub record AreCollected (n : NetworkModel) (q : Query) (tables : List PlaceTable) (order rest : List ConnectionId) (outlooks : List Outlook) : Type 0 where
   pub taken : List ConnectionId
   pub split : rest ++ taken ≡ order
   pub as_many : length outlooks ≡ count n
@@ -56,13 +56,13 @@ module _ (n : NetworkModel) (valid : IsValid n) (q : Query) (tables : List Place
     next_taken rest taken id split = next_of n valid Never order (whole_order n order whole) rest taken id split
 
     -- what comes of an arrival after the next connection
-    arrival_told : (outlooks : List Outlook) (rest taken : List ConnectionId) (id : ConnectionId) → (rest ++ id ∷ []) ++ taken ≡ order → AreRight n q tables outlooks taken → id.0 < count n
+    arrival_reported : (outlooks : List Outlook) (rest taken : List ConnectionId) (id : ConnectionId) → (rest ++ id ∷ []) ++ taken ≡ order → AreRight n q tables outlooks taken → id.0 < count n
         → (leg : Leg) (rides x : ℕ) → leg.exit.0 ≡ id.0 → length taken ≤ rides → arr_of n id.0 ≤ x
         → IsOutlook n q (outlook_at tables q outlooks (end_of n leg) x) (next_after n q tables fit rides leg x)
-    arrival_told outlooks rest taken id split right there leg rides x of_id enough late = elim (cases_eq (end_of n leg) q.target.0) [
+    arrival_reported outlooks rest taken id split right there leg rides x of_id enough late = elim (cases_eq (end_of n leg) q.target.0) [
       | inl here ↦
           let e : (end_of n leg == q.target.0) ≡ true = grind (arith, nat_tests) in
-          rw e (subst (IsOutlook n q (arrived_outlook q.deadline.0 (end_of n leg) x)) (sym (after-there n q tables fit rides leg x here)) (arrived_told n q (end_of n leg) x here))
+          rw e (subst (IsOutlook n q (arrived_outlook q.deadline.0 (end_of n leg) x)) (sym (after-there n q tables fit rides leg x here)) (arrived_reported n q (end_of n leg) x here))
       | inr away ↦
           let e : (end_of n leg == q.target.0) ≡ false = grind (arith, nat_tests) in
           rw e (by_next rides enough away (pick_at tables (end_of n leg) x) refl)
@@ -88,7 +88,7 @@ module _ (n : NetworkModel) (valid : IsValid n) (q : Query) (tables : List Place
 
         by_next : (rides : ℕ) → length taken ≤ rides → end_of n leg ≢ q.target.0 → (next : Option Leg) → pick_at tables (end_of n leg) x ≡ next
             → IsOutlook n q (by_leg outlooks (end_of n leg) x next) (next_after n q tables fit rides leg x)
-        by_next rides enough away None is = subst (IsOutlook n q (Failing (failure (end_of n leg) x))) (sym (after-stuck n q tables fit rides leg x away is)) (stuck_told n q (end_of n leg) x)
+        by_next rides enough away None is = subst (IsOutlook n q (Failing (failure (end_of n leg) x))) (sym (after-stuck n q tables fit rides leg x away is)) (stuck_reported n q (end_of n leg) x)
         by_next rides enough away (Some next) is =
             let row = taken_row n tables fit (end_of n leg) x next is in
             let boards = boards_later n valid (end_of n leg) x next.enter.0 row.0.enter row.1 in
@@ -96,19 +96,19 @@ module _ (n : NetworkModel) (valid : IsValid n) (q : Query) (tables : List Place
             let known = (next_taken rest taken id split).after next.exit.0 row.0.exit (inl (omega (arith, boards, onward, late, (valid.connections id.0 there).forward))) in
             over rides enough away next is known
 
-    kids_told : (outlooks : List Outlook) (p scheduled : ℕ) (next : ℕ → Tree) → ((x : ℕ) → scheduled ≤ x → IsOutlook n q (outlook_at tables q outlooks p x) (next x)) → (row : List Outcome)
+    kids_reported : (outlooks : List Outlook) (p scheduled : ℕ) (next : ℕ → Tree) → ((x : ℕ) → scheduled ≤ x → IsOutlook n q (outlook_at tables q outlooks p x) (next x)) → (row : List Outcome)
         → EachKid (IsOutlook n q) row (outlooks_after tables q outlooks p scheduled row) (kids_after next scheduled row)
-    kids_told outlooks p scheduled next each [] = tt
-    kids_told outlooks p scheduled next each (o ∷ row) = (refl, each (scheduled + o.delay) (omega arith), kids_told outlooks p scheduled next each row)
+    kids_reported outlooks p scheduled next each [] = tt
+    kids_reported outlooks p scheduled next each (o ∷ row) = (refl, each (scheduled + o.delay) (omega arith), kids_reported outlooks p scheduled next each row)
 
     -- what comes of leaving by the next connection
-    ride_told : (outlooks : List Outlook) (rest taken : List ConnectionId) (id : ConnectionId) → (rest ++ id ∷ []) ++ taken ≡ order → AreRight n q tables outlooks taken → id.0 < count n
+    ride_reported : (outlooks : List Outlook) (rest taken : List ConnectionId) (id : ConnectionId) → (rest ++ id ∷ []) ++ taken ≡ order → AreRight n q tables outlooks taken → id.0 < count n
         → (leg : Leg) (rides : ℕ) → leg.exit.0 ≡ id.0 → length taken ≤ rides → IsOutlook n q (outlook_of n tables q outlooks id.0) (ride_by_rows n q tables rides leg)
-    ride_told outlooks rest taken id split right there leg rides of_id enough =
+    ride_reported outlooks rest taken id split right there leg rides of_id enough =
         let late = ap (arr_of n) of_id in
-        let each = kids_told outlooks (end_of n leg) (arr_of n leg.exit.0) (next_after n q tables fit rides leg)
-        (λ x from. arrival_told outlooks rest taken id split right there leg rides x of_id enough (omega (arith, late, from))) (outcomes_of n leg) in
-        let own = blend_told n q leg.enter.0 leg.exit.0 (outlooks_after tables q outlooks (end_of n leg) (arr_of n leg.exit.0) (outcomes_of n leg))
+        let each = kids_reported outlooks (end_of n leg) (arr_of n leg.exit.0) (next_after n q tables fit rides leg)
+        (λ x from. arrival_reported outlooks rest taken id split right there leg rides x of_id enough (omega (arith, late, from))) (outcomes_of n leg) in
+        let own = blend_reported n q leg.enter.0 leg.exit.0 (outlooks_after tables q outlooks (end_of n leg) (arr_of n leg.exit.0) (outcomes_of n leg))
         (kids_after (next_after n q tables fit rides leg) (arr_of n leg.exit.0) (outcomes_of n leg)) each in
         subst (λ j. IsOutlook n q (outlook_of n tables q outlooks j) (ride_by_rows n q tables rides leg)) of_id own
 
@@ -118,7 +118,7 @@ module _ (n : NetworkModel) (valid : IsValid n) (q : Query) (tables : List Place
     right_next outlooks rest taken id split many right leg rides known enough = elim (cases_eq leg.exit.0 id.0) [
       | inl same ↦
           let there = (next_taken rest taken id split).there in
-          let own = ride_told outlooks rest taken id split right there leg rides same (omega (arith, enough)) in
+          let own = ride_reported outlooks rest taken id split right there leg rides same (omega (arith, enough)) in
           let at : slice_index_or (set outlooks id.0 (outlook_of n tables q outlooks id.0)) leg.exit.0 no_outlook ≡ outlook_of n tables q outlooks id.0 =
           ap (λ j. slice_index_or (set outlooks id.0 (outlook_of n tables q outlooks id.0)) j no_outlook) same
           ∙ get_or-set_same outlooks id.0 (outlook_of n tables q outlooks id.0) no_outlook (omega (arith, there, many)) in
@@ -136,24 +136,24 @@ module _ (n : NetworkModel) (valid : IsValid n) (q : Query) (tables : List Place
 module _ {n : NetworkModel} (valid : IsValid n) {q : Query} {tables : List PlaceTable} (fit : AreFitRows n tables) {order : List ConnectionId}
     (whole : IsScanOrder n order) where
   -- none was looked at
-  pub told_first : (outlooks : List Outlook) → length outlooks ≡ count n → AreTold n q tables order order outlooks
-  told_first outlooks many = record { taken = []; split = append-nil order; as_many = many; right = λ leg rides known. absurd known }
+  pub reported_first : (outlooks : List Outlook) → length outlooks ≡ count n → AreCollected n q tables order order outlooks
+  reported_first outlooks many = record { taken = []; split = append-nil order; as_many = many; right = λ leg rides known. absurd known }
 
-  module _ (rest : List ConnectionId) (id : ConnectionId) {outlooks : List Outlook} (told : AreTold n q tables order (rest ++ id ∷ []) outlooks) where
-    pub told_there : id.0 < count n
-    told_there = (next_taken n valid q tables fit order whole rest told.taken id told.split).there
+  module _ (rest : List ConnectionId) (id : ConnectionId) {outlooks : List Outlook} (reported : AreCollected n q tables order (rest ++ id ∷ []) outlooks) where
+    pub reported_there : id.0 < count n
+    reported_there = (next_taken n valid q tables fit order whole rest reported.taken id reported.split).there
 
-    pub told_next : AreTold n q tables order rest (set outlooks id.0 (outlook_of n tables q outlooks id.0))
-    told_next = record {
-      taken = id ∷ told.taken;
-      split = sym (append_assoc rest (id ∷ []) told.taken) ∙ told.split;
-      as_many = length-set outlooks id.0 (outlook_of n tables q outlooks id.0) ∙ told.as_many;
-      right = right_next n valid q tables fit order whole outlooks rest told.taken id told.split told.as_many told.right;
+    pub reported_next : AreCollected n q tables order rest (set outlooks id.0 (outlook_of n tables q outlooks id.0))
+    reported_next = record {
+      taken = id ∷ reported.taken;
+      split = sym (append_assoc rest (id ∷ []) reported.taken) ∙ reported.split;
+      as_many = length-set outlooks id.0 (outlook_of n tables q outlooks id.0) ∙ reported.as_many;
+      right = right_next n valid q tables fit order whole outlooks rest reported.taken id reported.split reported.as_many reported.right;
     }
 
-  pub told_last : {rest : List ConnectionId} {outlooks : List Outlook} → rest ≡ [] → AreTold n q tables order rest outlooks → AreOutlooks n q tables outlooks
-  told_last {rest} none told leg there =
-      let taken_all : told.taken ≡ order = ap (λ (ids : List ConnectionId). ids ++ told.taken) (sym none) ∙ told.split in
+  pub reported_last : {rest : List ConnectionId} {outlooks : List Outlook} → rest ≡ [] → AreCollected n q tables order rest outlooks → AreOutlooks n q tables outlooks
+  reported_last {rest} none reported leg there =
+      let taken_all : reported.taken ≡ order = ap (λ (ids : List ConnectionId). ids ++ reported.taken) (sym none) ∙ reported.split in
       let many = ap (λ (ids : List ConnectionId). length ids) taken_all in
       let has = has_each_id n order whole in
-      told.right leg (count n - 1) (all_known n valid Never order (whole_order n order whole) rest told.taken none told.split leg.exit.0 there) (omega (arith, many, has.as_many, there))
+      reported.right leg (count n - 1) (all_known n valid Never order (whole_order n order whole) rest reported.taken none reported.split leg.exit.0 there) (omega (arith, many, has.as_many, there))

@@ -83,7 +83,7 @@ outlooks_after tables query outlooks place scheduled row = map (λ o. outlook_at
 abbrev pub outlook_of : NetworkModel → List PlaceTable → Query → List Outlook → ℕ → Outlook
 outlook_of network tables query outlooks j = blend_of (outcomes network j) (outlooks_after tables query outlooks (to_of network j) (arr_of network j) (outcomes network j))
 
--- it tells what comes of a tree: that the traveller cannot fail, with its bounds; or how one may fail first
+-- it says what comes of a tree: that the traveller cannot fail, with its bounds; or how one may fail first
 abbrev pub IsOutlook : NetworkModel → Query → Outlook → Tree → Type 0
 IsOutlook network query (Safe span) tree = ((p x : ℕ) → Fails query tree p x → ⊥) × (span ≡ span_of network tree)
 IsOutlook network query (Failing f) tree = IsFirstFailure (Fails query tree) f.place.0 f.moment.0
@@ -92,7 +92,7 @@ IsOutlook network query (Failing f) tree = IsFirstFailure (Fails query tree) f.p
 abbrev pub AreFitRows : NetworkModel → List PlaceTable → Type 0
 AreFitRows network tables = All (λ table. All (IsFitRow network table.place.0) table.rows) tables
 
--- the ride of a leg, after which a traveller goes on by the rows of each place, over at most so many more rides
+-- the ride of a leg, after which a traveller goes on by the rows of each place, over at most this many more rides
 abbrev pub ride_by_rows : NetworkModel → Query → List PlaceTable → ℕ → Leg → Tree
 ride_by_rows network query tables rides leg = ride_of network (unfold_after network query.target.0 (by_place network (pick_at tables)) rides) leg
 

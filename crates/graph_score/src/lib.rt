@@ -22,7 +22,7 @@ mod outlooks;
 use interval_fixed::Span;
 use legs::{first_wrong, legs_of};
 use merged_runs::MergedRuns;
-use outlooks::{RisingGraph, arrived, outlooks_of, told};
+use outlooks::{RisingGraph, arrived, outlooks_of, reported};
 pub use outlooks::{Failure, Outlook};
 use plan_graph::PlanGraph;
 use plan_model::{Moment, Network, NoMemory, PlaceId, Query};
@@ -76,7 +76,7 @@ fn outlook_by_legs(
     };
     let mut order = MergedRuns::new(alloc, network)?;
     let outlooks = outlooks_of(alloc, &mut order, rising, network, query)?;
-    Ok(told(&outlooks, start.exit))
+    Ok(reported(&outlooks, start.exit))
 }
 
 /// The same, as a score.

@@ -123,7 +123,7 @@ pub fn arrived(deadline: Moment, place: PlaceId, moment: Moment) -> Outlook
 }
 
 /// What comes of leaving by a connection, if that is known.
-pub fn told(outlooks: &[Outlook], exit: ConnectionId) -> Outlook
+pub fn reported(outlooks: &[Outlook], exit: ConnectionId) -> Outlook
     ensures { result ≡ slice_index_or outlooks.now exit.0 no_outlook }
 {
     match outlooks.get(exit.0 as usize) {
@@ -148,7 +148,7 @@ fn outlook_at(
     }
     match rising.graph.pick_rising(place, moment) {
         None => Outlook::Failing(Failure { moment, place }),
-        Some(leg) => told(outlooks, leg.exit),
+        Some(leg) => reported(outlooks, leg.exit),
     }
 }
 

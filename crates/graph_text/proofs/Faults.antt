@@ -31,7 +31,7 @@ use Rattle.graph_text.specs.Reading.{leg_numbers, leg_row_in, names_in, leg_foun
 use Rattle.graph_text.specs.Reading.{step, after_place_row, after_leg_row, place_tables_from, no_tables, started_in, graph_after_first, graph_of_records}
 use Rattle.graph_text.specs.FirstFaults.{Breaks, HasLegForm, HasLegNames, HasLaterMoment, IsRowOf, BreaksAtLeg, IsStartOf, BreaksAtStart, HasPlaceForm, HasLaterPlace, BreaksAtPlace}
 use Rattle.graph_text.specs.FirstFaults.{HasHeadForm, HasHeadNames, IsOfQuestion, BreaksAtHead, Coming, PlaceNext, LegNext, after_leg, HaveFirstFault, HaveFaultAfterHead, HaveFault}
-use Rattle.graph_text.proofs.Rows.{numbers_told, names_told, place_numbers_told, head_numbers_told, start_told, start_read, row_told, row_read, table_told, table_read, head_told, head_read}
+use Rattle.graph_text.proofs.Rows.{numbers_reported, names_reported, place_numbers_reported, head_numbers_reported, start_reported, start_read, row_reported, row_read, table_reported, table_read, head_reported, head_read}
 use Rattle.graph_text.proofs.Tables.{leg_step, place_row_is, leg_row_is, after_last, after_row}
 
 -- ---- chains that end with a fault
@@ -141,11 +141,11 @@ numbers_read : (a b c d e : Option ℕ) (by enter dep exit arr : ℕ) → a ≡ 
 numbers_read a b c d e by enter dep exit arr one two three four five = rw (one, two, three, four, five) refl
 
 module _ (n : NetworkModel) (names : NameLists) (version : Version) (line : ℕ) (r : List (List ℕ)) where
-  form_told : (kind : List ℕ) (x : LegRow) → leg_row_in version kind r ≡ Some x → HasLegForm version kind x.moment.0 r
-  form_told kind x is =
+  form_reported : (kind : List ℕ) (x : LegRow) → leg_row_in version kind r ≡ Some x → HasLegForm version kind x.moment.0 r
+  form_reported kind x is =
       let row = if_cases (is_kind kind (width_of version) r)
       (leg_numbers (moment_at (field r 1)) (whole_at (field r 3)) (moment_at (field r 4)) (whole_at (field r 5)) (moment_at (field r 7))) x is in
-      let fields = numbers_told _ _ _ _ _ x row.1 in
+      let fields = numbers_reported _ _ _ _ _ x row.1 in
       record {
         is_of_kind = row.0;
         by = fields.0;
@@ -167,7 +167,7 @@ module _ (n : NetworkModel) (names : NameLists) (version : Version) (line : ℕ)
 
   names_known : (place : ℕ) (known : LegNames) → names_in version names place r ≡ Some known → HasLegNames names version place r
   names_known place known is =
-      let all = names_told (number_of names.runs (field r 2)) (number_of names.places (field r 6)) (entry_in version names place r) known is in
+      let all = names_reported (number_of names.runs (field r 2)) (number_of names.places (field r 6)) (entry_in version names place r) known is in
       record { run = some_is _ _ all.0; to = some_is _ _ all.1; from = some_is _ _ all.2 }
 
   names_read : (place : ℕ) → HasLegNames names version place r → IsSome (names_in version names place r)
@@ -184,16 +184,16 @@ module _ (n : NetworkModel) (names : NameLists) (version : Version) (line : ℕ)
   no_form kind moment none form = let x = form_read kind moment form in none_some _ x.0 none x.1
 
   leg_form : (kind : List ℕ) (place moment : ℕ) (leg : Leg) → IsLegRow n names version kind place moment leg r → HasLegForm version kind moment r × HasLegNames names version place r
-  leg_form kind place moment leg told = (
+  leg_form kind place moment leg reported = (
     record {
-      is_of_kind = told.is_of_kind;
-      by = told.by;
-      enter = some_is _ _ told.enter;
-      departure = some_is _ _ told.departure;
-      exit = some_is _ _ told.exit;
-      arrival = some_is _ _ told.arrival;
+      is_of_kind = reported.is_of_kind;
+      by = reported.by;
+      enter = some_is _ _ reported.enter;
+      departure = some_is _ _ reported.departure;
+      exit = some_is _ _ reported.exit;
+      arrival = some_is _ _ reported.arrival;
     },
-    record { run = some_is _ _ told.run; to = some_is _ _ told.to; from = some_is _ _ told.from },
+    record { run = some_is _ _ reported.run; to = some_is _ _ reported.to; from = some_is _ _ reported.from },
   )
 
   module _ (valid : IsValid n) (place : ℕ) (last : Option ℕ) where
@@ -203,7 +203,7 @@ module _ (n : NetworkModel) (names : NameLists) (version : Version) (line : ℕ)
         elim (require_err (leg_row_in version (codes "leg") r) (f.Row line) _ fault is) [
           | inl none ↦ subst Here none.1 (refl, λ form. no_form (codes "leg") form.0 none.0 form.1)
           | inr x ↦
-              let form = form_told (codes "leg") x.0 x.1 in
+              let form = form_reported (codes "leg") x.0 x.1 in
               elim (require_err (names_in version names place r) (f.UnknownName line) _ fault x.2) [
                 | inl none ↦ subst Here none.1 (refl, (x.0.moment.0, form), no_names place none.0)
                 | inr known ↦
@@ -223,17 +223,17 @@ module _ (n : NetworkModel) (names : NameLists) (version : Version) (line : ℕ)
 
         no_row : (fault : TextFault) → row_in n names version line place last r ≡ Err fault → (moment : ℕ) → moment_at (field r 1) ≡ Some moment → rises last moment ≡ true
             → (row : GraphRow) → ¬ IsRowOf n names version place row r
-        no_row fault is moment by up row told =
-            let same = some_same _ moment row.by.0 by told.fields.by in
-            ok_err _ row fault (row_read n names version line r valid place last row (sym (ap (rises last) same) ∙ up) told.fields told.fit) is
+        no_row fault is moment by up row reported =
+            let same = some_same _ moment row.by.0 by reported.fields.by in
+            ok_err _ row fault (row_read n names version line r valid place last row (sym (ap (rises last) same) ∙ up) reported.fields reported.fit) is
 
     row_keeps : (row : GraphRow) → row_in n names version line place last r ≡ Ok row
         → ((moment : ℕ) × HasLegForm version (codes "leg") moment r) × HasLegNames names version place r × HasLaterMoment last r
         × ((row : GraphRow) × IsRowOf n names version place row r) × Unit {0}
     row_keeps row is =
-        let told = row_told n names version line r place last row is in
-        let parts = leg_form (codes "leg") place row.by.0 row.leg told.1 in
-        ((row.by.0, parts.0), parts.1, (row.by.0, told.1.by, told.0), (row, record { fields = told.1; fit = told.2 }), tt)
+        let reported = row_reported n names version line r place last row is in
+        let parts = leg_form (codes "leg") place row.by.0 row.leg reported.1 in
+        ((row.by.0, parts.0), parts.1, (row.by.0, reported.1.by, reported.0), (row, record { fields = reported.1; fit = reported.2 }), tt)
 
     row_back : (fault : TextFault) → BreaksAtLeg n names version line place last r fault → row_in n names version line place last r ≡ Err fault
     row_back = broken_back line _ _ _ _ _ (row_in n names version line place last r) row_keeps row_fails
@@ -247,7 +247,7 @@ module _ (n : NetworkModel) (names : NameLists) (version : Version) (line : ℕ)
         elim (require_err (leg_row_in version (codes "start") r) (f.Row 2) _ fault is) [
           | inl none ↦ subst Here none.1 (refl, λ form. no_form (codes "start") form.1.0 none.0 form.1.1)
           | inr x ↦
-              let form = form_told (codes "start") x.0 x.1 in
+              let form = form_reported (codes "start") x.0 x.1 in
               elim (require_err (names_in version names source r) (f.UnknownName 2) _ fault x.2) [
                 | inl none ↦ subst Here none.1 (refl, (differ, (x.0.moment.0, form)), no_names source none.0)
                 | inr known ↦
@@ -264,25 +264,25 @@ module _ (n : NetworkModel) (names : NameLists) (version : Version) (line : ℕ)
         ]
 
     start_of : (leg : Leg) → start_in n names version 2 source start r ≡ Ok leg → IsStartOf n names version source start leg r
-    start_of leg is = let told = start_told n names version 2 r source start leg is in record { fields = told.0; is_leg = told.1; leaves = told.2; in_time = told.3 }
+    start_of leg is = let reported = start_reported n names version 2 r source start leg is in record { fields = reported.0; is_leg = reported.1; leaves = reported.2; in_time = reported.3 }
 
     start_keeps : (leg : Leg) → start_in n names version 2 source start r ≡ Ok leg
         → ((source ≢ target) × ((moment : ℕ) × HasLegForm version (codes "start") moment r)) × HasLegNames names version source r × Unit {0}
         × ((leg : Leg) × IsStartOf n names version source start leg r) × Unit {0}
     start_keeps leg is =
-        let told = start_of leg is in
-        let parts = leg_form (codes "start") source (dep_of n leg.enter.0) leg told.fields in
-        ((differ, (dep_of n leg.enter.0, parts.0)), parts.1, tt, (leg, told), tt)
+        let reported = start_of leg is in
+        let parts = leg_form (codes "start") source (dep_of n leg.enter.0) leg reported.fields in
+        ((differ, (dep_of n leg.enter.0, parts.0)), parts.1, tt, (leg, reported), tt)
 
     start_back : (fault : TextFault) → BreaksAtStart n names version source target start r fault → start_in n names version 2 source start r ≡ Err fault
     start_back = broken_back 2 _ _ _ _ _ (start_in n names version 2 source start r) start_keeps start_fails
 
   -- ---- the row of a place
 
-  place_form_told : (x : PlaceRow) → place_row_in version r ≡ Some x → HasPlaceForm version r
-  place_form_told x is =
+  place_form_reported : (x : PlaceRow) → place_row_in version r ≡ Some x → HasPlaceForm version r
+  place_form_reported x is =
       let row = if_cases (is_place version r) (place_numbers (whole_at (field r 2)) (whole_at (field r 3))) x is in
-      let numbers = place_numbers_told _ _ x row.1 in
+      let numbers = place_numbers_reported _ _ x row.1 in
       let some = numbers.2 in
       let same : x.count ≡ suc (x.count - 1) = omega (arith, some) in
       record { is_of_kind = row.0; change = some_is _ _ numbers.0; rows = (x.count - 1, numbers.1 ∙ ap (λ k. Some k) same) }
@@ -299,7 +299,7 @@ module _ (n : NetworkModel) (names : NameLists) (version : Version) (line : ℕ)
         elim (require_err (place_row_in version r) (f.Row line) _ fault is) [
           | inl none ↦ subst Here none.1 (refl, λ form. let x = some_value (place_row_in version r) (place_form_read form) in none_some _ x.0 none.0 x.1)
           | inr x ↦
-              let form = place_form_told x.0 x.1 in
+              let form = place_form_reported x.0 x.1 in
               elim (require_err (number_of names.places (field r 1)) (f.UnknownName line) _ fault x.2) [
                 | inl none ↦ subst Here none.1 (refl, form, λ known. let k = some_value (number_of names.places (field r 1)) known in none_some _ k.0 none.0 k.1)
                 | inr place ↦
@@ -307,7 +307,7 @@ module _ (n : NetworkModel) (names : NameLists) (version : Version) (line : ℕ)
                     elim (if_err (rises last place.0) _ (f.NotRising line) fault place.2) [
                       | inl falls ↦ subst Here falls.1 (refl, form, named, λ later. not_later place.0 place.1 falls.0 later)
                       | inr up ↦ elim (if_err (x.0.change == change_of n place.0) _ (f.NoLeg line) fault up.1) [
-                        | inl other ↦ subst Here other.1 (refl, form, named, (place.0, place.1, up.0), λ told. no_table fault is place.0 place.1 up.0 form told.0 told.1 told.2)
+                        | inl other ↦ subst Here other.1 (refl, form, named, (place.0, place.1, up.0), λ reported. no_table fault is place.0 place.1 up.0 form reported.0 reported.1 reported.2)
                         | inr same ↦ absurd (let wrong = same.1 in cc)
                       ]
                     ]
@@ -321,23 +321,23 @@ module _ (n : NetworkModel) (names : NameLists) (version : Version) (line : ℕ)
 
         no_table : (fault : TextFault) → table_in n names version line last r ≡ Err fault → (place : ℕ) → number_of names.places (field r 1) ≡ Some place → rises last place ≡ true
             → HasPlaceForm version r → (own many : ℕ) → ¬ IsPlaceRow n names version own many r
-        no_table fault is place name up form own many told =
-            let same = some_same _ place own name told.name in
-            let rows = some_same _ many (suc form.rows.0) told.rows form.rows.1 in
+        no_table fault is place name up form own many reported =
+            let same = some_same _ place own name reported.name in
+            let rows = some_same _ many (suc form.rows.0) reported.rows form.rows.1 in
             let t : TableStart = record { place = record { 0 = own }; count = many } in
-            ok_err _ t fault (table_read n names version line r last t (sym (ap (rises last) same) ∙ up) told (omega (arith, rows))) is
+            ok_err _ t fault (table_read n names version line r last t (sym (ap (rises last) same) ∙ up) reported (omega (arith, rows))) is
 
     table_keeps : (t : TableStart) → table_in n names version line last r ≡ Ok t
         → HasPlaceForm version r × IsSome (number_of names.places (field r 1)) × HasLaterPlace names last r
         × ((place many : ℕ) × IsPlaceRow n names version place many r) × Unit {0}
     table_keeps t is =
-        let told = table_told n names version line r last t is in
-        let some = told.2 in
+        let reported = table_reported n names version line r last t is in
+        let some = reported.2 in
         let same : t.count ≡ suc (t.count - 1) = omega (arith, some) in (
-          record { is_of_kind = told.1.is_of_kind; change = some_is _ _ told.1.change; rows = (t.count - 1, told.1.rows ∙ ap (λ k. Some k) same) },
-          some_is _ _ told.1.name,
-          (t.place.0, told.1.name, told.0),
-          (t.place.0, t.count, told.1),
+          record { is_of_kind = reported.1.is_of_kind; change = some_is _ _ reported.1.change; rows = (t.count - 1, reported.1.rows ∙ ap (λ k. Some k) same) },
+          some_is _ _ reported.1.name,
+          (t.place.0, reported.1.name, reported.0),
+          (t.place.0, t.count, reported.1),
           tt,
         )
 
@@ -350,10 +350,10 @@ module _ (names : NameLists) (r : List (List ℕ)) (source target start : ℕ) w
   abbrev first_in : Result Head TextFault
   first_in = require (version_in r) (f.Row 1) (λ version. head_in names version source target start r)
 
-  head_form_told : (version : Version) → version_in r ≡ Some version → (x : HeadRow) → head_row_in version r ≡ Some x → HasHeadForm version r × (moment_at (field r 4) ≡ Some x.start.0)
-  head_form_told version number x is =
+  head_form_reported : (version : Version) → version_in r ≡ Some version → (x : HeadRow) → head_row_in version r ≡ Some x → HasHeadForm version r × (moment_at (field r 4) ≡ Some x.start.0)
+  head_form_reported version number x is =
       let row = if_cases (is_head version r) (head_numbers (moment_at (field r 4)) (moment_at (field r 5)) (nanos_at (field r 6)) (nanos_at (field r 7))) x is in
-      let numbers = head_numbers_told _ _ _ _ x row.1 in
+      let numbers = head_numbers_reported _ _ _ _ x row.1 in
       let order = and_parts (nat_le x.start.0 x.deadline.0) _ numbers.4 in (
         record {
           is_of_kind = row.0;
@@ -381,7 +381,7 @@ module _ (names : NameLists) (r : List (List ℕ)) (source target start : ℕ) w
               let x = some_value (head_row_in version r) (head_form_read version own) in none_some _ x.0 none.0 x.1,
         )
         | inr x ↦
-            let form = head_form_told version number x.0 x.1 in
+            let form = head_form_reported version number x.0 x.1 in
             elim (require_err (number_of names.places (field r 2)) (f.UnknownName 1) _ fault x.2) [
               | inl none ↦ subst Here none.1 (refl, (version, form.0), λ known. let k = some_value (number_of names.places (field r 2)) known.0 in none_some _ k.0 none.0 k.1)
               | inr from ↦ elim (require_err (number_of names.places (field r 3)) (f.UnknownName 1) _ fault from.2) [
@@ -416,7 +416,7 @@ module _ (names : NameLists) (r : List (List ℕ)) (source target start : ℕ) w
       → ((version : Version) × HasHeadForm version r) × HasHeadNames names r × Unit {0} × Unit {0} × IsOfQuestion names source target start r
   first_keeps head is =
       let (version, number, own) = require-ok (version_in r) _ _ head is in
-      let (row, asked) = head_told names version r number source target start head own in (
+      let (row, asked) = head_reported names version r number source target start head own in (
         (
           version,
           record {
@@ -469,11 +469,11 @@ module _ (n : NetworkModel) (names : NameLists) (version : Version) (valid : IsV
       sym (leg_step n names version line r s (record { 0 = place }) (λ none. omega (arith, none, many)) (place_of s.place place next.1))
       ∙ ap (λ (by : Option ℕ). after_leg_row s (row_in n names version line place by r)) next.2
 
-  place_step_err : (s : Reading) (told : Result TableStart TextFault) (fault : TextFault) → after_place_row s told ≡ Err fault → told ≡ Err fault
+  place_step_err : (s : Reading) (reported : Result TableStart TextFault) (fault : TextFault) → after_place_row s reported ≡ Err fault → reported ≡ Err fault
   place_step_err s (Ok t) fault is = absurd (cc)
   place_step_err s (Err e) fault is = (let same : e ≡ fault = (cc) in ap (λ x. Err x) same)
 
-  leg_step_err : (s : Reading) (told : Result GraphRow TextFault) (fault : TextFault) → after_leg_row s told ≡ Err fault → told ≡ Err fault
+  leg_step_err : (s : Reading) (reported : Result GraphRow TextFault) (fault : TextFault) → after_leg_row s reported ≡ Err fault → reported ≡ Err fault
   leg_step_err s (Ok row) fault is = elim (cases_eq s.remaining 1) [
     | inl one ↦ absurd (let wrong = rw (eq-eqb s.remaining 1 one) at is in cc)
     | inr many ↦ absurd (let wrong = rw (ne_eqb s.remaining 1 many) at is in cc)
@@ -496,8 +496,8 @@ module _ (n : NetworkModel) (names : NameLists) (version : Version) (valid : IsV
   rows_fail (r ∷ rs) line s (PlaceNext last) fault next is = elim (then_err (step n names version line r s) _ fault is) [
     | inl here ↦ inl (table_fails n names version line r last fault (place_step_err s _ fault (sym (place_step line r s last next) ∙ here)))
     | inr later ↦
-        let (t, told, same) = place_row_is s later.0 (table_in n names version line last r) (sym (place_step line r s last next) ∙ later.1) in
-        let row = table_told n names version line r last t told in
+        let (t, reported, same) = place_row_is s later.0 (table_in n names version line last r) (sym (place_step line r s last next) ∙ later.1) in
+        let row = table_reported n names version line r last t reported in
         let some = row.2 in
         let many : t.count ≡ suc (t.count - 1) = omega (arith, some) in
         inr (
@@ -512,8 +512,8 @@ module _ (n : NetworkModel) (names : NameLists) (version : Version) (valid : IsV
   rows_fail (r ∷ rs) line s (LegNext place more last) fault next is = elim (then_err (step n names version line r s) _ fault is) [
     | inl here ↦ inl (row_fails n names version line r valid place last fault (leg_step_err s _ fault (sym (leg_step_is line r s place more last next) ∙ here)))
     | inr later ↦
-        let (row, told, same) = leg_row_is s later.0 (row_in n names version line place last r) (sym (leg_step_is line r s place more last next) ∙ later.1) in
-        let fields = row_told n names version line r place last row told in
+        let (row, reported, same) = leg_row_is s later.0 (row_in n names version line place last r) (sym (leg_step_is line r s place more last next) ∙ later.1) in
+        let fields = row_reported n names version line r place last row reported in
         let now : with_row s row ≡ later.0 = ok_same (sym (leg_step_ok s row) ∙ same) in
         inr (
           row,
@@ -545,9 +545,9 @@ module _ (n : NetworkModel) (names : NameLists) (version : Version) (valid : IsV
     | inl here ↦ ap (λ r. and_then r (place_tables_from n names version rs (line + 1)))
         (leg_step_is line r s place more last next ∙ ap (after_leg_row s) (row_back n names version line r valid place last fault here))
     | inr later ↦
-        let (row, told, up, rest) = later in
+        let (row, reported, up, rest) = later in
         ap (λ r. and_then r (place_tables_from n names version rs (line + 1)))
-        (leg_step_is line r s place more last next ∙ ap (after_leg_row s) (row_read n names version line r valid place last row up told.fields told.fit) ∙ leg_step_ok s row)
+        (leg_step_is line r s place more last next ∙ ap (after_leg_row s) (row_read n names version line r valid place last row up reported.fields reported.fit) ∙ leg_step_ok s row)
         ∙ rows_back rs (line + 1) (with_row s row) (after_leg place more row.by.0) fault (next_after s place more last row next) rest
   ]
 
@@ -591,9 +591,9 @@ module _ (n : NetworkModel) (names : NameLists) (version : Version) (valid : IsV
         | inl here ↦ ap (λ r. and_then r (λ leg. and_then (place_tables_from n names version rs 3 no_tables) (λ tables. Ok (record { start = Some leg; tables = tables }))))
             (start_back n names version 2 r valid source target start differ fault here)
         | inr later ↦
-            let (leg, told, away, rest) = later in
+            let (leg, reported, away, rest) = later in
             ap (λ r. and_then r (λ leg. and_then (place_tables_from n names version rs 3 no_tables) (λ tables. Ok (record { start = Some leg; tables = tables }))))
-            (start_read n names version 2 r valid source start leg told.fields told.is_leg told.leaves told.in_time)
+            (start_read n names version 2 r valid source start leg reported.fields reported.is_leg reported.leaves reported.in_time)
             ∙ ap (λ r. and_then r (λ tables. Ok (record { start = Some leg; tables = tables }))) (rows_back rs 3 no_tables (PlaceNext None) fault (refl, refl) rest)
       ])
     ]
@@ -606,7 +606,7 @@ module _ (n : NetworkModel) (names : NameLists) (valid : IsValid n) (source targ
     | inr version ↦ elim (then_err (head_in names version.0 source target start r) _ fault version.2) [
       | inl here ↦ inl (head_fails names r source target start version.0 version.1 fault here)
       | inr head ↦
-          let (row, asked) = head_told names version.0 r version.1 source target start head.0 head.1 in
+          let (row, asked) = head_reported names version.0 r version.1 source target start head.0 head.1 in
           elim (then_err (graph_after_first n names version.0 source target start rs) _ fault head.2) [
             | inl later ↦ inr (version.0, head.0, row, asked, after_head_fails n names version.0 valid source target start rs fault later)
             | inr graph ↦ absurd (let wrong = graph.2 in cc)

@@ -2,13 +2,13 @@
 use Rattle.std.proofs.Common.{◌≡◌, ℕ, ◌+◌, ◌<◌, Bool, true, false, List, ◌∷◌, length, drop, sym, ap, ◌∙◌, ◌&&◌, slice_index_or}
 use Rattle.printed_rows.proofs.Lines.{split_at}
 
--- F tells whether each element of a list passes, as p tells of one
+-- F says whether each element of a list passes, as p says of one
 module _ {X : Type 0} (F : List X → Bool) (p : X → Bool) (step : (x : X) (xs : List X) → F (x ∷ xs) ≡ (p x && F xs)) (xs : List X) (i : ℕ) (x d : X)
     (whole test : Bool) where
   by_first : i < length xs → x ≡ slice_index_or xs i d → whole ≡ F (drop i xs) → test ≡ p x → (b : Bool) → test ≡ b → whole ≡ (b && F (drop (i + 1) xs))
-  by_first within at before is b told =
+  by_first within at before is b reported =
       before ∙ ap F (split_at xs i d within) ∙ step (slice_index_or xs i d) (drop (i + 1) xs)
-      ∙ ap (λ (t : Bool). t && F (drop (i + 1) xs)) (ap p (sym at) ∙ sym is ∙ told)
+      ∙ ap (λ (t : Bool). t && F (drop (i + 1) xs)) (ap p (sym at) ∙ sym is ∙ reported)
 
   pub fails_at : i < length xs → x ≡ slice_index_or xs i d → whole ≡ F (drop i xs) → test ≡ p x → test ≡ false → whole ≡ false
   fails_at within at before is = by_first within at before is false

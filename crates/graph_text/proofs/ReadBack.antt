@@ -9,8 +9,8 @@ use Rattle.std.proofs.lemmas.Map.Keys.{IsDistinct-from_apart}
 use Rattle.std.proofs.lemmas.Map.Views.{Contains-from_any}
 use Rattle.std.proofs.lemmas.Map.Steps.{length-le_from_distinct_below}
 use Rattle.clock_text.specs.Civil.{moment_text, nanos_text, last_printable}
-use Rattle.clock_text.proofs.Walk.{text_tells}
-use Rattle.clock_text.proofs.NanosLemmas.{nanos_tell}
+use Rattle.clock_text.proofs.Walk.{text_reports}
+use Rattle.clock_text.proofs.NanosLemmas.{nanos_report}
 use Rattle.csv_rows.specs.Spaces.{trimmed_text}
 use Rattle.csv_rows.specs.Tables.{table_of}
 use Rattle.plan_model.specs.declared.model.Leg.{Leg}
@@ -100,20 +100,20 @@ tables_printed n names version (t ∷ tables) =
     ∙ ap (λ (text : List ℕ). first ++ text) (sym (rows-append (leg_records n names version t.rows) (table_records n names version tables)))
 
 -- in a text of the first version the leg leaves its row's place
-abbrev IsTold : NetworkModel → Version → ℕ → Leg → Type 0
-IsTold n First place leg = from_of n leg.enter.0 ≡ place
-IsTold n Second place leg = Unit {0}
+abbrev IsReported : NetworkModel → Version → ℕ → Leg → Type 0
+IsReported n First place leg = from_of n leg.enter.0 ≡ place
+IsReported n Second place leg = Unit {0}
 
--- a row that fits, and can be told in a text of the version
-abbrev IsToldRow : NetworkModel → Version → ℕ → GraphRow → Type 0
-IsToldRow n version place row = IsFitRow n place row × IsTold n version place row.leg
+-- a row that fits, and can be given in a text of the version
+abbrev IsReportedRow : NetworkModel → Version → ℕ → GraphRow → Type 0
+IsReportedRow n version place row = IsFitRow n place row × IsReported n version place row.leg
 
 -- and such a table
-abbrev IsToldTable : NetworkModel → Version → PlaceTable → Type 0
-IsToldTable n version t = IsFitTable n t × All (IsToldRow n version t.place.0) t.rows
+abbrev IsReportedTable : NetworkModel → Version → PlaceTable → Type 0
+IsReportedTable n version t = IsFitTable n t × All (IsReportedRow n version t.place.0) t.rows
 
 module _ (n : NetworkModel) (names : NameLists) (version : Version) (valid : IsValid n) (fit : NamesFit names n) (own : AreNames names) where
-  -- a leg's row is kept, and tells the leg
+  -- a leg's row is kept, and gives the leg
   leg_kept : (kind second : List ℕ) (leg : Leg) → IsLegOf n leg → trimmed_text kind ≡ kind → trimmed_text second ≡ second → IsKept (leg_record n names version kind second leg)
   leg_kept kind second leg is_leg one two =
       fields_kept version kind second (run_name names (run_of n leg.enter.0)) (decimal (step_of n leg.enter.0)) (moment_text (dep_of n leg.enter.0)) (decimal (step_of n leg.exit.0))
@@ -127,24 +127,24 @@ module _ (n : NetworkModel) (names : NameLists) (version : Version) (valid : IsV
       (moment_kept (arr_of n leg.exit.0))
       (place_kept n names fit (from_of n leg.enter.0) (valid.connections leg.enter.0 is_leg.enter).from_in)
 
-  leg_tells : (kind : List ℕ) (place moment : ℕ) (leg : Leg) → IsLegOf n leg → moment ≤ last_printable → IsTold n version place leg
+  leg_reports : (kind : List ℕ) (place moment : ℕ) (leg : Leg) → IsLegOf n leg → moment ≤ last_printable → IsReported n version place leg
       → IsLegRow n names version kind place moment leg (leg_record n names version kind (moment_text moment) leg)
-  leg_tells kind place moment leg is_leg soon told =
+  leg_reports kind place moment leg is_leg soon reported =
       let enter = valid.connections leg.enter.0 is_leg.enter in
       let exit = valid.connections leg.exit.0 is_leg.exit in
       record {
         is_of_kind = by_version (λ v. is_kind kind (width_of v) (leg_record n names v kind (moment_text moment) leg) ≡ true)
             ((bytes_decides kind kind).1 refl) ((bytes_decides kind kind).1 refl) version;
-        by = text_tells moment soon;
+        by = text_reports moment soon;
         run = run_back n names fit own leg.enter.0 is_leg.enter;
         enter = step_back n valid leg.enter.0 is_leg.enter;
-        departure = text_tells (dep_of n leg.enter.0) (omega (arith, enter.forward, enter.early));
+        departure = text_reports (dep_of n leg.enter.0) (omega (arith, enter.forward, enter.early));
         exit = step_back n valid leg.exit.0 is_leg.exit;
         to = place_back n names fit own (to_of n leg.exit.0) exit.to_in;
-        arrival = text_tells (arr_of n leg.exit.0) (omega (arith, exit.early));
-        from = by_version (λ v. IsTold n v place leg → entry_in v names place (leg_record n names v kind (moment_text moment) leg) ≡ Some
+        arrival = text_reports (arr_of n leg.exit.0) (omega (arith, exit.early));
+        from = by_version (λ v. IsReported n v place leg → entry_in v names place (leg_record n names v kind (moment_text moment) leg) ≡ Some
             (from_of n leg.enter.0))
-            (λ leaves. ap Some (sym leaves)) (λ any. place_back n names fit own (from_of n leg.enter.0) enter.from_in) version told;
+            (λ leaves. ap Some (sym leaves)) (λ any. place_back n names fit own (from_of n leg.enter.0) enter.from_in) version reported;
       }
 
   -- a table has at most a row for each connection, since rows of one entry have one limit
@@ -180,16 +180,16 @@ module _ (n : NetworkModel) (names : NameLists) (version : Version) (valid : IsV
       let first = own_table.rows 0 first_row (omega (arith, own_table.some)) in
       place_there n valid t.place.0 row.by.0 row.leg first.is_leg first.by
 
-  -- the rows of a table are kept, and tell it
-  legs_back : (place : ℕ) (rows : List GraphRow) → All (IsToldRow n version place) rows
+  -- the rows of a table are kept, and give it
+  legs_back : (place : ℕ) (rows : List GraphRow) → All (IsReportedRow n version place) rows
       → AreKept (leg_records n names version rows) × AreLegRows n names version place rows (leg_records n names version rows)
   legs_back place [] all = (tt, tt)
   legs_back place (row ∷ rows) all =
-      let (fits, told) = All-head (IsToldRow n version place) row rows all in
-      let (kept, tells) = legs_back place rows (All-tail (IsToldRow n version place) row rows all) in
+      let (fits, reported) = All-head (IsReportedRow n version place) row rows all in
+      let (kept, reports) = legs_back place rows (All-tail (IsReportedRow n version place) row rows all) in
       let soon : row.by.0 ≤ last_printable = omega (arith, limit_soon n valid place row.by.0 row.leg fits.is_leg fits.by) in (
         (leg_kept (codes "leg") (moment_text row.by.0) row.leg fits.is_leg refl (moment_kept row.by.0), kept),
-        (leg_tells (codes "leg") place row.by.0 row.leg fits.is_leg soon told, tells),
+        (leg_reports (codes "leg") place row.by.0 row.leg fits.is_leg soon reported, reports),
       )
 
   place_record_kept : (t : PlaceTable) → IsFitTable n t → IsKept (place_record n names version t)
@@ -200,8 +200,8 @@ module _ (n : NetworkModel) (names : NameLists) (version : Version) (valid : IsV
       fields_kept version (codes "place") (place_name names t.place.0) (decimal (change_of n t.place.0)) (decimal (length t.rows)) [] [] [] [] []
       refl (place_kept n names fit t.place.0 there) (decimal_kept (change_of n t.place.0) (omega (arith, change.1))) (decimal_kept (length t.rows) (omega (arith, few))) refl refl refl refl refl
 
-  place_tells : (t : PlaceTable) → IsFitTable n t → IsPlaceRow n names version t.place.0 (length t.rows) (place_record n names version t)
-  place_tells t own_table =
+  place_reports : (t : PlaceTable) → IsFitTable n t → IsPlaceRow n names version t.place.0 (length t.rows) (place_record n names version t)
+  place_reports t own_table =
       let there = table_there t own_table in
       record {
         is_of_kind = by_version (λ v. is_place v (place_record n names v t) ≡ true) refl refl version;
@@ -210,15 +210,15 @@ module _ (n : NetworkModel) (names : NameLists) (version : Version) (valid : IsV
         rows = whole_back (length t.rows) (let few = few_legs t own_table in omega arith);
       }
 
-  tables_back : (tables : List PlaceTable) → All (IsToldTable n version) tables
+  tables_back : (tables : List PlaceTable) → All (IsReportedTable n version) tables
       → AreKept (table_records n names version tables) × AreTableRows n names version tables (table_records n names version tables)
   tables_back [] all = (tt, tt)
   tables_back (t ∷ tables) all =
-      let (fits, told) = All-head (IsToldTable n version) t tables all in
-      let legs = legs_back t.place.0 t.rows told in
-      let rest = tables_back tables (All-tail (IsToldTable n version) t tables all) in (
+      let (fits, reported) = All-head (IsReportedTable n version) t tables all in
+      let legs = legs_back t.place.0 t.rows reported in
+      let rest = tables_back tables (All-tail (IsReportedTable n version) t tables all) in (
         (place_record_kept t fits, kept-append (leg_records n names version t.rows) (table_records n names version tables) legs.0 rest.0),
-        (place_tells t fits, (leg_records n names version t.rows, table_records n names version tables, refl, legs.1, rest.1)),
+        (place_reports t fits, (leg_records n names version t.rows, table_records n names version tables, refl, legs.1, rest.1)),
       )
 
   -- the first row
@@ -230,16 +230,16 @@ module _ (n : NetworkModel) (names : NameLists) (version : Version) (valid : IsV
       (place_kept n names fit head.query.source.0 asked.source) (place_kept n names fit head.query.target.0 asked.target)
       (moment_kept head.query.start.0) (moment_kept head.query.deadline.0) (nanos_kept head.bounds.lo) (nanos_kept head.bounds.hi) refl
 
-  head_tells : (head : Head) → IsPrintableQuery n head.query → head.bounds.lo ≤ head.bounds.hi → head.bounds.hi < 2 ^ 64 → IsHeadRow names version head (head_record names version head)
-  head_tells head asked bounds small = record {
+  head_reports : (head : Head) → IsPrintableQuery n head.query → head.bounds.lo ≤ head.bounds.hi → head.bounds.hi < 2 ^ 64 → IsHeadRow names version head (head_record names version head)
+  head_reports head asked bounds small = record {
     is_of_kind = by_version (λ v. is_head v (head_record names v head) ≡ true) refl refl version;
     number = by_version (λ v. version_in (head_record names v head) ≡ Some v) refl refl version;
     source = place_back n names fit own head.query.source.0 asked.source;
     target = place_back n names fit own head.query.target.0 asked.target;
-    start = text_tells head.query.start.0 asked.start;
-    deadline = text_tells head.query.deadline.0 asked.deadline;
-    lo = nanos_tell head.bounds.lo (omega (arith, bounds, small));
-    hi = nanos_tell head.bounds.hi small;
+    start = text_reports head.query.start.0 asked.start;
+    deadline = text_reports head.query.deadline.0 asked.deadline;
+    lo = nanos_report head.bounds.lo (omega (arith, bounds, small));
+    hi = nanos_report head.bounds.hi small;
   }
 
   -- a graph that fits, by the start leg and the tables
@@ -255,19 +255,19 @@ module _ (n : NetworkModel) (names : NameLists) (version : Version) (valid : IsV
       ∙ ap (λ (text : List ℕ). first ++ (second ++ text)) (tables_printed n names version tables)
 
   graph_back : (q : Query) (start : Option Leg) (tables : List PlaceTable) → IsFit n q (record { start = start; tables = tables })
-      → All (IsToldTable n version) tables
+      → All (IsReportedTable n version) tables
       → AreKept (graph_records n names version start tables) × AreGraphRows n names version q.source.0 start tables (graph_records n names version start tables)
   graph_back q None tables own_graph all = (tt, refl)
   graph_back q (Some leg) tables own_graph all =
       let enter = valid.connections leg.enter.0 own_graph.starts.is_leg.enter in
-      let told = by_version (λ v. IsTold n v q.source.0 leg) own_graph.starts.leaves tt version in
+      let reported = by_version (λ v. IsReported n v q.source.0 leg) own_graph.starts.leaves tt version in
       let rest = tables_back tables all in (
         (leg_kept (codes "start") (moment_text (dep_of n leg.enter.0)) leg own_graph.starts.is_leg refl (moment_kept (dep_of n leg.enter.0)), rest.0),
-        (leg_tells (codes "start") q.source.0 (dep_of n leg.enter.0) leg own_graph.starts.is_leg (omega (arith, enter.forward, enter.early)) told, rest.1),
+        (leg_reports (codes "start") q.source.0 (dep_of n leg.enter.0) leg own_graph.starts.is_leg (omega (arith, enter.forward, enter.early)) reported, rest.1),
       )
 
   is_text_of : (head : Head) (start : Option Leg) (tables : List PlaceTable) → IsPrintableQuery n head.query → head.query.start.0 ≤ head.query.deadline.0
-      → head.bounds.lo ≤ head.bounds.hi → head.bounds.hi < 2 ^ 64 → IsFit n head.query (record { start = start; tables = tables }) → All (IsToldTable n version) tables
+      → head.bounds.lo ≤ head.bounds.hi → head.bounds.hi < 2 ^ 64 → IsFit n head.query (record { start = start; tables = tables }) → All (IsReportedTable n version) tables
       → IsTextOf n names head (record { start = start; tables = tables }) (plan_text_in n names version head (record { start = start; tables = tables }))
   unfolding row_of_fields
   is_text_of head start tables asked in_time bounds small own_graph all =
@@ -279,16 +279,16 @@ module _ (n : NetworkModel) (names : NameLists) (version : Version) (valid : IsV
         others = records;
         table = ap table_of (graph_printed head start tables own_graph)
             ∙ table_back (head_record names version head ∷ records) 103 _ (head_kept head asked, back.0) refl refl;
-        head_row = head_tells head asked bounds small;
+        head_row = head_reports head asked bounds small;
         are_rows = back.1;
         fit = own_graph;
         in_time = in_time;
         bounds = bounds;
       }
 
--- the version that a graph has can tell it
-told_by_version : (n : NetworkModel) (tables : List PlaceTable) (leave : Bool) → tables_leave n tables ≡ leave → All (IsFitTable n) tables → All (IsToldTable n (version_by leave)) tables
-told_by_version n tables true leave fits = λ k d within.
+-- the version that a graph has can give it
+reported_by_version : (n : NetworkModel) (tables : List PlaceTable) (leave : Bool) → tables_leave n tables ≡ leave → All (IsFitTable n) tables → All (IsReportedTable n (version_by leave)) tables
+reported_by_version n tables true leave fits = λ k d within.
     let t = slice_index_or tables k d in
     let own = fits k d within in
     let all = and_at (tables_leave n) (λ t. rows_leave n t.place.0 t.rows) refl (λ x xs. refl) tables k d within leave in (
@@ -299,7 +299,7 @@ told_by_version n tables true leave fits = λ k d within.
             (and_at (rows_leave n t.place.0) (λ row. from_of n row.leg.enter.0 == t.place.0) refl (λ x xs. refl) t.rows i e inside all),
       ),
     )
-told_by_version n tables false leave fits = λ k d within. let t = fits k d within in (t, λ i e inside. (t.rows i e inside, tt))
+reported_by_version n tables false leave fits = λ k d within. let t = fits k d within in (t, λ i e inside. (t.rows i e inside, tt))
 
 -- a graph that fits is printed, and read back
 pub reads_back : (n : NetworkModel) (names : NameLists) (head : Head) (graph : PlanGraph) → IsValid n → NamesFit names n → AreNames names → IsPrintableQuery n head.query
@@ -308,4 +308,4 @@ pub reads_back : (n : NetworkModel) (names : NameLists) (head : Head) (graph : P
 reads_back n names head graph valid fit own asked in_time bounds small own_graph =
     let leave = tables_leave n graph.tables in
     text_read n names valid head graph (plan_text n names head graph)
-    (is_text_of n names (version_by leave) valid fit own head graph.start graph.tables asked in_time bounds small own_graph (told_by_version n graph.tables leave refl own_graph.tables))
+    (is_text_of n names (version_by leave) valid fit own head graph.start graph.tables asked in_time bounds small own_graph (reported_by_version n graph.tables leave refl own_graph.tables))

@@ -1,4 +1,4 @@
--- A row is read as what it tells, and as nothing else.
+-- A row is read as what it says, and as nothing else.
 use Rattle.std.proofs.Common.{◌≡◌, ℕ, ◌≤◌, Bool, true, List, Option, Some, None, Ok, arith, sym, subst, refl, ◌∙◌, ap, ◌==◌, nat_le, if◌then◌else◌, codes}
 use Rattle.std.proofs.Common.{option_map, option_and_then, eqb-true, eq-eqb, leb-true, le-leb}
 use Rattle.std.proofs.lemmas.Bool.{false≢true, and_parts}
@@ -31,50 +31,50 @@ use Rattle.printed_rows.proofs.Found.{connection_back, connection_holds}
 
 -- ---- the row of a leg
 
-pub numbers_told : (a b c d e : Option ℕ) (x : LegRow) → leg_numbers a b c d e ≡ Some x
+pub numbers_reported : (a b c d e : Option ℕ) (x : LegRow) → leg_numbers a b c d e ≡ Some x
     → (a ≡ Some x.moment.0) × (b ≡ Some x.enter) × (c ≡ Some x.dep.0) × (d ≡ Some x.exit) × (e ≡ Some x.arr.0)
-numbers_told (Some a) (Some b) (Some c) (Some d) (Some e) x is =
+numbers_reported (Some a) (Some b) (Some c) (Some d) (Some e) x is =
     let same : record { moment = record { 0 = a }; enter = b; dep = record { 0 = c }; exit = d; arr = record { 0 = e } } ≡ x = (cc) in
     (ap (λ (y : LegRow). Some y.moment.0) same, (cc), ap (λ (y : LegRow). Some y.dep.0) same, (cc), ap (λ (y : LegRow). Some y.arr.0) same)
-numbers_told _ _ _ _ _ x is = absurd (cc)
+numbers_reported _ _ _ _ _ x is = absurd (cc)
 
-pub names_told : (a b c : Option ℕ) (known : LegNames) → option_and_then (λ run. option_and_then (λ exit. option_map (λ entry. leg_names run exit entry) c) b) a ≡ Some known
+pub names_reported : (a b c : Option ℕ) (known : LegNames) → option_and_then (λ run. option_and_then (λ exit. option_map (λ entry. leg_names run exit entry) c) b) a ≡ Some known
     → (a ≡ Some known.run.0) × (b ≡ Some known.exit.0) × (c ≡ Some known.entry.0)
-names_told (Some a) (Some b) (Some c) known is =
+names_reported (Some a) (Some b) (Some c) known is =
     let same : leg_names a b c ≡ known = (cc) in
     (ap (λ (k : LegNames). Some k.run.0) same, ap (λ (k : LegNames). Some k.exit.0) same, ap (λ (k : LegNames). Some k.entry.0) same)
-names_told _ _ _ known is = absurd (cc)
+names_reported _ _ _ known is = absurd (cc)
 
-found_told : (test : ℕ → ℕ → Bool) (a b : Option ℕ) (leg : Leg) → option_and_then (λ i. option_and_then (λ j. if test i j then Some (leg_between i j) else None) b) a ≡ Some leg
+found_reported : (test : ℕ → ℕ → Bool) (a b : Option ℕ) (leg : Leg) → option_and_then (λ i. option_and_then (λ j. if test i j then Some (leg_between i j) else None) b) a ≡ Some leg
     → (a ≡ Some leg.enter.0) × (b ≡ Some leg.exit.0) × (test leg.enter.0 leg.exit.0 ≡ true)
-found_told test (Some i) (Some j) leg is =
+found_reported test (Some i) (Some j) leg is =
     let both = some_cases (test i j) (leg_between i j) leg is in
     subst (λ (l : Leg). (Some i ≡ Some l.enter.0) × (Some j ≡ Some l.exit.0) × (test l.enter.0 l.exit.0 ≡ true)) both.1 (refl, refl, both.0)
-found_told test _ _ leg is = absurd (cc)
+found_reported test _ _ leg is = absurd (cc)
 
-pub place_numbers_told : (a b : Option ℕ) (x : PlaceRow) → place_numbers a b ≡ Some x → (a ≡ Some x.change) × (b ≡ Some x.count) × (1 ≤ x.count)
-place_numbers_told (Some a) (Some b) x is =
+pub place_numbers_reported : (a b : Option ℕ) (x : PlaceRow) → place_numbers a b ≡ Some x → (a ≡ Some x.change) × (b ≡ Some x.count) × (1 ≤ x.count)
+place_numbers_reported (Some a) (Some b) x is =
     let some = some_cases (nat_le 1 b) _ x is in
     subst (λ (y : PlaceRow). (Some a ≡ Some y.change) × (Some b ≡ Some y.count) × (1 ≤ y.count)) some.1 (refl, refl, leb-true _ _ some.0)
-place_numbers_told _ _ x is = absurd (cc)
+place_numbers_reported _ _ x is = absurd (cc)
 
-pub head_numbers_told : (a b c d : Option ℕ) (x : HeadRow) → head_numbers a b c d ≡ Some x
+pub head_numbers_reported : (a b c d : Option ℕ) (x : HeadRow) → head_numbers a b c d ≡ Some x
     → (a ≡ Some x.start.0) × (b ≡ Some x.deadline.0) × (c ≡ Some x.lo) × (d ≡ Some x.hi) × (are_in_order x.start.0 x.deadline.0 x.lo x.hi ≡ true)
-head_numbers_told (Some a) (Some b) (Some c) (Some d) x is =
+head_numbers_reported (Some a) (Some b) (Some c) (Some d) x is =
     let order = some_cases (are_in_order a b c d) _ x is in
     subst (λ (y : HeadRow). (Some a ≡ Some y.start.0) × (Some b ≡ Some y.deadline.0) × (Some c ≡ Some y.lo) × (Some d ≡ Some y.hi) × (are_in_order y.start.0 y.deadline.0 y.lo y.hi ≡ true))
     order.1 (refl, refl, refl, refl, order.0)
-head_numbers_told _ _ _ _ x is = absurd (cc)
+head_numbers_reported _ _ _ _ x is = absurd (cc)
 
 module _ (n : NetworkModel) (names : NameLists) (version : Version) (kind : List ℕ) (place : ℕ) (r : List (List ℕ)) where
-  leg_told : (x : LegRow) (known : LegNames) (leg : Leg) → leg_row_in version kind r ≡ Some x → names_in version names place r ≡ Some known → leg_found n x known ≡ Some leg
+  leg_reported : (x : LegRow) (known : LegNames) (leg : Leg) → leg_row_in version kind r ≡ Some x → names_in version names place r ≡ Some known → leg_found n x known ≡ Some leg
       → IsLegRow n names version kind place x.moment.0 leg r × IsLegOf n leg
-  leg_told x known leg row_is names_are found =
+  leg_reported x known leg row_is names_are found =
       let row = if_cases (is_kind kind (width_of version) r)
       (leg_numbers (moment_at (field r 1)) (whole_at (field r 3)) (moment_at (field r 4)) (whole_at (field r 5)) (moment_at (field r 7))) x row_is in
-      let fields = numbers_told _ _ _ _ _ x row.1 in
-      let texts = names_told _ _ _ known names_are in
-      let ends = found_told (λ i j. agrees n i j x known) (connection_of n known.run.0 x.enter) (connection_of n known.run.0 x.exit) leg found in
+      let fields = numbers_reported _ _ _ _ _ x row.1 in
+      let texts = names_reported _ _ _ known names_are in
+      let ends = found_reported (λ i j. agrees n i j x known) (connection_of n known.run.0 x.enter) (connection_of n known.run.0 x.exit) leg found in
       let enter = connection_holds n known.run.0 x.enter leg.enter.0 ends.0 in
       let exit = connection_holds n known.run.0 x.exit leg.exit.0 ends.1 in
       let onward = and_parts (nat_le x.enter x.exit) _ ends.2 in
@@ -104,7 +104,7 @@ module _ (n : NetworkModel) (names : NameLists) (version : Version) (kind : List
         },
       )
 
-  module _ (valid : IsValid n) (moment : ℕ) (leg : Leg) (is_leg : IsLegOf n leg) (told : IsLegRow n names version kind place moment leg r) where
+  module _ (valid : IsValid n) (moment : ℕ) (leg : Leg) (is_leg : IsLegOf n leg) (reported : IsLegRow n names version kind place moment leg r) where
     abbrev numbers : LegRow
     numbers = record {
       moment = record { 0 = moment };
@@ -118,10 +118,10 @@ module _ (n : NetworkModel) (names : NameLists) (version : Version) (kind : List
     known = leg_names (run_of n leg.enter.0) (to_of n leg.exit.0) (from_of n leg.enter.0)
 
     numbers_read : leg_row_in version kind r ≡ Some numbers
-    numbers_read = rw (told.is_of_kind, told.by, told.enter, told.departure, told.exit, told.arrival) refl
+    numbers_read = rw (reported.is_of_kind, reported.by, reported.enter, reported.departure, reported.exit, reported.arrival) refl
 
     names_read : names_in version names place r ≡ Some known
-    names_read = rw (told.run, told.to, told.from) refl
+    names_read = rw (reported.run, reported.to, reported.from) refl
 
     all_agree : agrees n leg.enter.0 leg.exit.0 numbers known ≡ true
     all_agree = rw (
@@ -143,49 +143,49 @@ module _ (n : NetworkModel) (names : NameLists) (version : Version) (kind : List
 
 module _ (n : NetworkModel) (names : NameLists) (version : Version) (line : ℕ) (r : List (List ℕ)) where
   -- the start row
-  pub start_told : (source start : ℕ) (leg : Leg) → start_in n names version line source start r ≡ Ok leg
+  pub start_reported : (source start : ℕ) (leg : Leg) → start_in n names version line source start r ≡ Ok leg
       → IsLegRow n names version (codes "start") source (dep_of n leg.enter.0) leg r × IsLegOf n leg × (from_of n leg.enter.0 ≡ source) × (start ≤ dep_of n leg.enter.0)
-  start_told source start leg is =
+  start_reported source start leg is =
       let x = require-ok (leg_row_in version (codes "start") r) _ _ leg is in
       let known = require-ok (names_in version names source r) _ _ leg x.2 in
       let found = require-ok (leg_found n x.0 known.0) _ _ leg known.2 in
       let own = if-value (can_start n source start x.0.moment.0 found.0) _ _ leg found.2 in
-      let told = leg_told n names version (codes "start") source r x.0 known.0 found.0 x.1 known.1 found.1 in
+      let reported = leg_reported n names version (codes "start") source r x.0 known.0 found.0 x.1 known.1 found.1 in
       let leaves = and_parts (from_of n found.0.enter.0 == source) _ own.0 in
       let departs = and_parts (x.0.moment.0 == dep_of n found.0.enter.0) _ leaves.1 in
       let same : found.0 ≡ leg = (cc) in
       subst (λ (l : Leg). IsLegRow n names version (codes "start") source (dep_of n l.enter.0) l r × IsLegOf n l × (from_of n l.enter.0 ≡ source) × (start ≤ dep_of n l.enter.0)) same (
-        subst (λ (m : ℕ). IsLegRow n names version (codes "start") source m found.0 r) (eqb-true _ _ departs.0) told.0,
-        told.1,
+        subst (λ (m : ℕ). IsLegRow n names version (codes "start") source m found.0 r) (eqb-true _ _ departs.0) reported.0,
+        reported.1,
         eqb-true _ _ leaves.0,
         leb-true _ _ departs.1,
       )
 
   pub start_read : IsValid n → (source start : ℕ) (leg : Leg) → IsLegRow n names version (codes "start") source (dep_of n leg.enter.0) leg r → IsLegOf n leg
       → from_of n leg.enter.0 ≡ source → start ≤ dep_of n leg.enter.0 → start_in n names version line source start r ≡ Ok leg
-  start_read valid source start leg told is_leg leaves in_time =
+  start_read valid source start leg reported is_leg leaves in_time =
       rw (
-        numbers_read n names version (codes "start") source r valid (dep_of n leg.enter.0) leg is_leg told,
-        names_read n names version (codes "start") source r valid (dep_of n leg.enter.0) leg is_leg told,
-        found_read n names version (codes "start") source r valid (dep_of n leg.enter.0) leg is_leg told,
+        numbers_read n names version (codes "start") source r valid (dep_of n leg.enter.0) leg is_leg reported,
+        names_read n names version (codes "start") source r valid (dep_of n leg.enter.0) leg is_leg reported,
+        found_read n names version (codes "start") source r valid (dep_of n leg.enter.0) leg is_leg reported,
         eq-eqb (from_of n leg.enter.0) source leaves,
         eq-eqb (dep_of n leg.enter.0) (dep_of n leg.enter.0) refl,
         le-leb start (dep_of n leg.enter.0) in_time,
       ) refl
 
   -- a row of a table
-  pub row_told : (place : ℕ) (last : Option ℕ) (row : GraphRow) → row_in n names version line place last r ≡ Ok row
+  pub row_reported : (place : ℕ) (last : Option ℕ) (row : GraphRow) → row_in n names version line place last r ≡ Ok row
       → (rises last row.by.0 ≡ true) × IsLegRow n names version (codes "leg") place row.by.0 row.leg r × IsFitRow n place row
-  row_told place last row is =
+  row_reported place last row is =
       let x = require-ok (leg_row_in version (codes "leg") r) _ _ row is in
       let known = require-ok (names_in version names place r) _ _ row x.2 in
       let up = if-value (rises last x.0.moment.0) _ _ row known.2 in
       let found = require-ok (leg_found n x.0 known.0) _ _ row up.1 in
       let by = if-value (is_by_limit n place x.0.moment.0 found.0) _ _ row found.2 in
-      let told = leg_told n names version (codes "leg") place r x.0 known.0 found.0 x.1 known.1 found.1 in
+      let reported = leg_reported n names version (codes "leg") place r x.0 known.0 found.0 x.1 known.1 found.1 in
       let same : record { by = x.0.moment; leg = found.0 } ≡ row = (cc) in
       subst (λ (w : GraphRow). (rises last w.by.0 ≡ true) × IsLegRow n names version (codes "leg") place w.by.0 w.leg r × IsFitRow n place w) same
-      (up.0, told.0, record { is_leg = told.1; by = limit_is (limit_of n place found.0) by.0 })
+      (up.0, reported.0, record { is_leg = reported.1; by = limit_is (limit_of n place found.0) by.0 })
     where
       limit_is : (found : Option ℕ) {moment : ℕ} → is_limit found moment ≡ true → found ≡ Some moment
       limit_is None is = absurd (false≢true is)
@@ -193,45 +193,45 @@ module _ (n : NetworkModel) (names : NameLists) (version : Version) (line : ℕ)
 
   pub row_read : IsValid n → (place : ℕ) (last : Option ℕ) (row : GraphRow) → rises last row.by.0 ≡ true → IsLegRow n names version (codes "leg") place row.by.0 row.leg r → IsFitRow n place row
       → row_in n names version line place last r ≡ Ok row
-  row_read valid place last row later told fit =
+  row_read valid place last row later reported fit =
       rw (
-        numbers_read n names version (codes "leg") place r valid row.by.0 row.leg fit.is_leg told,
-        names_read n names version (codes "leg") place r valid row.by.0 row.leg fit.is_leg told,
+        numbers_read n names version (codes "leg") place r valid row.by.0 row.leg fit.is_leg reported,
+        names_read n names version (codes "leg") place r valid row.by.0 row.leg fit.is_leg reported,
         later,
-        found_read n names version (codes "leg") place r valid row.by.0 row.leg fit.is_leg told,
+        found_read n names version (codes "leg") place r valid row.by.0 row.leg fit.is_leg reported,
         fit.by,
         eq-eqb row.by.0 row.by.0 refl,
       ) refl
 
   -- a place row
-  pub table_told : (last : Option ℕ) (t : TableStart) → table_in n names version line last r ≡ Ok t
+  pub table_reported : (last : Option ℕ) (t : TableStart) → table_in n names version line last r ≡ Ok t
       → (rises last t.place.0 ≡ true) × IsPlaceRow n names version t.place.0 t.count r × (1 ≤ t.count)
-  table_told last t is =
+  table_reported last t is =
       let x = require-ok (place_row_in version r) _ _ t is in
       let place = require-ok (number_of names.places (field r 1)) _ _ t x.2 in
       let up = if-value (rises last place.0) _ _ t place.2 in
       let change = if-value (x.0.change == change_of n place.0) _ _ t up.1 in
       let same : record { place = record { 0 = place.0 }; count = x.0.count } ≡ t = (cc) in
       let row = if_cases (is_place version r) (place_numbers (whole_at (field r 2)) (whole_at (field r 3))) x.0 x.1 in
-      let numbers = place_numbers_told _ _ x.0 row.1 in
+      let numbers = place_numbers_reported _ _ x.0 row.1 in
       subst (λ (u : TableStart). (rises last u.place.0 ≡ true) × IsPlaceRow n names version u.place.0 u.count r × (1 ≤ u.count)) same
       (up.0, record { is_of_kind = row.0; name = place.1; change = numbers.0 ∙ ap Some (eqb-true _ _ change.0); rows = numbers.1 }, numbers.2)
 
   pub table_read : (last : Option ℕ) (t : TableStart) → rises last t.place.0 ≡ true → IsPlaceRow n names version t.place.0 t.count r → 1 ≤ t.count → table_in n names version line last r ≡ Ok t
-  table_read last t later told some =
-      rw (told.is_of_kind, told.change, told.rows, le-leb 1 t.count some, told.name, later, eq-eqb (change_of n t.place.0) (change_of n t.place.0) refl) refl
+  table_read last t later reported some =
+      rw (reported.is_of_kind, reported.change, reported.rows, le-leb 1 t.count some, reported.name, later, eq-eqb (change_of n t.place.0) (change_of n t.place.0) refl) refl
 
 -- the first row
 module _ (names : NameLists) (version : Version) (r : List (List ℕ)) (number : version_in r ≡ Some version) where
-  pub head_told : (source target start : ℕ) (head : Head) → head_in names version source target start r ≡ Ok head → IsHeadRow names version head r × IsHeadOf source target start head
-  head_told source target start head is =
+  pub head_reported : (source target start : ℕ) (head : Head) → head_in names version source target start r ≡ Ok head → IsHeadRow names version head r × IsHeadOf source target start head
+  head_reported source target start head is =
       let x = require-ok (head_row_in version r) _ _ head is in
       let from = require-ok (number_of names.places (field r 2)) _ _ head x.2 in
       let to = require-ok (number_of names.places (field r 3)) _ _ head from.2 in
       let asked = if-value (is_query from.0 to.0 x.0.start.0 source target start) _ _ head to.2 in
       let same : head_of source target start x.0 ≡ head = (cc) in
       let row = if_cases (is_head version r) (head_numbers (moment_at (field r 4)) (moment_at (field r 5)) (nanos_at (field r 6)) (nanos_at (field r 7))) x.0 x.1 in
-      let numbers = head_numbers_told _ _ _ _ x.0 row.1 in
+      let numbers = head_numbers_reported _ _ _ _ x.0 row.1 in
       let order = and_parts (nat_le x.0.start.0 x.0.deadline.0) _ numbers.4 in
       let of_source = and_parts (from.0 == source) _ asked.0 in
       let of_target = and_parts (to.0 == target) (x.0.start.0 == start) of_source.1 in
@@ -258,18 +258,18 @@ module _ (names : NameLists) (version : Version) (r : List (List ℕ)) (number :
 
   pub head_read : (head : Head) → IsHeadRow names version head r → head.query.start.0 ≤ head.query.deadline.0 → head.bounds.lo ≤ head.bounds.hi
       → head_in names version head.query.source.0 head.query.target.0 head.query.start.0 r ≡ Ok head
-  head_read head told in_time bounds =
+  head_read head reported in_time bounds =
       let q = head.query in
       rw (
-        told.is_of_kind,
-        told.start,
-        told.deadline,
-        told.lo,
-        told.hi,
+        reported.is_of_kind,
+        reported.start,
+        reported.deadline,
+        reported.lo,
+        reported.hi,
         le-leb q.start.0 q.deadline.0 in_time,
         le-leb head.bounds.lo head.bounds.hi bounds,
-        told.source,
-        told.target,
+        reported.source,
+        reported.target,
         eq-eqb q.source.0 q.source.0 refl,
         eq-eqb q.target.0 q.target.0 refl,
         eq-eqb q.start.0 q.start.0 refl,

@@ -1,4 +1,4 @@
--- A step of reading, and the rows of tables, which are read as the tables that they tell, and as no others.
+-- A step of reading, and the rows of tables, which are read as the tables that they give, and as no others.
 use Rattle.std.proofs.Common.{◌≡◌, ℕ, ◌+◌, ◌<◌, List, [], ◌∷◌, length, drop, Option, Some, Ok, Err, Result, arith, sym, ap, subst, refl, ◌∙◌, ◌≢◌, suc, ◌-◌}
 use Rattle.std.proofs.Common.{◌≤◌, true, ◌++◌, None, All, AllPairs, inl, inr, append_assoc, ◌==◌, slice_index_or, if◌then◌else◌, codes, option_map, IsErr}
 use Rattle.std.proofs.Common.{IsErrAnd, ne_eqb, eqb-true, eq-eqb, ltb-true, lt-ltb, append-nil}
@@ -27,7 +27,7 @@ use Rattle.plan_graph.specs.Tidy.{IsFitRow, IsFitTable}
 use Rattle.graph_text.specs.declared.reader.TableStart.{TableStart}
 use Rattle.printed_rows.specs.Fields.{rises}
 use Rattle.printed_rows.proofs.Chains.{and_then-value, if-value}
-use Rattle.graph_text.proofs.Rows.{row_told, row_read, table_told, table_read}
+use Rattle.graph_text.proofs.Rows.{row_reported, row_read, table_reported, table_read}
 
 -- where leg rows are to come
 pub leg_step : (n : NetworkModel) (names : NameLists) (version : Version) (line : ℕ) (r : List (List ℕ)) (s : Reading) (place : PlaceId) → (s.remaining ≡ 0 → ⊥)
@@ -37,15 +37,15 @@ leg_step n names version line r s place some is =
     (option_map (λ moment. moment.0) s.by) r)) is))
 
 -- what is read where a step failed is so of what `?` raises again
-pub read_raised : {A : Type 0} (fault : TextFault) (r told : Result A TextFault) → IsErr r × IsErrAnd r (λ raised. raised ≡ fault)
-    → IsUnlessNoMemory (Err fault) told → IsUnlessNoMemory r told
-read_raised fault (Ok a) told raised is = absurd raised.1
-read_raised {A} fault (Err again) told raised is = subst (λ (f : TextFault). IsUnlessNoMemory {A = A} (Err f) told) (sym raised.1) is
+pub read_raised : {A : Type 0} (fault : TextFault) (r reported : Result A TextFault) → IsErr r × IsErrAnd r (λ raised. raised ≡ fault)
+    → IsUnlessNoMemory (Err fault) reported → IsUnlessNoMemory r reported
+read_raised fault (Ok a) reported raised is = absurd raised.1
+read_raised {A} fault (Err again) reported raised is = subst (λ (f : TextFault). IsUnlessNoMemory {A = A} (Err f) reported) (sym raised.1) is
 
-pub fault_on : {A B : Type 0} (fault : TextFault) (told : Result A TextFault) (next : A → Result B TextFault) → IsUnlessNoMemory {A = A} (Err fault) told
-    → IsUnlessNoMemory {A = B} (Err fault) (and_then told next)
-fault_on f.NoMemory told next is = tt
-fault_on _ told next is = ap (λ r. and_then r next) is
+pub fault_on : {A B : Type 0} (fault : TextFault) (reported : Result A TextFault) (next : A → Result B TextFault) → IsUnlessNoMemory {A = A} (Err fault) reported
+    → IsUnlessNoMemory {A = B} (Err fault) (and_then reported next)
+fault_on f.NoMemory reported next is = tt
+fault_on _ reported next is = ap (λ r. and_then r next) is
 
 -- the tables of the records from one on, after the step of this one
 pub tables_after : (n : NetworkModel) (names : NameLists) (version : Version) (rows : List (List (List ℕ))) (line i : ℕ) (s now : Reading) → i < length rows
@@ -57,23 +57,23 @@ tables_after n names version rows line i s now within is =
 pub tables_fail : (n : NetworkModel) (names : NameLists) (version : Version) (rows : List (List (List ℕ))) (line i : ℕ) (s : Reading) (fault : TextFault)
     → i < length rows → IsUnlessNoMemory {A = Reading} (Err fault) (step n names version line (slice_index_or rows i []) s)
     → IsUnlessNoMemory {A = List PlaceTable} (Err fault) (place_tables_from n names version (drop i rows) line s)
-tables_fail n names version rows line i s fault within told =
+tables_fail n names version rows line i s fault within reported =
     rw (split_at rows i [] within)
-    (fault_on fault (step n names version line (slice_index_or rows i []) s) (place_tables_from n names version (drop (i + 1) rows) (line + 1)) told)
+    (fault_on fault (step n names version line (slice_index_or rows i []) s) (place_tables_from n names version (drop (i + 1) rows) (line + 1)) reported)
 
--- what the first row and the graph of the others tell together
-pub told_by : (n : NetworkModel) (names : NameLists) (version : Version) (source target start : ℕ) (rows : List (List (List ℕ))) (head : Head) (r : Result (Head × PlanGraph) TextFault)
+-- what the first row and the graph of the others give together
+pub reported_by : (n : NetworkModel) (names : NameLists) (version : Version) (source target start : ℕ) (rows : List (List (List ℕ))) (head : Head) (r : Result (Head × PlanGraph) TextFault)
     → Some version ≡ version_in (slice_index_or rows 0 []) → Ok head ≡ head_in names version source target start (slice_index_or rows 0 [])
     → IsUnlessNoMemory r (and_then (graph_after_first n names version source target start (drop 1 rows)) (λ graph. Ok (head, graph)))
     → IsUnlessNoMemory r (graph_of_records n names source target start rows)
-told_by n names version source target start [] head r found is read = absurd (cc)
-told_by n names version source target start (first ∷ rows) head r found is read = rw (← found, ← is) read
+reported_by n names version source target start [] head r found is read = absurd (cc)
+reported_by n names version source target start (first ∷ rows) head r found is read = rw (← found, ← is) read
 
--- ---- the rows of tables are read as the tables that they tell, and as no others
+-- ---- the rows of tables are read as the tables that they give, and as no others
 
 -- ---- numbers that rise
 
--- each is above the one before it, and the first above the one that may stand before
+-- each is above the one before it, and the first above the one that may come before
 abbrev pub RiseFrom : {X : Type 0} → (X → ℕ) → Option ℕ → List X → Type 0
 RiseFrom number last [] = Unit {0}
 RiseFrom number last (x ∷ xs) = (rises last (number x) ≡ true) × RiseFrom number (Some (number x)) xs
@@ -108,8 +108,8 @@ place_number t = t.place.0
 
 -- ---- what is read after some rows
 
-pub place_row_is : (s now : Reading) (told : Result TableStart TextFault) → after_place_row s told ≡ Ok now
-    → (t : TableStart) × (told ≡ Ok t) × (record { done = s.done; place = Some t.place; rows = []; by = None; remaining = t.count } ≡ now)
+pub place_row_is : (s now : Reading) (reported : Result TableStart TextFault) → after_place_row s reported ≡ Ok now
+    → (t : TableStart) × (reported ≡ Ok t) × (record { done = s.done; place = Some t.place; rows = []; by = None; remaining = t.count } ≡ now)
 place_row_is s now (Ok t) is = (t, refl, (cc))
 place_row_is s now (Err e) is = absurd (cc)
 
@@ -120,13 +120,13 @@ module _ (s : Reading) (row : GraphRow) where
   abbrev pub after_row : Reading
   after_row = record { done = s.done; place = s.place; rows = s.rows ++ row ∷ []; by = Some row.by; remaining = s.remaining - 1 }
 
-pub leg_row_is : (s now : Reading) (told : Result GraphRow TextFault) → after_leg_row s told ≡ Ok now
-    → (row : GraphRow) × (told ≡ Ok row) × (◌≡◌ {A = Result Reading TextFault} (if s.remaining == 1 then Ok (after_last s row) else Ok (after_row s row)) (Ok now))
+pub leg_row_is : (s now : Reading) (reported : Result GraphRow TextFault) → after_leg_row s reported ≡ Ok now
+    → (row : GraphRow) × (reported ≡ Ok row) × (◌≡◌ {A = Result Reading TextFault} (if s.remaining == 1 then Ok (after_last s row) else Ok (after_row s row)) (Ok now))
 leg_row_is s now (Ok row) is = (row, refl, is)
 leg_row_is s now (Err e) is = absurd (cc)
 
 module _ (n : NetworkModel) (names : NameLists) (version : Version) where
-  -- these rows tell the rows of a table that are to come
+  -- these rows give the rows of a table that are to come
   abbrev AreLater : ℕ → Option ℕ → List GraphRow → List (List (List ℕ)) → Type 0
   AreLater place by later own = AreLegRows n names version place later own × All (IsFitRow n place) later × RiseFrom by_number by later
 
@@ -156,9 +156,9 @@ module _ (n : NetworkModel) (names : NameLists) (version : Version) where
     with_place : (t : TableStart) → s.remaining ≡ 0 → table_in n names version line (option_map (λ place. place.0) s.place) r ≡ Ok t
         → Continues (record { done = s.done; place = Some t.place; rows = []; by = None; remaining = t.count }) rs tables → Continues s (r ∷ rs) tables
     with_place t none is next =
-        let told = table_told n names version line r (option_map (λ place. place.0) s.place) t is in
+        let reported = table_reported n names version line r (option_map (λ place. place.0) s.place) t is in
         let table : IsFitTable n (record { place = t.place; rows = next.later }) =
-        record { some = omega (arith, next.many, told.2); rows = next.legs.1; rising = pairs_from_rise by_number None next.later next.legs.2 } in
+        record { some = omega (arith, next.many, reported.2); rows = next.legs.1; rising = pairs_from_rise by_number None next.later next.legs.2 } in
         record {
           later = [];
           own = [];
@@ -168,18 +168,18 @@ module _ (n : NetworkModel) (names : NameLists) (version : Version) where
           many = sym none;
           legs = (tt, All-nil (IsFitRow n (place_or_first s.place).0), tt);
           table_rows = (
-            (subst (λ k. IsPlaceRow n names version t.place.0 k r) (sym next.many) told.1, (next.own, next.rest, next.split, next.legs.0, next.table_rows.0)),
+            (subst (λ k. IsPlaceRow n names version t.place.0 k r) (sym next.many) reported.1, (next.own, next.rest, next.split, next.legs.0, next.table_rows.0)),
             All-cons (IsFitTable n) (record { place = t.place; rows = next.later }) next.more table next.table_rows.1,
-            (told.0, next.table_rows.2),
+            (reported.0, next.table_rows.2),
           );
-          closed = λ zero_left. next.opened (λ no_rows. omega (arith, no_rows, told.2));
+          closed = λ zero_left. next.opened (λ no_rows. omega (arith, no_rows, reported.2));
           opened = λ some. absurd (some none);
         }
 
     module _ (row : GraphRow) (is : row_in n names version line (place_or_first s.place).0 (option_map (λ moment. moment.0) s.by) r ≡ Ok row) where
       with_last : s.remaining ≡ 1 → Continues (after_last s row) rs tables → Continues s (r ∷ rs) tables
       with_last one next =
-          let told = row_told n names version line r (place_or_first s.place).0 (option_map (λ moment. moment.0) s.by) row is in
+          let reported = row_reported n names version line r (place_or_first s.place).0 (option_map (λ moment. moment.0) s.by) row is in
           let none = no_rows (place_or_first s.place).0 next.later next.own next.many next.legs.0 in
           record {
             later = row ∷ [];
@@ -189,9 +189,9 @@ module _ (n : NetworkModel) (names : NameLists) (version : Version) where
             split = ap (λ (list : List (List (List ℕ))). r ∷ list) (next.split ∙ ap (λ (list : List (List (List ℕ))). list ++ next.rest) none);
             many = sym one;
             legs = (
-              (told.1, tt),
-              All-cons (IsFitRow n (place_or_first s.place).0) row [] told.2 (All-nil (IsFitRow n (place_or_first s.place).0)),
-              (told.0, tt),
+              (reported.1, tt),
+              All-cons (IsFitRow n (place_or_first s.place).0) row [] reported.2 (All-nil (IsFitRow n (place_or_first s.place).0)),
+              (reported.0, tt),
             );
             table_rows = next.table_rows;
             closed = λ none_left. absurd (omega (arith, none_left, one));
@@ -200,7 +200,7 @@ module _ (n : NetworkModel) (names : NameLists) (version : Version) where
 
       with_row : (s.remaining ≡ 0 → ⊥) → s.remaining ≢ 1 → Continues (after_row s row) rs tables → Continues s (r ∷ rs) tables
       with_row some many next =
-          let told = row_told n names version line r (place_or_first s.place).0 (option_map (λ moment. moment.0) s.by) row is in
+          let reported = row_reported n names version line r (place_or_first s.place).0 (option_map (λ moment. moment.0) s.by) row is in
           record {
             later = row ∷ next.later;
             own = r ∷ next.own;
@@ -208,7 +208,7 @@ module _ (n : NetworkModel) (names : NameLists) (version : Version) where
             more = next.more;
             split = ap (λ (list : List (List (List ℕ))). r ∷ list) next.split;
             many = let fewer = next.many in omega arith;
-            legs = ((told.1, next.legs.0), All-cons (IsFitRow n (place_or_first s.place).0) row next.later told.2 next.legs.1, (told.0, next.legs.2));
+            legs = ((reported.1, next.legs.0), All-cons (IsFitRow n (place_or_first s.place).0) row next.later reported.2 next.legs.1, (reported.0, next.legs.2));
             table_rows = next.table_rows;
             closed = λ none_left. absurd (some none_left);
             opened = λ more. next.opened (λ none_left. omega arith)
@@ -218,27 +218,27 @@ module _ (n : NetworkModel) (names : NameLists) (version : Version) where
     after_step : (now : Reading) → step n names version line r s ≡ Ok now → Continues now rs tables → Continues s (r ∷ rs) tables
     after_step now is next = elim (cases_eq s.remaining 0) [
       | inl none ↦
-          let (t, told, same) = place_row_is s now (table_in n names version line (option_map (λ place. place.0) s.place) r)
+          let (t, reported, same) = place_row_is s now (table_in n names version line (option_map (λ place. place.0) s.place) r)
           (rw (eq-eqb s.remaining 0 none) at is) in
-          with_place t none told (subst (λ u. Continues u rs tables) (sym same) next)
+          with_place t none reported (subst (λ u. Continues u rs tables) (sym same) next)
       | inr some ↦
           let place = (place_or_first s.place).0 in
-          let (row, told, more) = leg_row_is s now (row_in n names version line place (option_map (λ moment. moment.0) s.by) r)
+          let (row, reported, more) = leg_row_is s now (row_in n names version line place (option_map (λ moment. moment.0) s.by) r)
           (rw (ne_eqb s.remaining 0 some) at is) in
           elim (cases_eq s.remaining 1) [
             | inl one ↦
                 let last = rw (eq-eqb s.remaining 1 one) at more in
                 let same : after_last s row ≡ now = (cc) in
-                with_last row told one (subst (λ u. Continues u rs tables) (sym same) next)
+                with_last row reported one (subst (λ u. Continues u rs tables) (sym same) next)
             | inr many ↦
                 let further = rw (ne_eqb s.remaining 1 many) at more in
                 let same : after_row s row ≡ now = (cc) in
-                with_row row told some many (subst (λ u. Continues u rs tables) (sym same) next)
+                with_row row reported some many (subst (λ u. Continues u rs tables) (sym same) next)
           ]
     ]
 
-  tables_told : (rs : List (List (List ℕ))) (line : ℕ) (s : Reading) (tables : List PlaceTable) → place_tables_from n names version rs line s ≡ Ok tables → Continues s rs tables
-  tables_told [] line s tables is =
+  tables_reported : (rs : List (List (List ℕ))) (line : ℕ) (s : Reading) (tables : List PlaceTable) → place_tables_from n names version rs line s ≡ Ok tables → Continues s rs tables
+  tables_reported [] line s tables is =
       let both = if-value (s.remaining == 0) (Ok s.done) (f.Row line) tables is in
       let none = eqb-true s.remaining 0 both.0 in
       let same : s.done ≡ tables = (cc) in
@@ -254,19 +254,19 @@ module _ (n : NetworkModel) (names : NameLists) (version : Version) where
         closed = λ zero_left. sym (append-nil s.done ∙ same);
         opened = λ some. absurd (some none);
       }
-  tables_told (r ∷ rs) line s tables is =
-      let (now, told, rest) = and_then-value (step n names version line r s) (place_tables_from n names version rs (line + 1)) tables is in
-      after_step line r rs s tables now told (tables_told rs (line + 1) now tables rest)
+  tables_reported (r ∷ rs) line s tables is =
+      let (now, reported, rest) = and_then-value (step n names version line r s) (place_tables_from n names version rs (line + 1)) tables is in
+      after_step line r rs s tables now reported (tables_reported rs (line + 1) now tables rest)
 
   -- all of them
-  pub all_told : (rs : List (List (List ℕ))) (line : ℕ) (tables : List PlaceTable) → place_tables_from n names version rs line no_tables ≡ Ok tables
+  pub all_reported : (rs : List (List (List ℕ))) (line : ℕ) (tables : List PlaceTable) → place_tables_from n names version rs line no_tables ≡ Ok tables
       → AreTableRows n names version tables rs × All (IsFitTable n) tables × AllPairs (λ a b. a.place.0 < b.place.0) tables
-  all_told rs line tables is =
-      let told = tables_told rs line no_tables tables is in
-      let own = no_rows 0 told.later told.own told.many told.legs.0 in
-      let same : told.rest ≡ rs = sym (told.split ∙ ap (λ (list : List (List (List ℕ))). list ++ told.rest) own) in
-      subst (λ (ts : List PlaceTable). AreTableRows n names version ts rs × All (IsFitTable n) ts × AllPairs (λ a b. a.place.0 < b.place.0) ts) (sym (told.closed refl))
-      (subst (AreTableRows n names version told.more) same told.table_rows.0, told.table_rows.1, pairs_from_rise place_number None told.more told.table_rows.2)
+  all_reported rs line tables is =
+      let reported = tables_reported rs line no_tables tables is in
+      let own = no_rows 0 reported.later reported.own reported.many reported.legs.0 in
+      let same : reported.rest ≡ rs = sym (reported.split ∙ ap (λ (list : List (List (List ℕ))). list ++ reported.rest) own) in
+      subst (λ (ts : List PlaceTable). AreTableRows n names version ts rs × All (IsFitTable n) ts × AllPairs (λ a b. a.place.0 < b.place.0) ts) (sym (reported.closed refl))
+      (subst (AreTableRows n names version reported.more) same reported.table_rows.0, reported.table_rows.1, pairs_from_rise place_number None reported.more reported.table_rows.2)
 
   -- ---- and the other way round
 
@@ -277,10 +277,10 @@ module _ (n : NetworkModel) (names : NameLists) (version : Version) where
     row_step : (line : ℕ) (r : List (List ℕ)) (done : List PlaceTable) (place : PlaceId) (before : List GraphRow) (last : Option Moment) (remaining : ℕ) (row : GraphRow) → (remaining ≡ 0 → ⊥)
         → IsLegRow n names version (codes "leg") place.0 row.by.0 row.leg r → IsFitRow n place.0 row → rises (option_map (λ moment. moment.0) last) row.by.0 ≡ true
         → step n names version line r (with_rows done place before last remaining) ≡ after_leg_row (with_rows done place before last remaining) (Ok row)
-    row_step line r done place before last remaining row some told fit later =
+    row_step line r done place before last remaining row some reported fit later =
         sym (leg_step n names version line r (with_rows done place before last remaining) place some refl)
         ∙ ap (λ (read : Result GraphRow TextFault). after_leg_row (with_rows done place before last remaining) read)
-        (row_read n names version line r valid place.0 (option_map (λ moment. moment.0) last) row later told fit)
+        (row_read n names version line r valid place.0 (option_map (λ moment. moment.0) last) row later reported fit)
 
     rows_read : (rows : List GraphRow) (own rest : List (List (List ℕ))) (line : ℕ) (done : List PlaceTable) (place : PlaceId) (before : List GraphRow)
         (last : Option Moment) (remaining : ℕ) (all : List PlaceTable) → remaining ≡ length rows → 1 ≤ remaining

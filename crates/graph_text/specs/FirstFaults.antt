@@ -1,4 +1,4 @@
--- The first fault of a text that tells no graph: the rows before its line are those of a graph, and the row of its line breaks a rule.
+-- The first fault of a text that is no graph: the rows before its line are those of a graph, and the row of its line breaks a rule.
 use Rattle.std.specs.Prelude.{◌≡◌, ◌≢◌, ℕ, zero, suc, ◌+◌, ◌≤◌, List, [], ◌∷◌, Option, Some, None, IsSome, IsTrue, ◌⊎◌, codes}
 use Rattle.clock_text.specs.Times.{moment_at, nanos_at}
 use Rattle.csv_rows.specs.Tables.{table_of}
@@ -68,7 +68,7 @@ pub record IsStartOf (network : NetworkModel) (names : NameLists) (version : Ver
   pub leaves : from_of network leg.enter.0 ≡ source
   pub in_time : start ≤ dep_of network leg.enter.0
 
--- the start row, which stands where source and target differ
+-- the start row, which is there where source and target differ
 abbrev pub BreaksAtStart : NetworkModel → NameLists → Version → ℕ → ℕ → ℕ → List (List ℕ) → TextFault → Type 0
 BreaksAtStart network names version source target start r =
     Breaks 2 ((source ≢ target) × ((moment : ℕ) × HasLegForm version (codes "start") moment r)) (HasLegNames names version source r) (Unit {0})
@@ -94,7 +94,7 @@ BreaksAtPlace network names version line last r =
 
 -- ---- the rules on the first row
 
--- it tells a version, two moments and two bounds, each pair in order
+-- it gives a version, two moments and two bounds, each pair in order
 pub record HasHeadForm (version : Version) (r : List (List ℕ)) : Type 0 where
   pub is_of_kind : IsTrue (is_head version r)
   pub number : version_in r ≡ Some version
@@ -117,12 +117,12 @@ BreaksAtHead names source target start r =
 
 -- ---- the rows of a text
 
--- what is to come at a line: the row of a place after the last one, or the end; or a leg row of a place by a moment after the last one, and so many more
+-- what is to come at a line: the row of a place after the last one, or the end; or a leg row of a place by a moment after the last one, and this many more
 pub data Coming : Type 0 where
   PlaceNext : Option ℕ → Coming
   LegNext : ℕ → ℕ → Option ℕ → Coming
 
--- after a leg row of a place, by a moment, where so many more of it were to come
+-- after a leg row of a place, by a moment, where this many more of it were to come
 abbrev pub after_leg : ℕ → ℕ → ℕ → Coming
 after_leg place zero moment = PlaceNext (Some place)
 after_leg place (suc more) moment = LegNext place more (Some moment)

@@ -1,4 +1,4 @@
--- Which texts tell a graph by place. `Reading` has how the graph is found in the rows, and the first fault of a text that tells none.
+-- Which texts are graphs by place. `Reading` has how the graph is found in the rows, and the first fault of a text that is none.
 use Rattle.std.specs.Prelude.{◌≡◌, ℕ, ◌≤◌, List, [], ◌∷◌, ◌++◌, length, Bool, true, ◌==◌, ◌&&◌, if◌then◌else◌, codes, Option, Some, None, IsTrue}
 use Rattle.std.specs.Str.{bytes_eq}
 use Rattle.clock_text.specs.Times.{moment_at, nanos_at}
@@ -35,7 +35,7 @@ is_blank r = (length (field r 4) == 0) && ((length (field r 5) == 0) && ((length
 abbrev pub is_place : Version → List (List ℕ) → Bool
 is_place version r = is_kind (codes "place") (width_of version) r && (is_blank r && has_no_entry version r)
 
--- the version that the first row tells
+-- the version that the first row gives
 abbrev pub version_in : List (List ℕ) → Option Version
 version_in r =
     if bytes_eq (field r 1) (number_of_version First)

@@ -62,7 +62,7 @@ abbrev pub rides_text : NetworkModel → NameLists → Version → List Ride →
 rides_text network names version [] = []
 rides_text network names version (r ∷ rides) = ride_text network names version r ++ rides_text network names version rides
 
--- the text of a graph by ride, of a version; where source and target are one place only the first row stands
+-- the text of a graph by ride, of a version; where source and target are one place there is only the first row
 abbrev pub expanded_text_in : NetworkModel → NameLists → Version → Head → ExpandedGraph → List ℕ
 expanded_text_in network names version head graph =
     head_row names version (codes "expanded") head
@@ -90,7 +90,7 @@ abbrev pub tables_text : NetworkModel → NameLists → Version → List PlaceTa
 tables_text network names version [] = []
 tables_text network names version (table ∷ tables) = table_text network names version table ++ tables_text network names version tables
 
--- the text of a graph by place, of a version; where source and target are one place only the first row stands
+-- the text of a graph by place, of a version; where source and target are one place there is only the first row
 abbrev pub plan_text_in : NetworkModel → NameLists → Version → Head → PlanGraph → List ℕ
 plan_text_in network names version head graph =
     head_row names version (codes "graph") head

@@ -1,4 +1,4 @@
--- How a graph is found in the rows of its text, or the first of the text's faults by line. `GraphRows` has which texts tell a graph.
+-- How a graph is found in the rows of its text, or the first of the text's faults by line. `GraphRows` has which texts are graphs.
 use Rattle.std.specs.Prelude.{◌≡◌, ℕ, ◌+◌, ◌-◌, Bool, false, List, [], ◌∷◌, ◌++◌, length, ◌==◌, ◌&&◌, nat_le, if◌then◌else◌, codes, Option, Some, None, Result, Ok, Err, ◌⊎◌, ◌<◌, IsSome, IfSome}
 use Rattle.std.specs.Option.{option_map, option_and_then}
 use Rattle.plan_model.specs.Results.{and_then, require}
@@ -202,7 +202,7 @@ head_in names version source target start r =
     require (number_of names.places (field r 3)) (UnknownName 1) (λ to.
     if is_query from to x.start.0 source target start then Ok (head_of source target start x) else Err (OtherQuery 1))))
 
--- the head and the graph of a table's records, by the version that the first one tells
+-- the head and the graph of a table's records, by the version that the first one gives
 abbrev pub graph_of_records : NetworkModel → NameLists → ℕ → ℕ → ℕ → List (List (List ℕ)) → Result (Head × PlanGraph) TextFault
 graph_of_records network names source target start [] = Err (Row 1)
 graph_of_records network names source target start (r ∷ rs) =
@@ -225,6 +225,6 @@ fault_of_rows rows.NoMemory = NoMemory
 
 -- there was no memory, or it is this
 abbrev pub IsUnlessNoMemory : {A : Type 0} → Result A TextFault → Result A TextFault → Type 0
-IsUnlessNoMemory (Err NoMemory) told = Unit {0}
-IsUnlessNoMemory (Ok a) told = told ≡ Ok a
-IsUnlessNoMemory (Err e) told = told ≡ Err e
+IsUnlessNoMemory (Err NoMemory) reported = Unit {0}
+IsUnlessNoMemory (Ok a) reported = reported ≡ Ok a
+IsUnlessNoMemory (Err e) reported = reported ≡ Err e

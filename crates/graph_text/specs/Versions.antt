@@ -9,7 +9,7 @@ use Rattle.plan_graph.specs.declared.PlaceTable.{PlaceTable}
 use Rattle.graph_text.specs.declared.version.Version.{Version}
 use Rattle.graph_text.specs.declared.version.Version.TheVariants.{First, Second}
 
--- its number, as the first row tells it
+-- its number, as the first row gives it
 abbrev pub number_of_version : Version → List ℕ
 number_of_version First = codes "1"
 number_of_version Second = codes "2"

@@ -119,14 +119,14 @@ pub fn read_fits()
 
 /// A law, with no code: a text is read as a head and a graph if its rows are those of them and the graph
 /// fits, and only then.
-pub fn read_is_told()
+pub fn read_is_by_rows()
     ensures { (n : NetworkModel) (names : NameLists) (head : HeadParts) (graph : Plan) (text : Sequence ℕ)
         → IsValid n → IsReadAs n names head graph text ↔ IsTextOf n names head graph text }
 {}
 
 /// A law, with no code: for a valid network, the fault of a text is its first by line. The rows before that
 /// line are those of a graph, and its own row breaks the rule that the fault names.
-pub fn read_fault_is_told()
+pub fn read_fault_is_by_rows()
     ensures { (n : NetworkModel) (names : NameLists) (source target start : ℕ) (text : Sequence ℕ) (fault : Fault)
         → IsValid n → graph_of text n names source target start ≡ Err fault ↔ IsFirstFaultOf n names source target start text fault }
 {}

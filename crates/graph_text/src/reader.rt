@@ -44,7 +44,7 @@ pub enum TextFault {
 impl From<RowsFault> for TextFault {
     ghost use Rattle.graph_text.specs.Reading.{fault_of_rows};
 
-    ghost from_gives = { λ fault told. told ≡ fault_of_rows fault };
+    ghost from_gives = { λ fault reported. reported ≡ fault_of_rows fault };
 
     fn from(fault: RowsFault) -> Self {
         match fault {
@@ -416,7 +416,7 @@ impl<'a> Reader<'a> {
 
     /// A place row, after one of an earlier place.
     fn table_start(&self, printed: &Record<'_>, last: Option<u32>) -> Result<TableStart, TextFault>
-        ensures told { result ≡ table_in self.now.network.now self.now.names self.now.version printed.now.line last
+        ensures reported { result ≡ table_in self.now.network.now self.now.names self.now.version printed.now.line last
             printed.now.fields }
         ensures there { IfOk result (λ table. table.place.0 < length self.now.network.now.change) }
     {
@@ -447,7 +447,7 @@ impl<'a> Reader<'a> {
         printed: &Record<'_>,
         reading: Reading,
     ) -> Result<Reading, TextFault>
-        ensures told { after_place_row reading (table_in self.now.network.now self.now.names self.now.version printed.now.line
+        ensures reported { after_place_row reading (table_in self.now.network.now self.now.names self.now.version printed.now.line
             (option_map (λ place. place.0) reading.place) printed.now.fields)
             ≡ result }
         ensures place { IfOk result (IsPlaced self.now.network.now) }
@@ -467,7 +467,7 @@ impl<'a> Reader<'a> {
         requires remaining { 1 ≤ reading.remaining }
         requires last { reading.place ≡ Some place }
         requires place { place.0 < length self.now.network.now.change }
-        ensures told { IsUnlessNoMemory result (after_leg_row reading
+        ensures reported { IsUnlessNoMemory result (after_leg_row reading
             (row_in self.now.network.now self.now.names self.now.version printed.now.line place.0
             (option_map (λ moment. moment.0) reading.by) printed.now.fields)) }
         ensures place { IfOk result (IsPlaced self.now.network.now) }
@@ -484,7 +484,7 @@ impl<'a> Reader<'a> {
         reading: Reading,
     ) -> Result<Reading, TextFault>
         requires place { IsPlaced self.now.network.now reading }
-        ensures told { IsUnlessNoMemory result (step self.now.network.now self.now.names self.now.version printed.now.line
+        ensures reported { IsUnlessNoMemory result (step self.now.network.now self.now.names self.now.version printed.now.line
             printed.now.fields reading) }
         ensures place { IfOk result (IsPlaced self.now.network.now) }
     {
@@ -521,7 +521,7 @@ impl<'a> Reader<'a> {
 
     /// The numbers of the first row; `None` if a field is not of its form.
     fn head_row(&self, printed: &Record<'_>) -> Option<HeadRow>
-        ensures told { result ≡ head_row_in self.now.version printed.now.fields }
+        ensures reported { result ≡ head_row_in self.now.version printed.now.fields }
         ensures ordered { IfSome result (λ numbers. numbers.lo ≤ numbers.hi) }
     {
         if !self.is_head(printed) {
@@ -544,7 +544,7 @@ impl<'a> Reader<'a> {
 
     /// The head, whose source, target and start are these.
     fn read_head(&self, source: PlaceId, target: PlaceId, start: Moment) -> Result<Head, TextFault>
-        ensures told { result ≡ head_in self.now.names self.now.version source.0 target.0 start.0 (header self.now.rows.now) }
+        ensures reported { result ≡ head_in self.now.names self.now.version source.0 target.0 start.0 (header self.now.rows.now) }
         ensures query { IfOk result (λ head. (head.query.source ≡ source)
             × (head.query.target ≡ target) × (head.query.start ≡ start)) }
     {

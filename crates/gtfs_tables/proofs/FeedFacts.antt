@@ -1,7 +1,7 @@
--- A feed's trips are timed: their kept rows stand at places of the feed, and no time goes back.
+-- A feed's trips are timed: their kept rows are at places of the feed, and no time goes back.
 use Rattle.std.proofs.Common.{◌≡◌, ℕ, ◌<◌, ◌==◌, Bool, true, false, List, length, slice_index, Option, Some, None, IfSome, if◌then◌else◌, refl, sym, ap, arith}
 use Rattle.std.proofs.Common.{unwrap_or}
-use Rattle.csv_rows.specs.Tables.{place_in, row_count, field}
+use Rattle.csv_rows.specs.Tables.{number_in, row_count, field}
 use Rattle.csv_rows.specs.declared.columns.Column.TheVariants.{StopId, TripId}
 use Rattle.gtfs_tables.specs.Feeds.{FeedParts, IsSoundFeed}
 use Rattle.feed_lists.specs.Stops.{stop_ids, stop_places, place_from, parent_of}
@@ -16,7 +16,7 @@ place_if true o i n h k = h
 place_if false None i n h k = omega arith
 place_if false (Some j) i n h k = k
 
-place_few : (name : List ℕ) (names : List (List ℕ)) (o : Option ℕ) → o ≡ place_in name names → IfSome o (λ k. k < length names)
+place_few : (name : List ℕ) (names : List (List ℕ)) (o : Option ℕ) → o ≡ number_in name names → IfSome o (λ k. k < length names)
 place_few name names None e = tt
 place_few name names (Some k) e = place_inside name names k (sym e)
 
@@ -26,8 +26,8 @@ place_is_stop t i h =
     let count : length (stop_ids t) ≡ row_count t = length-list_below (field t StopId) (row_count t) in
     let here : slice_index (stop_places t) i ≡ place_from (stop_ids t) (parent_of t i) i
     = get-list_below (λ j. place_from (stop_ids t) (parent_of t j) j) (row_count t) i 0 h in
-    let few = place_if (length (parent_of t i) == 0) (place_in (parent_of t i) (stop_ids t)) i (length (stop_ids t)) (omega (arith, count))
-    (place_few (parent_of t i) (stop_ids t) (place_in (parent_of t i) (stop_ids t)) refl) in
+    let few = place_if (length (parent_of t i) == 0) (number_in (parent_of t i) (stop_ids t)) i (length (stop_ids t)) (omega (arith, count))
+    (place_few (parent_of t i) (stop_ids t) (number_in (parent_of t i) (stop_ids t)) refl) in
     omega (arith, here, few, count)
 
 module _ (f : FeedParts) (s : IsSoundFeed f) where

@@ -11,7 +11,7 @@ use Rattle.csv_rows.specs.declared.feed_tables.FeedFault.{FeedFault}
 use Rattle.csv_rows.specs.declared.feed_tables.FeedFault.TheVariants.{NoMemory}
 use Rattle.csv_rows.specs.declared.limits.Limits.{Limits}
 use Rattle.table_files.specs.declared.loading.Loaded.{Loaded}
-use Rattle.csv_rows.specs.FeedTables.{rank_of, unread_of, IsFaultOf}
+use Rattle.csv_rows.specs.FeedTables.{rank_of, unread_table, IsFaultOf}
 use Rattle.table_files.specs.Loading.{loaded_rows, load_in}
 use Rattle.csv_rows.specs.Tables.{row_count, field}
 use Rattle.stop_times.specs.declared.rows.StopRow.{StopRow}
@@ -128,33 +128,33 @@ module _ (load : Table → Result Loaded FeedFault) where
       are_read (trips_from (load Trips)) (stop_times_from (load StopTimes)) (frequencies_from (load Frequencies)) (stops_from (load Stops)) (routes_from (load Routes))
       (trips_from (load Trips) l.routes.ids) l a.stops a.routes refl a.trips
 
--- and of a folder, where it is told
+-- and of a folder, where it is known
 module _ (folder : List ℕ) (limits : Limits) where
-  pub fault_at_stops : (o : Option FileMap) (f : FeedFault) → IfSome o (λ m. f ≢ NoMemory → stops_from (load_in m folder limits (unread_of f) Stops) ≡ Err f)
-      → IfSome o (λ m. f ≢ NoMemory → tables_in m folder limits (unread_of f) ≡ Err f)
+  pub fault_at_stops : (o : Option FileMap) (f : FeedFault) → IfSome o (λ m. f ≢ NoMemory → stops_from (load_in m folder limits (unread_table f) Stops) ≡ Err f)
+      → IfSome o (λ m. f ≢ NoMemory → tables_in m folder limits (unread_table f) ≡ Err f)
   unfolding tables_in
   fault_at_stops None f h = tt
-  fault_at_stops (Some m) f h = λ free. let load = load_in m folder limits (unread_of f) in
+  fault_at_stops (Some m) f h = λ free. let load = load_in m folder limits (unread_table f) in
       ap (λ z. tables_by z (routes_from (load Routes)) (trips_from (load Trips)) (stop_times_from (load StopTimes)) (frequencies_from (load Frequencies))) (h free)
 
   pub fault_at_routes : (stops : StopLists) (o : Option FileMap) (f : FeedFault) → IsFaultOf Routes f
       → IfSome o (λ m. HasStops (stops_from (load_in m folder limits None Stops)) stops)
-      → IfSome o (λ m. f ≢ NoMemory → routes_from (load_in m folder limits (unread_of f) Routes) ≡ Err f)
-      → IfSome o (λ m. f ≢ NoMemory → tables_in m folder limits (unread_of f) ≡ Err f)
+      → IfSome o (λ m. f ≢ NoMemory → routes_from (load_in m folder limits (unread_table f) Routes) ≡ Err f)
+      → IfSome o (λ m. f ≢ NoMemory → tables_in m folder limits (unread_table f) ≡ Err f)
   unfolding tables_in
   fault_at_routes stops None f own a h = tt
-  fault_at_routes stops (Some m) f own a h = λ free. let load = load_in m folder limits (unread_of f) in
+  fault_at_routes stops (Some m) f own a h = λ free. let load = load_in m folder limits (unread_table f) in
       routes_stop (trips_from (load Trips)) (stop_times_from (load StopTimes)) (frequencies_from (load Frequencies)) (stops_from (load Stops)) (routes_from (load Routes)) stops f
       (subst (λ z. HasStops (stops_from z) stops) (sym (load_in-other m folder limits f Routes Stops own refl)) a) (h free)
 
   pub fault_at_trips : (stops : StopLists) (routes : RouteLists) (o : Option FileMap) (f : FeedFault) → IsFaultOf Trips f
       → IfSome o (λ m. HasStops (stops_from (load_in m folder limits None Stops)) stops)
       → IfSome o (λ m. HasRoutes (routes_from (load_in m folder limits None Routes)) routes)
-      → IfSome o (λ m. f ≢ NoMemory → trips_from (load_in m folder limits (unread_of f) Trips) routes.ids ≡ Err f)
-      → IfSome o (λ m. f ≢ NoMemory → tables_in m folder limits (unread_of f) ≡ Err f)
+      → IfSome o (λ m. f ≢ NoMemory → trips_from (load_in m folder limits (unread_table f) Trips) routes.ids ≡ Err f)
+      → IfSome o (λ m. f ≢ NoMemory → tables_in m folder limits (unread_table f) ≡ Err f)
   unfolding tables_in
   fault_at_trips stops routes None f own a b h = tt
-  fault_at_trips stops routes (Some m) f own a b h = λ free. let load = load_in m folder limits (unread_of f) in
+  fault_at_trips stops routes (Some m) f own a b h = λ free. let load = load_in m folder limits (unread_table f) in
       trips_stop (trips_from (load Trips)) (stop_times_from (load StopTimes)) (frequencies_from (load Frequencies)) (stops_from (load Stops)) (routes_from (load Routes)) stops routes f
       (subst (λ z. HasStops (stops_from z) stops) (sym (load_in-other m folder limits f Trips Stops own refl)) a)
       (subst (λ z. HasRoutes (routes_from z) routes) (sym (load_in-other m folder limits f Trips Routes own refl)) b) (h free)
@@ -170,7 +170,7 @@ module _ (folder : List ℕ) (limits : Limits) where
     -- they are the same where another table could not be read
     beside : (m : FileMap) (f : FeedFault) (table : Table) → IsFaultOf table f
         → (rank_of table == 0) ≡ false → (rank_of table == 1) ≡ false → (rank_of table == 2) ≡ false
-        → AreLists (load_in m folder limits None) l → AreLists (load_in m folder limits (unread_of f)) l
+        → AreLists (load_in m folder limits None) l → AreLists (load_in m folder limits (unread_table f)) l
     beside m f table own s r t a = record {
       stops = subst (λ z. HasStops (stops_from z) l.stops) (sym (load_in-other m folder limits f table Stops own s)) a.stops;
       routes = subst (λ z. HasRoutes (routes_from z) l.routes) (sym (load_in-other m folder limits f table Routes own r)) a.routes;
@@ -178,22 +178,22 @@ module _ (folder : List ℕ) (limits : Limits) where
     }
 
     pub fault_at_times : (o : Option FileMap) (f : FeedFault) → IsFaultOf StopTimes f
-        → IfSome o (λ m. f ≢ NoMemory → times_by (load_in m folder limits (unread_of f)) l ≡ Err f)
-        → IfSome o (λ m. f ≢ NoMemory → AreLists (load_in m folder limits None) l → tables_in m folder limits (unread_of f) ≡ Err f)
+        → IfSome o (λ m. f ≢ NoMemory → times_by (load_in m folder limits (unread_table f)) l ≡ Err f)
+        → IfSome o (λ m. f ≢ NoMemory → AreLists (load_in m folder limits None) l → tables_in m folder limits (unread_table f) ≡ Err f)
     unfolding tables_in
     fault_at_times None f own h = tt
     fault_at_times (Some m) f own h = λ free are.
-        let w = lists_read (load_in m folder limits (unread_of f)) l (beside m f StopTimes own refl refl refl are) in
-        w.is ∙ and_then-err (times_by (load_in m folder limits (unread_of f)) l) f _ (h free)
+        let w = lists_read (load_in m folder limits (unread_table f)) l (beside m f StopTimes own refl refl refl are) in
+        w.is ∙ and_then-err (times_by (load_in m folder limits (unread_table f)) l) f _ (h free)
 
     pub fault_at_repeats : (visits : List (List StopRow)) (o : Option FileMap) (f : FeedFault) → IsFaultOf Frequencies f
         → IfSome o (λ m. AreVisits l.trips.ids l.stops.ids l.stops.places.items (times_by (load_in m folder limits None) l) visits)
-        → IfSome o (λ m. f ≢ NoMemory → frequencies_from (load_in m folder limits (unread_of f) Frequencies) l.trips.ids ≡ Err f)
-        → IfSome o (λ m. f ≢ NoMemory → AreLists (load_in m folder limits None) l → tables_in m folder limits (unread_of f) ≡ Err f)
+        → IfSome o (λ m. f ≢ NoMemory → frequencies_from (load_in m folder limits (unread_table f) Frequencies) l.trips.ids ≡ Err f)
+        → IfSome o (λ m. f ≢ NoMemory → AreLists (load_in m folder limits None) l → tables_in m folder limits (unread_table f) ≡ Err f)
     unfolding tables_in
     fault_at_repeats visits None f own v h = tt
     fault_at_repeats visits (Some m) f own v h = λ free are.
-        let load = load_in m folder limits (unread_of f) in
+        let load = load_in m folder limits (unread_table f) in
         repeats_stop l (tables_from load) (times_by load l) (frequencies_from (load Frequencies) l.trips.ids) visits f (lists_read load l (beside m f Frequencies own refl refl refl are))
         (subst (λ z. AreVisits l.trips.ids l.stops.ids l.stops.places.items (stop_times_from z l.trips.ids l.stops.ids l.stops.places.items) visits)
         (sym (load_in-other m folder limits f Frequencies StopTimes own refl)) v)

@@ -18,7 +18,7 @@ use Rattle.table_files.specs.declared.loading.Loaded.TheVariants.{Absent, NoReco
 use Rattle.csv_rows.specs.First.{first_below}
 use Rattle.table_files.specs.Loading.{loaded_rows}
 use Rattle.csv_rows.specs.Names.{name_in}
-use Rattle.csv_rows.specs.Tables.{row_count, place_in, field, field_at}
+use Rattle.csv_rows.specs.Tables.{row_count, number_in, field, field_at}
 use Rattle.csv_rows.proofs.FirstLemmas.{first-zero, none-both, none-each}
 use Rattle.csv_rows.proofs.ListLemmas.{length-list_below, get-list_below}
 use Rattle.trip_frequencies.specs.declared.frequencies.FrequencyRow.{FrequencyRow}
@@ -55,7 +55,7 @@ headway_some (Some m) n h = let w = not_zero m n (m == 0) refl h in (ap Some w.0
 from_formed : (trips : List (List ℕ)) (line : ℕ) (trip start end headway exact : List ℕ) (r : TripFrequency) → frequency_from trips line trip start end headway exact ≡ Ok r → IsFormed line r
 from_formed trips line trip start end headway exact r h =
     let a = require-ok (name_in trip) (BadField Frequencies line TripId) _ r h in
-    let b = require-ok (place_in a.0 trips) (UnknownKey Frequencies line TripId) _ r a.2 in
+    let b = require-ok (number_in a.0 trips) (UnknownKey Frequencies line TripId) _ r a.2 in
     let c = require-ok (time_at start) (BadField Frequencies line StartTime) _ r b.2 in
     let d = require-ok (time_at end) (BadField Frequencies line EndTime) _ r c.2 in
     let e = require-ok (headway_in headway) (BadField Frequencies line HeadwaySecs) _ r d.2 in

@@ -9,7 +9,7 @@ use Rattle.trip_frequencies.specs.declared.frequencies.FrequencyRow.{FrequencyRo
 use Rattle.gtfs_tables.specs.declared.feed.Feed.TheInside.{Inside}
 use Rattle.gtfs_tables.specs.TripRepeats.{IsSmall}
 use Rattle.trip_frequencies.specs.Repeats.{repeats_in, all_repeats_in}
-use Rattle.gtfs_tables.specs.FeedInside.{feed_parts_of, IsWhole}
+use Rattle.gtfs_tables.specs.FeedInside.{feed_parts_of, IsWholeFeed}
 
 abbrev total : List ℕ → List FrequencyRow → ℕ → ℕ
 total trips rows n = sum_by length (all_repeats_in trips rows n)
@@ -67,7 +67,7 @@ total_few [] rows n = omega (arith, total-none rows n)
 total_few (t ∷ trips) [] n = omega (arith, total-nothing t trips n)
 total_few (t ∷ trips) (row ∷ rows) n = omega (arith, (total-more t trips row rows n).0, total_few trips rows n)
 
-pub is_small : (f : Inside) → IsWhole f → IsSmall (feed_parts_of f)
+pub is_small : (f : Inside) → IsWholeFeed f → IsSmall (feed_parts_of f)
 is_small f w = record {
   rows = w.few_rows;
   size = length-list_below (repeats_in f.times.repeats.trips.items f.times.repeats.rows.items) (length f.lists.trips.ids);

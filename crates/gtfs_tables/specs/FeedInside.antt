@@ -13,7 +13,7 @@ feed_parts_of f = parts_by f.lists f.times
 
 -- each stop has a place, each trip has a service, a type, one of the routes and its rows, the rows of frequencies are in the order of
 -- their trips, there are no more than tables may have, and the parts are a feed
-pub record IsWhole (f : Inside) : Type 0 where
+pub record IsWholeFeed (f : Inside) : Type 0 where
   pub places : length f.lists.stops.places.items ≡ length f.lists.stops.ids
   pub services : length f.lists.trips.of_trips.services.items ≡ length f.lists.trips.ids
   pub types : length f.lists.trips.of_trips.types.items ≡ length f.lists.trips.ids

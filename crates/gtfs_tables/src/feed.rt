@@ -34,19 +34,19 @@ impl Model for Feed {
 
     ghost Value = { FeedParts };
 
-    ghost use Rattle.gtfs_tables.specs.FeedInside.{feed_parts_of, IsWhole};
+    ghost use Rattle.gtfs_tables.specs.FeedInside.{feed_parts_of, IsWholeFeed};
 
     ghost view = { feed_parts_of };
 
-    ghost invariant = { IsWhole };
+    ghost invariant = { IsWholeFeed };
 }
 
 impl Feed {
     ghost use Rattle.std.specs.Prelude.{◌≡◌, ◌≢◌, ◌<◌, ◌≤◌, None, Some, Ok, Err, IfOk, IfErr, IfSome, length, slice_get, slice_index, slice_index_or, option_map, []};
-    ghost use Rattle.csv_rows.specs.FeedTables.{unread_of};
+    ghost use Rattle.csv_rows.specs.FeedTables.{unread_table};
     ghost use Rattle.csv_rows.specs.Ids.{AreIds};
     ghost use Rattle.table_files.specs.Loading.{HasFeedCauses};
-    ghost use Rattle.csv_rows.specs.Tables.{place_in};
+    ghost use Rattle.csv_rows.specs.Tables.{number_in};
     ghost use Rattle.gtfs_tables.specs.Feeds.{tables_in, IsFeedOf, IsFeedTableFault, IsSoundFeed};
     ghost use Rattle.gtfs_tables.specs.TripRepeats.{AreRepeating, IsSmall};
     ghost use Rattle.gtfs_tables.specs.Timed.{IsTimed};
@@ -64,7 +64,7 @@ impl Feed {
         ensures feed { IfSome (F.state files.old).files (λ m. IfOk result (λ feed.
             IsFeedOf (tables_in m folder.now limits.now None) feed)) }
         ensures fault { IfSome (F.state files.old).files (λ m. IfErr result (λ f. f ≢ FeedFault.NoMemory
-            → tables_in m folder.now limits.now (unread_of f) ≡ Err f)) }
+            → tables_in m folder.now limits.now (unread_table f) ≡ Err f)) }
         ensures own { IfErr result IsFeedTableFault }
         ensures causes { HasFeedCauses folder.now (F.state files.old) (F.state files.new) result }
     {
@@ -114,7 +114,7 @@ impl Feed {
 
     /// The stop with this id; `None` if no row of `stops.txt` has it. Each id is looked at in turn.
     pub fn stop_of(&self, id: &str) -> Option<u32>
-        ensures { result ≡ place_in id.now self.now.stop_ids }
+        ensures { result ≡ number_in id.now self.now.stop_ids }
     {
         self.lists.stops.ids.number(id)
     }
@@ -123,7 +123,7 @@ impl Feed {
     /// Each id is looked at in turn.
     pub fn place_of(&self, id: &str) -> Option<PlaceId>
         ensures place { option_map (λ p. p.0) result
-            ≡ option_map (λ stop. slice_index self.now.places stop) (place_in id.now self.now.stop_ids) }
+            ≡ option_map (λ stop. slice_index self.now.places stop) (number_in id.now self.now.stop_ids) }
         ensures in_range { IfSome result (λ p. p.0 < length self.now.stop_ids) }
     {
         match self.lists.stops.ids.number(id) {

@@ -1,6 +1,6 @@
 //! The stops, the routes and the trips of a feed.
 ghost use Rattle.std.specs.Prelude.{◌≡◌, ◌≢◌, None, Err, IfOk, IfErr, IfSome};
-ghost use Rattle.csv_rows.specs.FeedTables.{unread_of};
+ghost use Rattle.csv_rows.specs.FeedTables.{unread_table};
 ghost use Rattle.table_files.specs.Loading.{HasFeedCauses, load_in};
 ghost use Rattle.gtfs_tables.specs.Feeds.{tables_in, IsFeedTableFault};
 ghost use Rattle.gtfs_tables.specs.Parts.{AreLists, AreSoundLists};
@@ -38,7 +38,7 @@ pub(crate) fn load_lists<F: Files>(
     ensures lists { IfSome (F.state files.old).files (λ m. IfOk result
         (AreLists (load_in m folder.now limits.now None))) }
     ensures fault { IfSome (F.state files.old).files (λ m. IfErr result (λ f. f ≢ FeedFault.NoMemory
-        → tables_in m folder.now limits.now (unread_of f) ≡ Err f)) }
+        → tables_in m folder.now limits.now (unread_table f) ≡ Err f)) }
     ensures sound { IfOk result AreSoundLists }
     ensures own { IfErr result IsFeedTableFault }
     ensures causes { HasFeedCauses folder.now (F.state files.old) (F.state files.new) result }

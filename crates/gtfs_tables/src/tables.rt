@@ -2,7 +2,7 @@
 ghost use Rattle.std.specs.Prelude.{◌≡◌, ◌≢◌, ◌<◌, ◌≤◌, ℕ, [], length, slice_index_or, None, Ok, Err, IfOk, IfErr, IfSome};
 ghost use Rattle.csv_rows.specs.declared.columns.Column.TheVariants.{TripId};
 ghost use Rattle.csv_rows.specs.declared.feed_tables.Table.TheVariants.{StopTimes as StopTimesTable};
-ghost use Rattle.csv_rows.specs.FeedTables.{unread_of, IsFaultOf};
+ghost use Rattle.csv_rows.specs.FeedTables.{unread_table, IsFaultOf};
 ghost use Rattle.csv_rows.specs.Limits.{rows_of};
 ghost use Rattle.table_files.specs.Loading.{HasFeedCauses, load_in, loaded_from};
 ghost use Rattle.csv_rows.specs.Tables.{table_of};
@@ -29,7 +29,7 @@ fn load_times_text<F: Files>(
         load_in m folder.now limits.now None StopTimesTable
         ≡ loaded_from StopTimesTable (rows_of limits.now StopTimesTable) (table_of text.items))) }
     ensures fault { IfSome (F.state files.old).files (λ m. IfErr result (λ f. f ≢ FeedFault.NoMemory
-        → required StopTimesTable TripId (load_in m folder.now limits.now (unread_of f) StopTimesTable) ≡ Err f)) }
+        → required StopTimesTable TripId (load_in m folder.now limits.now (unread_table f) StopTimesTable) ≡ Err f)) }
     ensures own { IfErr result (IsFaultOf StopTimesTable) }
     ensures causes { HasFeedCauses folder.now (F.state files.old) (F.state files.new) result }
 {
@@ -54,7 +54,7 @@ pub(crate) fn load_stop_times<F: Files>(
         trips.now stops.now.ids stops.now.places.items)
         v)) }
     ensures fault { IfSome (F.state files.old).files (λ m. IfErr result (λ f. f ≢ FeedFault.NoMemory
-        → stop_times_from (load_in m folder.now limits.now (unread_of f) StopTimesTable)
+        → stop_times_from (load_in m folder.now limits.now (unread_table f) StopTimesTable)
         trips.now stops.now.ids stops.now.places.items ≡ Err f)) }
     ensures sound { IfOk result (λ v.
         IsOfSomeTable (stop_times_fault trips.now stops.now.ids stops.now.places.items)

@@ -1,6 +1,6 @@
 //! When the trips of a feed run.
 ghost use Rattle.std.specs.Prelude.{◌≡◌, ◌≢◌, None, Err, IfOk, IfErr, IfSome};
-ghost use Rattle.csv_rows.specs.FeedTables.{unread_of};
+ghost use Rattle.csv_rows.specs.FeedTables.{unread_table};
 ghost use Rattle.table_files.specs.Loading.{HasFeedCauses, load_in};
 ghost use Rattle.gtfs_tables.specs.Feeds.{tables_in, IsFeedTableFault};
 ghost use Rattle.gtfs_tables.specs.Parts.{AreLists, AreTripTimes, AreSoundTimes};
@@ -41,7 +41,7 @@ pub(crate) fn load_times<F: Files>(
         (AreTripTimes (load_in m folder.now limits.now None) lists.now)) }
     ensures fault { IfSome (F.state files.old).files (λ m. IfErr result (λ f. f ≢ FeedFault.NoMemory
         → AreLists (load_in m folder.now limits.now None) lists.now
-        → tables_in m folder.now limits.now (unread_of f) ≡ Err f)) }
+        → tables_in m folder.now limits.now (unread_table f) ≡ Err f)) }
     ensures sound { IfOk result (AreSoundTimes lists.now) }
     ensures own { IfErr result IsFeedTableFault }
     ensures causes { HasFeedCauses folder.now (F.state files.old) (F.state files.new) result }

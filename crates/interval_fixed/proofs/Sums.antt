@@ -46,7 +46,7 @@ each_mapped f P _ _ _ each = absurd each
 
 -- of whatever leaf gives for the arrivals, in units of which there are scale in one
 module _ (scale : ℕ) (leaf : ℕ → ℕ) where
-  -- how the sum of values stands to that of the kids, as each value does to its kid
+  -- how the sum of values compares with that of the children, as each value does with its child
   module _ (R : ℕ → ℕ → Type 0) (none : R 0 0) (more : (w x y s t : ℕ) → R x y → R s t → R (w * x + s) (w * y + t)) where
     kids_sum : (row : List Outcome) (values : List ℕ) (kids : Kids) (h : ℕ) → height_of kids ≤ h
         → EachKid (λ v t. (k : ℕ) → height t ≤ k → R (v * 10000 ^ k) (scale * weighted_by leaf t k)) row values kids

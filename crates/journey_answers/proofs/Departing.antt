@@ -18,7 +18,7 @@ use Rattle.journey_answers.specs.ByRules.{AreByRules}
 use Rattle.journey_answers.specs.Departures.{SafeOf, AreDepartures, HasSafeFor}
 
 module _ (n : NetworkModel) (source target deadline : ℕ) where
-  -- whoever is at the target has arrived
+  -- a traveller who is at the target has arrived
   pub arrived : source ≡ target → (tree : Tree) (moment : ℕ) → IsSafeFromStart n target (Some deadline) tree source moment → moment ≤ deadline
   arrived same (Done a) moment (is, there, early) = early
   arrived same (Ride i j kids) moment safe = absurd (safe.0 same)

@@ -9,7 +9,7 @@ use Rattle.trip_replay.specs.declared.Trace.{Trace}
 use Rattle.trip_replay.specs.Rides.{IsStuckAfter}
 use Rattle.trip_replay.specs.Walk.{IsAnswer}
 use Rattle.journey_model.specs.declared.faults.Fault.TheVariants.{Replay, NoMemory}
-use Rattle.journey_model.specs.Faults.{unread_of}
+use Rattle.journey_model.specs.Faults.{unread_input}
 use Rattle.journey_model.specs.Sites.{last_printable, IsTellable}
 use Rattle.journey_model.specs.declared.problem.Problem.{Problem}
 use Rattle.journey_model.specs.Known.{parts_of}
@@ -51,7 +51,7 @@ module _ (p : Problem) (head : Head) (graph : PlanGraph) (late : List ℕ) where
   trip_fault (replay.Stuck place moment) is safe other = trip_stop (replay.Stuck place moment) (λ same. absurd (cc)) is safe
 
 -- a fault of a trip is not that a file cannot be read
-pub replay_unread : (fault : ReplayFault) → unread_of (replay_as fault) ≡ None
+pub replay_unread : (fault : ReplayFault) → unread_input (replay_as fault) ≡ None
 replay_unread replay.NoMemory = refl
 replay_unread (replay.NotADelay number) = refl
 replay_unread (replay.TooFew ridden) = refl

@@ -44,20 +44,20 @@ abbrev pub head_of : Query → Interval → Head
 head_of q bounds = record { query = q; bounds = bounds }
 
 -- the answer of `safe`: the least worst arrival and the deadline
-abbrev pub TellsWorst : Problem → Findings → List ℕ → Query → Moment → Type 0
-TellsWorst p found text query worst =
+abbrev pub AnswersSafe : Problem → Findings → List ℕ → Query → Moment → Type 0
+AnswersSafe p found text query worst =
     (found ≡ safe_findings query worst)
     × (text ≡ safe_text (place_name p.timetable.names query.source.0) (place_name p.timetable.names query.target.0) query worst)
 
 -- the answer of `expand`: a decision graph by ride, with its bounds
-abbrev pub TellsExpanded : Problem → Findings → List ℕ → Query → Moment → Type 0
-TellsExpanded p found text query worst =
+abbrev pub AnswersExpand : Problem → Findings → List ℕ → Query → Moment → Type 0
+AnswersExpand p found text query worst =
     (graph : ExpandedGraph) × (bounds : Interval) × (found ≡ expand_findings query worst graph bounds)
     × IsExpanded p.timetable.network query graph bounds × (text ≡ expanded_text p.timetable.network p.timetable.names (head_of query bounds) graph)
 
 -- the answer of `plan`: a decision graph by place, with its bounds; the text reads back
-abbrev pub TellsPlanned : Problem → Findings → List ℕ → Query → Moment → Type 0
-TellsPlanned p found text query worst =
+abbrev pub AnswersPlan : Problem → Findings → List ℕ → Query → Moment → Type 0
+AnswersPlan p found text query worst =
     (graph : PlanGraph) × (bounds : Interval) × (found ≡ plan_findings query worst graph bounds)
     × IsPlanned p.timetable.network query graph bounds × (text ≡ plan_text p.timetable.network p.timetable.names (head_of query bounds) graph)
     × IsReadAs p.timetable.network p.timetable.names (head_of query bounds) graph text

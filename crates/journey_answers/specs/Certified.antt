@@ -12,7 +12,7 @@ use Rattle.journey_report.specs.Findings.{Findings, certify_findings}
 
 -- the answer of `certify`: of the certificates of the query the greatest that is accepted, with the least value of the ways to leave its run at each
 -- connection that can be boarded; the text reads back
-pub record TellsCertificate (p : Problem) (found : Findings) (text : List ℕ) (query : Query) (worst : Moment) : Type 0 where
+pub record AnswersCertify (p : Problem) (found : Findings) (text : List ℕ) (query : Query) (worst : Moment) : Type 0 where
   pub proof : LowerBounds
   pub found_is : found ≡ certify_findings query worst proof
   pub tight : IsTight p.timetable.network query proof.values

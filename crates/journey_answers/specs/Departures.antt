@@ -34,14 +34,14 @@ pub record AreDepartures (p : Problem) (query : Query) (last : ℕ) (rows : List
   pub by_rules : query.source.0 ≢ query.target.0 → AreByRules p query last rows
 
 -- the answer of `departures`: the rows; some tree is safe from the first moment
-abbrev pub TellsDepartures : Problem → Query → ℕ → Findings → List ℕ → Type 0
-TellsDepartures p query last found text =
+abbrev pub AnswersDepartures : Problem → Query → ℕ → Findings → List ℕ → Type 0
+AnswersDepartures p query last found text =
     (rows : List DepartureRow) × (found ≡ departures_findings query rows) × AreDepartures p query last rows × HasSafeFor p query
     × (text ≡ departures_text p.timetable.network p.timetable.names query last rows)
 
 -- the answer of `latest`: the latest moment from which a tree is safe
-abbrev pub TellsLatest : Problem → Query → Findings → List ℕ → Type 0
-TellsLatest p query found text =
+abbrev pub AnswersLatest : Problem → Query → Findings → List ℕ → Type 0
+AnswersLatest p query found text =
     (moment : Moment) × (found ≡ latest_findings query moment) × IsGreatestMoment (SafeOf p query) query.start.0 (Some moment)
     × (text ≡ latest_text (place_name p.timetable.names query.source.0) (place_name p.timetable.names query.target.0) query moment)
 

@@ -22,8 +22,8 @@ pub record IsPunctualText (p : Problem) (promise : ℕ) (query : Query) (graph :
 
 -- the answer of `punctual`: a decision graph by place with bounds of its chance to arrive after the promised moment, which is the least, and of its
 -- expected arrival
-abbrev pub TellsPunctual : Problem → ℕ → Findings → List ℕ → Query → Moment → Type 0
-TellsPunctual p promise found text query worst =
+abbrev pub AnswersPunctual : Problem → ℕ → Findings → List ℕ → Query → Moment → Type 0
+AnswersPunctual p promise found text query worst =
     (graph : PlanGraph) × (chance : Interval) × (bounds : Interval) × (found ≡ punctual_findings query worst graph bounds chance)
     × IsPunctual p.timetable.network query promise graph chance × IsSeenLater p.timetable.network query promise graph chance
     × IsScored p.timetable.network query (unfold_plan graph p.timetable.network query) bounds × IsPunctualText p promise query graph chance bounds text

@@ -4,7 +4,7 @@ ghost use Rattle.plan_model.specs.Order.{IsScanOrder};
 ghost use Rattle.plan_model.specs.Strategy.{IsLeastWorst};
 ghost use Rattle.decision_graph.specs.Planned.{IsPlanned};
 ghost use Rattle.decision_graph.specs.Expanded.{IsExpanded};
-ghost use Rattle.journey_answers.specs.Answers.{IsWorst, IsQueryOf, InQuery, IsPrintable, TellsWorst, TellsExpanded, TellsPlanned, FailsIn};
+ghost use Rattle.journey_answers.specs.Answers.{IsWorst, IsQueryOf, InQuery, IsPrintable, AnswersSafe, AnswersExpand, AnswersPlan, FailsIn};
 ghost use Rattle.journey_report.specs.Findings.{findings_of};
 ghost use Rattle.plan_model.specs.Bounds.{end_of_time};
 
@@ -95,7 +95,7 @@ pub fn asked_of(
 
 /// The answer with the least worst arrival and the deadline.
 fn worst_answer(alloc: Global, asked: &Asked) -> Result<Answer, NoMemory>
-    ensures { IfOk result (λ a. TellsWorst asked.now.problem.now (findings_of a.report) a.text.items
+    ensures { IfOk result (λ a. AnswersSafe asked.now.problem.now (findings_of a.report) a.text.items
         asked.now.query asked.now.worst) }
 {
     let query = asked.query;
@@ -157,7 +157,7 @@ fn expanded_answer(
     found: Found<ExpandedGraph, Span>,
 ) -> Result<Answer, NoMemory>
     requires { IsExpanded asked.now.problem.now.timetable.network asked.now.query found.graph found.value }
-    ensures { IfOk result (λ a. TellsExpanded asked.now.problem.now (findings_of a.report) a.text.items
+    ensures { IfOk result (λ a. AnswersExpand asked.now.problem.now (findings_of a.report) a.text.items
         asked.now.query asked.now.worst) }
 {
     let head = Head {
@@ -190,7 +190,7 @@ fn planned_answer(
     found: Found<PlanGraph, Span>,
 ) -> Result<Answer, NoMemory>
     requires { IsPlanned asked.now.problem.now.timetable.network asked.now.query found.graph found.value }
-    ensures { IfOk result (λ a. TellsPlanned asked.now.problem.now (findings_of a.report) a.text.items
+    ensures { IfOk result (λ a. AnswersPlan asked.now.problem.now (findings_of a.report) a.text.items
         asked.now.query asked.now.worst) }
 {
     let head = Head {
@@ -224,7 +224,7 @@ pub fn safe_over(
     alpha: Percent,
 ) -> Result<Answer, Fault>
     ensures answer { IfOk result (λ a. InQuery problem.now start.moment.0 alpha.value
-        (TellsWorst problem.now (findings_of a.report) a.text.items)) }
+        (AnswersSafe problem.now (findings_of a.report) a.text.items)) }
     ensures fault { IfErr result (FailsIn problem.now start.moment.0) }
 {
     let (query, worst, _) = asked_of(alloc, problem, start, alpha)?;
@@ -245,7 +245,7 @@ pub fn expand_over(
     alpha: Percent,
 ) -> Result<Answer, Fault>
     ensures answer { IfOk result (λ a. InQuery problem.now start.moment.0 alpha.value
-        (TellsExpanded problem.now (findings_of a.report) a.text.items)) }
+        (AnswersExpand problem.now (findings_of a.report) a.text.items)) }
     ensures fault { IfErr result (FailsIn problem.now start.moment.0) }
 {
     let (query, worst, mut order) = asked_of(alloc, problem, start, alpha)?;
@@ -267,7 +267,7 @@ pub fn plan_over(
     alpha: Percent,
 ) -> Result<Answer, Fault>
     ensures answer { IfOk result (λ a. InQuery problem.now start.moment.0 alpha.value
-        (TellsPlanned problem.now (findings_of a.report) a.text.items)) }
+        (AnswersPlan problem.now (findings_of a.report) a.text.items)) }
     ensures fault { IfErr result (FailsIn problem.now start.moment.0) }
 {
     let (query, worst, mut order) = asked_of(alloc, problem, start, alpha)?;

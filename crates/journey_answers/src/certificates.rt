@@ -1,7 +1,7 @@
 //! Certificates of a journey: lower bounds on the expected arrival of every safe strategy.
 ghost use Rattle.std.specs.Prelude.{◌≡◌, ◌≤◌, IfOk, IfErr};
 ghost use Rattle.journey_answers.specs.Answers.{InQuery, FailsIn};
-ghost use Rattle.journey_answers.specs.Certified.{TellsCertificate};
+ghost use Rattle.journey_answers.specs.Certified.{AnswersCertify};
 ghost use Rattle.journey_report.specs.Findings.{findings_of};
 
 use crate::answers::{Asked, asked_of};
@@ -13,7 +13,7 @@ use std::alloc::Global;
 
 /// The answer with the certificate of a query.
 fn certified_answer(alloc: Global, asked: &Asked) -> Result<Answer, NoMemory>
-    ensures { IfOk result (λ a. TellsCertificate asked.now.problem.now (findings_of a.report)
+    ensures { IfOk result (λ a. AnswersCertify asked.now.problem.now (findings_of a.report)
         a.text.items asked.now.query asked.now.worst) }
 {
     let timetable = &asked.problem.timetable;
@@ -42,7 +42,7 @@ pub fn certify_over(
     alpha: Percent,
 ) -> Result<Answer, Fault>
     ensures answer { IfOk result (λ a. InQuery problem.now start.moment.0 alpha.value
-        (TellsCertificate problem.now (findings_of a.report) a.text.items)) }
+        (AnswersCertify problem.now (findings_of a.report) a.text.items)) }
     ensures fault { IfErr result (FailsIn problem.now start.moment.0) }
 {
     let (query, worst, _) = asked_of(alloc, problem, start, alpha)?;

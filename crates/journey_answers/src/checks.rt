@@ -1,7 +1,7 @@
 //! Whether a certificate holds.
 ghost use Rattle.std.specs.Prelude.{◌≡◌, ◌≢◌, ◌≤◌, length, Some, None, IfOk, IfErr};
 ghost use Rattle.plan_model.specs.Network.{count};
-ghost use Rattle.journey_model.specs.Faults.{unread_of};
+ghost use Rattle.journey_model.specs.Faults.{unread_input};
 ghost use Rattle.journey_model.specs.Sites.{last_printable, IsTellable};
 ghost use Rattle.journey_model.specs.Known.{parts_of};
 ghost use Rattle.journey_report.specs.Findings.{findings_of, check_findings};
@@ -68,7 +68,7 @@ pub fn check_over(alloc: Global, read: ReadCertificate) -> Result<Answer, Fault>
     ensures fault { IfErr result (λ fault. fault ≢ Fault.NoMemory
         → IsBroken read.entry.problem.now fault read.entry.query read.entry.certificate) }
     ensures tellable { IfErr result (IsTellable (Some (parts_of read.entry.problem.now))) }
-    ensures read { IfErr result (λ fault. unread_of fault ≡ None) }
+    ensures read { IfErr result (λ fault. unread_input fault ≡ None) }
 {
     let network = &read.problem.timetable.network;
     match check(alloc, &read.certificate, network, &read.query)? {

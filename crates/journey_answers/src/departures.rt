@@ -9,7 +9,7 @@ ghost use Rattle.command_line.specs.Values.{last_until};
 ghost use Rattle.journey_model.specs.Wants.{OrNoMemory};
 ghost use Rattle.plan_model.specs.View.{extended as with_added};
 ghost use Rattle.journey_answers.specs.ByRules.{IsRuled, AreByRules, added_query};
-ghost use Rattle.journey_answers.specs.Departures.{query_until, SafeOf, AreDepartures, HasSafeFor, IsUntil, TellsDepartures, TellsLatest, FailsDepartures, FailsLatest};
+ghost use Rattle.journey_answers.specs.Departures.{query_until, SafeOf, AreDepartures, HasSafeFor, IsUntil, AnswersDepartures, AnswersLatest, FailsDepartures, FailsLatest};
 ghost use Rattle.journey_report.specs.Findings.{findings_of};
 
 use departure_table::{DepartureRow, extended, greatest, says_of_source, table};
@@ -166,7 +166,7 @@ fn departures_answer(
     requires last { IsLater asked.now.query.start.0 last.0 }
     requires departures { AreDepartures asked.now.problem.now asked.now.query last.0 departures }
     requires safe { HasSafeFor asked.now.problem.now asked.now.query }
-    ensures { IfOk result (λ a. TellsDepartures asked.now.problem.now asked.now.query last.0
+    ensures { IfOk result (λ a. AnswersDepartures asked.now.problem.now asked.now.query last.0
         (findings_of a.report) a.text.items) }
 {
     let rows = departures.as_slice();
@@ -183,7 +183,7 @@ fn departures_answer(
 fn latest_answer(alloc: Global, asked: &QueryUntil, moment: Moment) -> Result<Answer, NoMemory>
     requires { IsGreatestMoment (SafeOf asked.now.problem.now asked.now.query)
         asked.now.query.start.0 (Some moment) }
-    ensures { IfOk result (λ a. TellsLatest asked.now.problem.now asked.now.query
+    ensures { IfOk result (λ a. AnswersLatest asked.now.problem.now asked.now.query
         (findings_of a.report) a.text.items) }
 {
     let query = asked.query;
@@ -209,7 +209,7 @@ pub fn departures_over(
 ) -> Result<Answer, Fault>
     requires until { IsLater start.moment.0 until.0 }
     requires last { IsLater start.moment.0 last.0 }
-    ensures answer { IfOk result (λ a. TellsDepartures problem.now
+    ensures answer { IfOk result (λ a. AnswersDepartures problem.now
         (query_until problem.now start.moment.0 until.0) last.0 (findings_of a.report) a.text.items) }
     ensures fault { IfErr result (OrNoMemory (FailsDepartures problem.now
         (query_until problem.now start.moment.0 until.0))) }
@@ -234,7 +234,7 @@ pub fn latest_over(
     until: Moment,
 ) -> Result<Answer, Fault>
     requires { IsLater start.moment.0 until.0 }
-    ensures answer { IfOk result (λ a. TellsLatest problem.now
+    ensures answer { IfOk result (λ a. AnswersLatest problem.now
         (query_until problem.now start.moment.0 until.0) (findings_of a.report) a.text.items) }
     ensures fault { IfErr result (OrNoMemory (FailsLatest problem.now
         (query_until problem.now start.moment.0 until.0))) }

@@ -10,7 +10,7 @@ ghost use Rattle.late_chance.specs.Punctual.{IsPunctual};
 ghost use Rattle.decision_graph.specs.LeastChances.{IsSeenLater};
 ghost use Rattle.journey_answers.specs.Answers.{InQuery, FailsIn};
 ghost use Rattle.journey_report.specs.Findings.{findings_of, punctual_findings};
-ghost use Rattle.journey_answers.specs.Punctual.{IsPunctualText, TellsPunctual};
+ghost use Rattle.journey_answers.specs.Punctual.{IsPunctualText, AnswersPunctual};
 
 use crate::answers::{Asked, asked_of};
 use decision_graph::{Found, PromisedQuery, punctual_plan};
@@ -137,7 +137,7 @@ pub fn punctual_over(
     requires later { start.moment.0 ≤ promise.0 }
     requires soon { promise.0 ≤ start.moment.0 + seconds_per_week }
     ensures answer { IfOk result (λ a. InQuery problem.now start.moment.0 alpha.value
-        (TellsPunctual problem.now promise.0 (findings_of a.report) a.text.items)) }
+        (AnswersPunctual problem.now promise.0 (findings_of a.report) a.text.items)) }
     ensures fault { IfErr result (FailsIn problem.now start.moment.0) }
 {
     let (query, worst, _) = asked_of(alloc, problem, start, alpha)?;

@@ -1,7 +1,7 @@
 //! Bounds on the expected arrival of a graph.
 ghost use Rattle.std.specs.Prelude.{◌≡◌, ◌≢◌, Some, None, IfOk, IfErr};
 ghost use Rattle.plan_graph.specs.Tidy.{IsFit};
-ghost use Rattle.journey_model.specs.Faults.{unread_of};
+ghost use Rattle.journey_model.specs.Faults.{unread_input};
 ghost use Rattle.journey_model.specs.Sites.{IsTellable};
 ghost use Rattle.journey_model.specs.Known.{parts_of};
 ghost use Rattle.journey_report.specs.Findings.{findings_of, score_findings};
@@ -52,7 +52,7 @@ pub fn score_over(alloc: Global, read: ReadGraph) -> Result<Answer, Fault>
     ensures fault { IfErr result (λ fault. fault ≢ Fault.NoMemory
         → IsUnsafeGraph read.entry.problem.now fault read.entry.head read.entry.graph) }
     ensures tellable { IfErr result (IsTellable (Some (parts_of read.entry.problem.now))) }
-    ensures read { IfErr result (λ fault. unread_of fault ≡ None) }
+    ensures read { IfErr result (λ fault. unread_input fault ≡ None) }
 {
     let network = &read.problem.timetable.network;
     match score_fit(alloc, &read.graph, network, &read.head.query)? {

@@ -2,7 +2,7 @@
 ghost use Rattle.std.specs.Prelude.{◌≡◌, ◌≢◌, ◌≤◌, All, Some, None, IfOk, IfErr};
 ghost use Rattle.plan_graph.specs.Tidy.{IsFit};
 ghost use Rattle.command_line.specs.Jobs.{late_in};
-ghost use Rattle.journey_model.specs.Faults.{unread_of};
+ghost use Rattle.journey_model.specs.Faults.{unread_input};
 ghost use Rattle.journey_model.specs.Sites.{last_printable, IsTellable};
 ghost use Rattle.journey_model.specs.Known.{parts_of};
 ghost use Rattle.journey_report.specs.Findings.{findings_of, replay_findings};
@@ -65,7 +65,7 @@ pub fn trip_over(alloc: Global, read: ReadGraph, late: &str) -> Result<Answer, F
         → IsTripFault read.entry.problem.now (late_in late.now) fault
         read.entry.head read.entry.graph) }
     ensures tellable { IfErr result (IsTellable (Some (parts_of read.entry.problem.now))) }
-    ensures read { IfErr result (λ fault. unread_of fault ≡ None) }
+    ensures read { IfErr result (λ fault. unread_input fault ≡ None) }
 {
     let delays = read_late(alloc, late)?;
     let network = &read.problem.timetable.network;

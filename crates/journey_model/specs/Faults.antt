@@ -44,23 +44,23 @@ input_name input.Graph = codes "graph file"
 input_name input.Proof = codes "proof file"
 
 -- the file that cannot be read, where the fault is of this kind
-abbrev pub unread_of : Fault → Option Input
-unread_of (Words fault) = None
-unread_of (Feed fault) = None
-unread_of (Cut fault) = None
-unread_of (Missing input) = None
-unread_of (Delays fault) = None
-unread_of (UnknownStop which) = None
-unread_of (Limit kind count) = None
-unread_of (Read input) = Some input
-unread_of NoSafe = None
-unread_of (GraphFile fault) = None
-unread_of (Replay fault) = None
-unread_of (ProofFile fault) = None
-unread_of (ProofFails connection) = None
-unread_of (Unsafe place moment) = None
-unread_of Write = None
-unread_of NoMemory = None
+abbrev pub unread_input : Fault → Option Input
+unread_input (Words fault) = None
+unread_input (Feed fault) = None
+unread_input (Cut fault) = None
+unread_input (Missing input) = None
+unread_input (Delays fault) = None
+unread_input (UnknownStop which) = None
+unread_input (Limit kind count) = None
+unread_input (Read input) = Some input
+unread_input NoSafe = None
+unread_input (GraphFile fault) = None
+unread_input (Replay fault) = None
+unread_input (ProofFile fault) = None
+unread_input (ProofFails connection) = None
+unread_input (Unsafe place moment) = None
+unread_input Write = None
+unread_input NoMemory = None
 
 -- whether the two inputs are one
 abbrev pub is_input : Input → Input → Bool
@@ -91,13 +91,13 @@ is_input input.Proof input.Graph = false
 is_input input.Proof input.Proof = true
 
 -- whether this file is the one that cannot be read
-abbrev pub is_unread : Option Input → Input → Bool
-is_unread None input = false
-is_unread (Some other) input = is_input other input
+abbrev pub is_unread_input : Option Input → Input → Bool
+is_unread_input None input = false
+is_unread_input (Some other) input = is_input other input
 
 -- where the fault is that a file cannot be read, it is this file
 abbrev pub MayBeUnread : Input → Fault → Type 0
-MayBeUnread input fault = IfSome (unread_of fault) (λ other. other ≡ input)
+MayBeUnread input fault = IfSome (unread_input fault) (λ other. other ≡ input)
 
 -- no file failed to be read, and the answer was written
 abbrev pub IsUndisturbed : Option Fault → Type 0
@@ -105,4 +105,4 @@ IsUndisturbed fault = ((input : Input) → fault ≢ Some (Read input)) × (faul
 
 -- there was no memory, or this is the fault that holds first, where no file but that of the fault is unread
 abbrev pub IsFirst : (Option Input → Option Fault) → Fault → Type 0
-IsFirst first fault = fault ≢ NoMemory → first (unread_of fault) ≡ Some fault
+IsFirst first fault = fault ≢ NoMemory → first (unread_input fault) ≡ Some fault

@@ -6,13 +6,13 @@ use Rattle.file_ports.proofs.CauseLemmas.{causes-of, causes-idle, causes-silent,
 use Rattle.journey_model.specs.declared.faults.Input.{Input}
 use Rattle.journey_model.specs.declared.faults.Fault.{Fault}
 use Rattle.journey_model.specs.declared.faults.Fault.TheVariants.{Read}
-use Rattle.journey_model.specs.Faults.{unread_of, MayBeUnread}
+use Rattle.journey_model.specs.Faults.{unread_input, MayBeUnread}
 use Rattle.journey_problem.specs.Files.{HasCauses}
 
 -- whose fault is not that a file cannot be read
-not_read : {T : Type 0} (r : Result T Fault) → IfErr r (λ fault. unread_of fault ≡ None) → (input : Input) → IsErrAnd r (λ fault. fault ≡ Read input) → ⊥
+not_read : {T : Type 0} (r : Result T Fault) → IfErr r (λ fault. unread_input fault ≡ None) → (input : Input) → IsErrAnd r (λ fault. fault ≡ Read input) → ⊥
 not_read (Ok x) quiet input is = is
-not_read (Err fault) quiet input is = absurd (let read = ap unread_of is in cc)
+not_read (Err fault) quiet input is = absurd (let read = ap unread_input is in cc)
 
 -- the file that cannot be read is this one
 own_file : {T : Type 0} (r : Result T Fault) (mine file : Input) → IfErr r (MayBeUnread mine) → IsErrAnd r (λ fault. fault ≡ Read file) → file ≡ mine
@@ -21,7 +21,7 @@ own_file (Err fault) mine file own is = subst (MayBeUnread mine) is own
 
 module _ {path : Input → Option (List ℕ)} {before now : FilesState} where
   -- a step that reads nothing
-  pub causes-quiet : {T U : Type 0} (x : T) (r : Result U Fault) → HasCauses path before now (Ok x) → IfErr r (λ fault. unread_of fault ≡ None)
+  pub causes-quiet : {T U : Type 0} (x : T) (r : Result U Fault) → HasCauses path before now (Ok x) → IfErr r (λ fault. unread_input fault ≡ None)
       → HasCauses path before now r
   causes-quiet x r h quiet = causes-silent (λ input is. is) (not_read r quiet) h
 
@@ -36,6 +36,6 @@ module _ {path : Input → Option (List ℕ)} {before now : FilesState} where
   causes-then mine r none g h own = causes-own mine r (causes-next none g h) own
 
 -- a step that reads no file
-pub causes-none : {T : Type 0} {path : Input → Option (List ℕ)} {state : FilesState} (r : Result T Fault) → IfErr r (λ fault. unread_of fault ≡ None)
+pub causes-none : {T : Type 0} {path : Input → Option (List ℕ)} {state : FilesState} (r : Result T Fault) → IfErr r (λ fault. unread_input fault ≡ None)
     → HasCauses path state state r
 causes-none r quiet = causes-idle (not_read r quiet)

@@ -8,7 +8,7 @@ use Rattle.journey_model.specs.declared.faults.Input.{Input}
 use Rattle.journey_model.specs.declared.faults.Input.TheVariants as input
 use Rattle.journey_model.specs.declared.faults.Fault.{Fault}
 use Rattle.journey_model.specs.declared.faults.Fault.TheVariants.{NoMemory}
-use Rattle.journey_model.specs.Faults.{unread_of}
+use Rattle.journey_model.specs.Faults.{unread_input}
 use Rattle.journey_model.specs.Stages.{IsOfInput}
 use Rattle.journey_model.specs.declared.problem.Problem.{Problem}
 use Rattle.journey_problem.specs.Files.{bytes_of}
@@ -17,31 +17,31 @@ use Rattle.journey_problem.specs.CertificateFiles.{IsCertificateText, FailsText,
 
 module _ (limits : Limits) (p : Problem) (start : ℕ) (file : Option (List ℕ)) where
   -- a file that cannot be loaded
-  load_fails : (fault : Fault) → bytes_of limits.bytes input.Proof (unread_of fault) file ≡ Err fault
-      → FailsFile p start (bytes_of limits.bytes input.Proof (unread_of fault) file) fault
+  load_fails : (fault : Fault) → bytes_of limits.bytes input.Proof (unread_input fault) file ≡ Err fault
+      → FailsFile p start (bytes_of limits.bytes input.Proof (unread_input fault) file) fault
   load_fails fault is = subst (λ (bytes : Result (List ℕ) Fault). FailsFile p start bytes fault) (sym is) refl
 
   -- a file whose text has a fault
-  text_fails : (text : List ℕ) (fault : Fault) → bytes_of limits.bytes input.Proof None file ≡ Ok text → unread_of fault ≡ None → FailsText p start text fault
-      → FailsFile p start (bytes_of limits.bytes input.Proof (unread_of fault) file) fault
+  text_fails : (text : List ℕ) (fault : Fault) → bytes_of limits.bytes input.Proof None file ≡ Ok text → unread_input fault ≡ None → FailsText p start text fault
+      → FailsFile p start (bytes_of limits.bytes input.Proof (unread_input fault) file) fault
   text_fails text fault there none fails =
       subst (λ (unread : Option Input). FailsFile p start (bytes_of limits.bytes input.Proof unread file) fault) (sym none)
       (subst (λ (bytes : Result (List ℕ) Fault). FailsFile p start bytes fault) (sym there) fails)
 
 module _ (contents : Option FileMap) (limits : Limits) (start : ℕ) (path : List ℕ) (p : Problem) where
   pub unloaded : (fault : Fault) → (fault ≢ NoMemory → IsOfInput input.Proof fault)
-      → IfSome contents (λ files. fault ≢ NoMemory → bytes_of limits.bytes input.Proof (unread_of fault) (file_at files path) ≡ Err fault)
+      → IfSome contents (λ files. fault ≢ NoMemory → bytes_of limits.bytes input.Proof (unread_input fault) (file_at files path) ≡ Err fault)
       → fault ≢ NoMemory → FailsCertificate contents limits start path p fault
   unloaded fault of fails other =
       (of other, IfSome_then contents fails (λ files why. load_fails limits p start (file_at files path) fault (why other)))
 
   module _ (text same : List ℕ) (is : same ≡ text) (there : IfSome contents (λ files. bytes_of limits.bytes input.Proof None (file_at files path) ≡ Ok text)) where
     pub read : (r : Result (Query × LowerBounds) Fault) → IfOk r (λ f. IsCertificateText p start same f.0 f.1) → IfOk r (λ f. IsCertificateFile contents limits start path p f.0 f.1)
-    read (Ok f) tells = record { text = text; reads = there; tells = subst (λ (bytes : List ℕ). IsCertificateText p start bytes f.0 f.1) is tells }
-    read (Err fault) tells = tt
+    read (Ok f) reports = record { text = text; reads = there; reports = subst (λ (bytes : List ℕ). IsCertificateText p start bytes f.0 f.1) is reports }
+    read (Err fault) reports = tt
 
     pub unread : (r : Result (Query × LowerBounds) Fault) → IfErr r (λ fault. fault ≢ NoMemory → FailsText p start same fault)
-        → IfErr r (λ fault. fault ≢ NoMemory → IsOfInput input.Proof fault) → IfErr r (λ fault. unread_of fault ≡ None)
+        → IfErr r (λ fault. fault ≢ NoMemory → IsOfInput input.Proof fault) → IfErr r (λ fault. unread_input fault ≡ None)
         → IfErr r (λ fault. fault ≢ NoMemory → FailsCertificate contents limits start path p fault)
     unread (Ok f) fails of none = tt
     unread (Err fault) fails of none = λ other. (

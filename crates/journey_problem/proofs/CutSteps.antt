@@ -4,7 +4,7 @@ use Rattle.std.specs.Option.{option_or}
 use Rattle.file_ports.specs.Ports.{FileMap, file_at}
 use Rattle.csv_rows.specs.declared.limits.Limits.{Limits}
 use Rattle.cut_file.specs.CutNetwork.{IsCutNetwork}
-use Rattle.cut_file.specs.Read.{Cut as CutParts, IsRead}
+use Rattle.cut_file.specs.Read.{Cut as CutParts, IsCutRead}
 use Rattle.delay_table.specs.DelayLists.{DelayLists}
 use Rattle.delay_table.specs.Slots.{AreDelays}
 use Rattle.plan_model.specs.NameLists.{NameLists}
@@ -15,7 +15,7 @@ use Rattle.journey_model.specs.declared.faults.Input.{Input}
 use Rattle.journey_model.specs.declared.faults.Input.TheVariants as input
 use Rattle.journey_model.specs.declared.faults.Fault.{Fault}
 use Rattle.journey_model.specs.declared.faults.Fault.TheVariants.{NoMemory}
-use Rattle.journey_model.specs.Faults.{IsFirst, MayBeUnread, unread_of}
+use Rattle.journey_model.specs.Faults.{IsFirst, MayBeUnread, unread_input}
 use Rattle.journey_model.specs.declared.problem.Problem.{Problem}
 use Rattle.journey_problem.specs.Files.{Records}
 use Rattle.journey_problem.specs.InputTables.{HasCut, cut_fault, cut_records, delay_fault, IsCutOfSome, AreDelaysOf}
@@ -31,7 +31,7 @@ of_parts P n names t network named h (Err fault) is = tt
 -- the network of a table that was read
 abbrev pub IsNetworkOf : CutParts → DelayLists → Problem → Type 0
 IsNetworkOf cut lists p =
-    (table : Records) → IsRead table cut.runs cut.places cut.rows cut.keys → IsCutNetwork table lists p.timetable.network p.timetable.names
+    (table : Records) → IsCutRead table cut.runs cut.places cut.rows cut.keys → IsCutNetwork table lists p.timetable.network p.timetable.names
 
 module _ (j : JourneyModel) (cut : CutParts) (lists : DelayLists) where
   -- the timetable of a cut file is that of some cut file
@@ -72,7 +72,7 @@ module _ (j : JourneyModel) (cut : CutParts) (lists : DelayLists) where
 
     -- the fault of a stop after two files with none
     pub stop_first : (r : Result Problem Fault) → delay_fault limits (file_at files j.delays) None ≡ None
-        → IfErr r (λ fault. fault ≢ NoMemory → stop_fault cut.places j.from j.to ≡ Some fault) → IfErr r (λ fault. unread_of fault ≡ None)
+        → IfErr r (λ fault. fault ≢ NoMemory → stop_fault cut.places j.from j.to ≡ Some fault) → IfErr r (λ fault. unread_input fault ≡ None)
         → IfErr r (λ fault. (path : List ℕ) → HasCut limits (file_at files path) cut → IsFirst (cut_problem_fault limits files path j) fault)
     stop_first (Ok p) delays why quiet = tt
     stop_first (Err fault) delays why quiet = λ path has free.
@@ -88,7 +88,7 @@ no_fault_beside limits file (Some other) own none = subst (λ (i : Input). cut_f
 pub delay_first : (limits : Limits) (files : FileMap) (path : List ℕ) (j : JourneyModel) (cut : CutParts) (fault : Fault) → HasCut limits (file_at files path) cut
     → MayBeUnread input.Delays fault → IsFirst (delay_fault limits (file_at files j.delays)) fault → IsFirst (cut_problem_fault limits files path j) fault
 delay_first limits files path j cut fault has own first = λ free.
-    let u = unread_of fault in
+    let u = unread_input fault in
     let stop = stop_fault (places_in (cut_records limits u (file_at files path))) j.from j.to in
     ap (λ (f : Option Fault). option_or f (option_or (delay_fault limits (file_at files j.delays) u) stop)) (no_fault_beside limits (file_at files path) u own has.0)
     ∙ ap (λ (f : Option Fault). option_or f stop) (first free)

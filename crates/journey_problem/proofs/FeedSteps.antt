@@ -11,7 +11,7 @@ use Rattle.journey_model.specs.declared.faults.Input.{Input}
 use Rattle.journey_model.specs.declared.faults.Fault.{Fault}
 use Rattle.journey_model.specs.declared.faults.Fault.TheVariants.{NoMemory}
 use Rattle.journey_model.specs.declared.problem.Problem.{Problem}
-use Rattle.journey_model.specs.Faults.{MayBeUnread, unread_of}
+use Rattle.journey_model.specs.Faults.{MayBeUnread, unread_input}
 use Rattle.journey_problem.specs.InputTables.{AreDelaysOf, delay_fault}
 use Rattle.journey_problem.specs.FeedProblems.{GtfsFolder, IsFolder, IsSoundFolder, IsWindowFault, IsFaultAfterFolder, IsFeedProblem, HasFeedTimetable, window_fault_of}
 
@@ -56,6 +56,6 @@ module _ (limits : Limits) (files : FileMap) (horizon : ℕ) (j : JourneyModel) 
   window_problem (Err fault) network no_fault source target = tt
 
 -- a step that reads nothing has no unread file
-pub none_unread_of : (mine : Input) (r : Result Problem Fault) → IfErr r (λ fault. unread_of fault ≡ None) → IfErr r (MayBeUnread mine)
+pub none_unread_of : (mine : Input) (r : Result Problem Fault) → IfErr r (λ fault. unread_input fault ≡ None) → IfErr r (MayBeUnread mine)
 none_unread_of mine (Ok p) quiet = tt
 none_unread_of mine (Err fault) quiet = subst (λ (o : Option Input). IfSome o (λ other. other ≡ mine)) (sym quiet) tt

@@ -12,7 +12,7 @@ use Rattle.journey_model.specs.declared.faults.Input.{Input}
 use Rattle.journey_model.specs.declared.faults.Input.TheVariants as input
 use Rattle.journey_model.specs.declared.faults.Fault.{Fault}
 use Rattle.journey_model.specs.declared.faults.Fault.TheVariants.{NoMemory}
-use Rattle.journey_model.specs.Faults.{unread_of}
+use Rattle.journey_model.specs.Faults.{unread_input}
 use Rattle.journey_model.specs.declared.problem.Problem.{Problem}
 use Rattle.journey_problem.specs.Files.{bytes_of, Finds}
 use Rattle.journey_problem.specs.GraphFiles.{graph_as, graph_in, IsGraphFile}
@@ -27,9 +27,9 @@ module _ (limits : Limits) (p : Problem) (start : ℕ) (file : Option (List ℕ)
 
   pub graph_finds : (r : Result (Head × PlanGraph) Fault) → IfOk r (λ f. graph_of text p.timetable.network p.timetable.names p.source.0 p.target.0 start ≡ Ok (f.0, f.1))
       → IfErr r (λ fault. fault ≢ NoMemory → graph_as (graph_of text p.timetable.network p.timetable.names p.source.0 p.target.0 start) ≡ Err fault)
-      → IfErr r (λ fault. unread_of fault ≡ None) → Finds (λ f. (f.0, f.1)) (λ unread. graph_in limits p start unread file) r
+      → IfErr r (λ fault. unread_input fault ≡ None) → Finds (λ f. (f.0, f.1)) (λ unread. graph_in limits p start unread file) r
   graph_finds (Ok f) ok err none = read_of None refl ∙ ap graph_as ok
-  graph_finds (Err fault) ok err none = λ other. read_of (unread_of fault) none ∙ err other
+  graph_finds (Err fault) ok err none = λ other. read_of (unread_input fault) none ∙ err other
 
 -- the head and the graph that were read
 pub graph_file : (contents : Option FileMap) (limits : Limits) (start : ℕ) (path : List ℕ) (p : Problem) (head : Head) (graph : PlanGraph)

@@ -5,7 +5,7 @@ use Rattle.csv_rows.specs.FeedTables.{rank_of}
 use Rattle.journey_model.specs.declared.faults.Input.{Input}
 use Rattle.journey_model.specs.declared.faults.Input.TheVariants as input
 use Rattle.journey_model.specs.declared.faults.Fault.TheVariants.{Read}
-use Rattle.journey_model.specs.Faults.{is_unread}
+use Rattle.journey_model.specs.Faults.{is_unread_input}
 use Rattle.journey_problem.specs.Files.{bytes_of, bytes_present}
 
 pub if_some_any : {A : Type 0} (o : Option A) (P : A → Type 0) → ((a : A) → P a) → IfSome o P
@@ -15,7 +15,7 @@ if_some_any (Some a) P f = f a
 same_rank : (n : ℕ) → (n == n) ≡ true
 same_rank n = grind (arith, nat_tests)
 
-own_unread : (file : Input) → is_unread (Some file) file ≡ true
+own_unread : (file : Input) → is_unread_input (Some file) file ≡ true
 own_unread (input.Feed table) = same_rank (rank_of table)
 own_unread input.Cut = refl
 own_unread input.Delays = refl

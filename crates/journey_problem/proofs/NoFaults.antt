@@ -5,18 +5,18 @@ use Rattle.csv_rows.specs.declared.limits.Limits.{Limits}
 use Rattle.csv_rows.specs.declared.feed_tables.Table.{Table}
 use Rattle.csv_rows.specs.declared.feed_tables.FeedFault.{FeedFault}
 use Rattle.csv_rows.specs.declared.feed_tables.FeedFault.TheVariants as feed
-use Rattle.csv_rows.specs.FeedTables.{unread_of as unread_table_of}
+use Rattle.csv_rows.specs.FeedTables.{unread_table}
 use Rattle.gtfs_tables.specs.Feeds.{FeedParts, Tables, tables_in, IsFeedOf}
 use Rattle.service_days.specs.Calendars.{calendars_in, RunsBy}
 use Rattle.service_days.specs.Services.{runs}
-use Rattle.change_times.specs.Changes.{AreToldChanges, transfers_in}
+use Rattle.change_times.specs.Changes.{AreCollectedChanges, transfers_in}
 use Rattle.change_times.specs.Transfers.{place_of_stop}
 use Rattle.command_line.specs.Jobs.{TimetableModel, CutFile, FeedFolder, JourneyModel}
 use Rattle.journey_model.specs.declared.faults.Input.{Input}
 use Rattle.journey_model.specs.declared.faults.Input.TheVariants as input
 use Rattle.journey_model.specs.declared.faults.Fault.{Fault}
 use Rattle.journey_model.specs.declared.faults.Fault.TheVariants.{Read, NoMemory}
-use Rattle.journey_model.specs.Faults.{unread_of}
+use Rattle.journey_model.specs.Faults.{unread_input}
 use Rattle.journey_problem.specs.CutProblems.{cut_problem_fault}
 use Rattle.journey_problem.specs.InputTables.{delay_fault}
 use Rattle.journey_problem.specs.FeedProblems.{feed_as, GtfsFolder, IsFolder, IsFolderFault, IsLaterTableFault, IsFaultAfterFolder, IsWindowFault, IsFeedProblem, IsFeedProblemFault}
@@ -28,11 +28,11 @@ use Rattle.journey_problem.proofs.OneFeedProblem.{one_folder, one_window_fault}
 abbrev NotRead : Fault → Type 0
 NotRead fault = (i : Input) → fault ≡ Read i → ⊥
 
-pub none_unread : (fault : Fault) → ((i : Input) → fault ≡ Read i → ⊥) → unread_of fault ≡ None
+pub none_unread : (fault : Fault) → ((i : Input) → fault ≡ Read i → ⊥) → unread_input fault ≡ None
 none_unread (Read i) n = absurd (n i refl)
 none_unread fault n = refl
 
-pub table_read : (limits : Limits) (g : FeedFault) → ((i : Input) → feed_as limits g ≡ Read i → ⊥) → unread_table_of g ≡ None
+pub table_read : (limits : Limits) (g : FeedFault) → ((i : Input) → feed_as limits g ≡ Read i → ⊥) → unread_table g ≡ None
 table_read limits (feed.Read table) n = absurd (n (input.Feed table) refl)
 table_read limits g n = refl
 
@@ -48,7 +48,7 @@ not_feed (Ok t) f e h k = cc
 not_feed (Err g) f e h k = h
 
 no_cut_fault : (limits : Limits) (files : FileMap) (path : List ℕ) (j : JourneyModel) (fault : Fault) → cut_problem_fault limits files path j None ≡ None
-    → NotRead fault → cut_problem_fault limits files path j (unread_of fault) ≡ Some fault → ⊥
+    → NotRead fault → cut_problem_fault limits files path j (unread_input fault) ≡ Some fault → ⊥
 no_cut_fault limits files path j fault none n h =
     not_both (cut_problem_fault limits files path j None) fault none (subst (λ (u : Option Input). cut_problem_fault limits files path j u ≡ Some fault) (none_unread fault n) h)
 
@@ -57,14 +57,14 @@ no_stop f from to a b fault h k e =
     let g : feed_stop_fault f from to ≡ None = rw (h, k) refl in cc
 
 module _ (limits : Limits) (files : FileMap) (folder : List ℕ) (h : GtfsFolder) (is : IsFolder limits files folder h) where
-  no_later : (f : FeedParts) (g : FeedFault) → f ≡ h.feed → unread_table_of g ≡ None → IsLaterTableFault limits files folder f g → ⊥
+  no_later : (f : FeedParts) (g : FeedFault) → f ≡ h.feed → unread_table g ≡ None → IsLaterTableFault limits files folder f g → ⊥
   no_later f g e u (inl k) =
       not_err (calendars_in files folder limits None) (RunsBy (runs h.services)) g is.services (subst (λ (t : Option Table). calendars_in files folder limits t ≡ Err g) u k)
   no_later f g e u (inr (ok, k)) =
-      not_err (transfers_in files folder limits None h.feed) (AreToldChanges h.feed h.changes) g is.changes
+      not_err (transfers_in files folder limits None h.feed) (AreCollectedChanges h.feed h.changes) g is.changes
       (subst (λ (x : FeedParts). transfers_in files folder limits None x ≡ Err g) e (subst (λ (t : Option Table). transfers_in files folder limits t f ≡ Err g) u k))
 
-  pub no_folder_fault : (g : FeedFault) → unread_table_of g ≡ None → IsFolderFault limits files folder g → ⊥
+  pub no_folder_fault : (g : FeedFault) → unread_table g ≡ None → IsFolderFault limits files folder g → ⊥
   no_folder_fault g u (inl k) =
       not_feed (tables_in files folder limits None) h.feed g is.feed (subst (λ (t : Option Table). tables_in files folder limits t ≡ Err g) u k)
   no_folder_fault g u (inr (f, feed, later)) = no_later f g (one_feed_of (tables_in files folder limits None) f h.feed feed is.feed) u later

@@ -10,7 +10,7 @@ use Rattle.table_files.specs.Required.{Records}
 use Rattle.gtfs_tables.specs.Feeds.{FeedParts, tables_in}
 use Rattle.service_days.specs.Services.{ServiceParts, runs}
 use Rattle.service_days.specs.Calendars.{Calendars, calendars_in, RunsBy}
-use Rattle.change_times.specs.Changes.{ChangeParts, AreToldChanges, seconds_of, links_of, transfers_in}
+use Rattle.change_times.specs.Changes.{ChangeParts, AreCollectedChanges, change_seconds, links_of, transfers_in}
 use Rattle.change_times.specs.Transfers.{place_of_stop}
 use Rattle.connections.specs.Cut.{IsNetworkFrom, connection_count, entry_count}
 use Rattle.connections.specs.Faults.{window_fault}
@@ -25,19 +25,19 @@ use Rattle.journey_problem.proofs.OneWindow.{SameDays, same_count, same_entries,
 pub record SameGtfsFolder (g h : GtfsFolder) : Type 0 where
   pub feed : g.feed ≡ h.feed
   pub days : SameDays g.services h.services
-  pub changes : (place : ℕ) → seconds_of g.changes place ≡ seconds_of h.changes place
+  pub changes : (place : ℕ) → change_seconds g.changes place ≡ change_seconds h.changes place
   pub links : (place : ℕ) → links_of g.changes place ≡ links_of h.changes place
 
 same_days : (r : Result Calendars FeedFault) (s t : ServiceParts) → IsOkAnd r (RunsBy (runs s)) → IsOkAnd r (RunsBy (runs t)) → SameDays s t
 same_days (Ok c) s t a b = λ service day. a service day ∙ sym (b service day)
 same_days (Err fault) s t a b = absurd a
 
-same_changes : (r : Result Records FeedFault) (f : FeedParts) (c d : ChangeParts) → IsOkAnd r (AreToldChanges f c) → IsOkAnd r (AreToldChanges f d) → (place : ℕ)
-    → seconds_of c place ≡ seconds_of d place
+same_changes : (r : Result Records FeedFault) (f : FeedParts) (c d : ChangeParts) → IsOkAnd r (AreCollectedChanges f c) → IsOkAnd r (AreCollectedChanges f d) → (place : ℕ)
+    → change_seconds c place ≡ change_seconds d place
 same_changes (Ok t) f c d a b = λ place. a.seconds place ∙ sym (b.seconds place)
 same_changes (Err fault) f c d a b = absurd a
 
-same_links : (r : Result Records FeedFault) (f : FeedParts) (c d : ChangeParts) → IsOkAnd r (AreToldChanges f c) → IsOkAnd r (AreToldChanges f d) → (place : ℕ) → links_of c place ≡ links_of d place
+same_links : (r : Result Records FeedFault) (f : FeedParts) (c d : ChangeParts) → IsOkAnd r (AreCollectedChanges f c) → IsOkAnd r (AreCollectedChanges f d) → (place : ℕ) → links_of c place ≡ links_of d place
 same_links (Ok t) f c d a b = λ place.
     ⊎_elim (λ (inside : place < length f.stop_ids). a.links place inside ∙ sym (b.links place inside))
     (λ (past : length f.stop_ids ≤ place). get_or_past c.links place [] (omega (arith, a.few)) ∙ sym (get_or_past d.links place [] (omega (arith, b.few))))
@@ -49,7 +49,7 @@ module _ (limits : Limits) (files : FileMap) (folder : List ℕ) where
   pub one_folder : (g h : GtfsFolder) → IsFolder limits files folder g → IsFolder limits files folder h → SameGtfsFolder g h
   one_folder g h a b =
       let feed : g.feed ≡ h.feed = one_feed_of (tables_in files folder limits None) g.feed h.feed a.feed b.feed in
-      let other = subst (λ (f : FeedParts). IsOkAnd (transfers_in files folder limits None f) (AreToldChanges f h.changes)) (sym feed) b.changes in
+      let other = subst (λ (f : FeedParts). IsOkAnd (transfers_in files folder limits None f) (AreCollectedChanges f h.changes)) (sym feed) b.changes in
       record {
         feed = feed;
         days = same_days (calendars_in files folder limits None) g.services h.services a.services b.services;

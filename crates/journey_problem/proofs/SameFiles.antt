@@ -9,7 +9,7 @@ use Rattle.csv_rows.specs.declared.feed_tables.Table.TheVariants.{Calendar, Cale
 use Rattle.gtfs_tables.specs.Feeds.{tables_in, tables_from, IsFeedOf}
 use Rattle.service_days.specs.Services.{runs}
 use Rattle.service_days.specs.Calendars.{calendars_in, calendars_from, calendar_from, dates_from, RunsBy}
-use Rattle.change_times.specs.Changes.{AreToldChanges, transfers_from}
+use Rattle.change_times.specs.Changes.{AreCollectedChanges, transfers_from}
 use Rattle.command_line.specs.Jobs.{JourneyModel}
 use Rattle.journey_model.specs.declared.problem.Problem.{Problem}
 use Rattle.journey_problem.specs.InputTables.{AreDelaysOf, delay_fault}
@@ -29,7 +29,7 @@ module _ (limits : Limits) (files other : FileMap) (same : (path : List ℕ) →
   same_folder folder h a = record {
     feed = subst (λ r. IsFeedOf r h.feed) (same_tables folder) a.feed;
     services = subst (λ r. IsOkAnd r (RunsBy (runs h.services))) (same_calendars folder) a.services;
-    changes = subst (λ (f : Option (List ℕ)). IsOkAnd (transfers_from h.feed (load_of None limits Transfers f)) (AreToldChanges h.feed h.changes)) (same (path_of folder Transfers)) a.changes;
+    changes = subst (λ (f : Option (List ℕ)). IsOkAnd (transfers_from h.feed (load_of None limits Transfers f)) (AreCollectedChanges h.feed h.changes)) (same (path_of folder Transfers)) a.changes;
   }
 
   pub same_feed_problem : (folder : List ℕ) (horizon : ℕ) (j : JourneyModel) (p : Problem) → IsFeedProblem limits files folder horizon j p → IsFeedProblem limits other folder horizon j p

@@ -6,20 +6,20 @@ use Rattle.csv_rows.specs.declared.limits.Limits.{Limits}
 use Rattle.cut_file.specs.declared.faults.CutFault.{CutFault}
 use Rattle.cut_file.specs.declared.faults.CutFault.TheVariants.{NoMemory as CutMemory}
 use Rattle.cut_file.specs.Faults.{first_cut_fault}
-use Rattle.cut_file.specs.Read.{Cut as CutParts, IsRead}
+use Rattle.cut_file.specs.Read.{Cut as CutParts, IsCutRead}
 use Rattle.delay_table.specs.declared.faults.DelayFault.{DelayFault}
 use Rattle.delay_table.specs.declared.faults.DelayFault.TheVariants.{NoMemory as DelayMemory}
 use Rattle.delay_table.specs.Delays.{delays_of, first_delay_fault}
 use Rattle.delay_table.specs.DelayLists.{DelayLists}
 use Rattle.journey_model.specs.declared.faults.Fault.{Fault}
 use Rattle.journey_model.specs.declared.faults.Fault.TheVariants.{Delays, NoMemory}
-use Rattle.journey_model.specs.Faults.{IsFirst, unread_of}
+use Rattle.journey_model.specs.Faults.{IsFirst, unread_input}
 use Rattle.journey_problem.specs.Files.{Records}
 use Rattle.journey_problem.specs.InputTables.{cut_as, fault_in, cut_fault, cut_records, delay_records, delay_fault, IsCutOf, IsCutOfSome, AreDelaysOf}
 
 -- a table that was read with no fault
 pub cut_of_some : (table : Records) (parts : CutParts) (text : List ℕ) (limit : ℕ) → table ≡ table_of text → limit ≤ standard.cut_rows
-    → first_cut_fault table limit ≡ None → IsRead table parts.runs parts.places parts.rows parts.keys → IsCutOfSome parts
+    → first_cut_fault table limit ≡ None → IsCutRead table parts.runs parts.places parts.rows parts.keys → IsCutOfSome parts
 cut_of_some table parts text limit is few none read = (table, record { text = text; limit = limit; is_table = is; few = few; none = none }, read)
 
 -- what reading the cut file gives, by its table
@@ -27,11 +27,11 @@ module _ (limits : Limits) (file : Option (List ℕ)) (table : Records) (ok : cu
   abbrev by_table : Result Records Fault → Option Fault
   by_table = fault_in (λ t. option_map cut_as (first_cut_fault t limits.cut_rows))
 
-  pub cut_none : (parts : CutParts) → first_cut_fault table limits.cut_rows ≡ None → IsRead table parts.runs parts.places parts.rows parts.keys
+  pub cut_none : (parts : CutParts) → first_cut_fault table limits.cut_rows ≡ None → IsCutRead table parts.runs parts.places parts.rows parts.keys
       → (cut_fault limits file None ≡ None) × IsCutOf limits file parts
   cut_none parts none read = (ap by_table ok ∙ ap (option_map cut_as) none, (table, ok, read))
 
-  pub cut_first : (f : CutFault) (fault : Fault) → fault ≡ cut_as f → unread_of fault ≡ None
+  pub cut_first : (f : CutFault) (fault : Fault) → fault ≡ cut_as f → unread_input fault ≡ None
       → (f ≢ CutMemory → first_cut_fault table limits.cut_rows ≡ Some f) → IsFirst (cut_fault limits file) fault
   cut_first f fault is read first = λ free.
       let found = first (λ e. free (is ∙ ap cut_as e)) in
@@ -45,7 +45,7 @@ module _ (limits : Limits) (file : Option (List ℕ)) (table : Records) (ok : de
   pub delays_none : (lists : DelayLists) → first_delay_fault table ≡ None → lists ≡ delays_of table → (delay_fault limits file None ≡ None) × AreDelaysOf limits file lists
   delays_none lists none are = (ap delays_by_table ok ∙ ap (option_map Delays) none, (table, ok, are))
 
-  pub delays_first : (f : DelayFault) (fault : Fault) → (f ≢ DelayMemory → fault ≡ Delays f) → (f ≡ DelayMemory → fault ≡ NoMemory) → unread_of fault ≡ None
+  pub delays_first : (f : DelayFault) (fault : Fault) → (f ≢ DelayMemory → fault ≡ Delays f) → (f ≡ DelayMemory → fault ≡ NoMemory) → unread_input fault ≡ None
       → (f ≢ DelayMemory → first_delay_fault table ≡ Some f) → IsFirst (delay_fault limits file) fault
   delays_first f fault is none read first = λ free.
       let other : f ≢ DelayMemory = λ e. free (none e) in

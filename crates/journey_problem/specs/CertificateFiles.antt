@@ -6,18 +6,18 @@ use Rattle.csv_rows.specs.declared.limits.Limits.{Limits}
 use Rattle.plan_model.specs.declared.model.Query.{Query}
 use Rattle.lower_proof.specs.declared.LowerBounds.{LowerBounds}
 use Rattle.lower_proof.specs.declared.reader.ProofFault.{ProofFault}
-use Rattle.lower_proof.specs.Reading.{bounds_in, IsFaultAfter, IsProofTold}
+use Rattle.lower_proof.specs.Reading.{bounds_in, IsFaultAfter, IsProofReported}
 use Rattle.journey_model.specs.declared.faults.Input.TheVariants as input
 use Rattle.journey_model.specs.declared.faults.Fault.{Fault}
 use Rattle.journey_model.specs.declared.faults.Fault.TheVariants.{ProofFile}
-use Rattle.journey_model.specs.Faults.{unread_of}
+use Rattle.journey_model.specs.Faults.{unread_input}
 use Rattle.journey_model.specs.Stages.{IsOfInput}
 use Rattle.journey_model.specs.declared.problem.Problem.{Problem}
 use Rattle.journey_problem.specs.Files.{bytes_of}
 
 -- a text has this query and this certificate, of the problem's source and target and from a start on
 abbrev pub IsCertificateText : Problem → ℕ → List ℕ → Query → LowerBounds → Type 0
-IsCertificateText p start text query proof = IsProofTold p.timetable.network p.timetable.names p.source.0 p.target.0 start (table_of text) query proof.values
+IsCertificateText p start text query proof = IsProofReported p.timetable.network p.timetable.names p.source.0 p.target.0 start (table_of text) query proof.values
 
 -- the first fault of a text
 abbrev pub FailsText : Problem → ℕ → List ℕ → Fault → Type 0
@@ -34,7 +34,7 @@ FailsFile p start (Err first) fault = fault ≡ first
 pub record IsCertificateFile (contents : Option FileMap) (limits : Limits) (start : ℕ) (path : List ℕ) (p : Problem) (query : Query) (proof : LowerBounds) : Type 0 where
   pub text : List ℕ
   pub reads : IfSome contents (λ files. bytes_of limits.bytes input.Proof None (file_at files path) ≡ Ok text)
-  pub tells : IsCertificateText p start text query proof
+  pub reports : IsCertificateText p start text query proof
 
 -- this holds of the query and the certificate of the certificate file
 abbrev pub InCertificateFile : Option FileMap → Limits → ℕ → List ℕ → Problem → (Query → LowerBounds → Type 0) → Type 0
@@ -43,4 +43,4 @@ InCertificateFile contents limits start path p P = (query : Query) × (proof : L
 -- the first fault of the certificate file is this one, where no file but that of the fault is unread
 abbrev pub FailsCertificate : Option FileMap → Limits → ℕ → List ℕ → Problem → Fault → Type 0
 FailsCertificate contents limits start path p fault =
-    IsOfInput input.Proof fault × IfSome contents (λ files. FailsFile p start (bytes_of limits.bytes input.Proof (unread_of fault) (file_at files path)) fault)
+    IsOfInput input.Proof fault × IfSome contents (λ files. FailsFile p start (bytes_of limits.bytes input.Proof (unread_input fault) (file_at files path)) fault)

@@ -55,7 +55,7 @@ IsOfTimetable timetable Write = Unit {0}
 IsOfTimetable timetable NoMemory = Unit {0}
 
 -- it is a fault of the timetable, of its delays, of the stops of a journey or of the window; or there was no memory. A fault
--- that is told of a file is of what this holds
+-- that is known of a file is about what it contains
 pub record IsBeforeSearch (timetable : TimetableModel) (fault : Fault) : Type 0 where
   pub stage : IsStageBeforeSearch (stage_of fault)
   pub of_timetable : IsOfTimetable timetable fault

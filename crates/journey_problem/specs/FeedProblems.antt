@@ -4,11 +4,11 @@ use Rattle.file_ports.specs.Ports.{FileMap, file_at}
 use Rattle.csv_rows.specs.declared.feed_tables.FeedFault.{FeedFault}
 use Rattle.csv_rows.specs.declared.feed_tables.FeedFault.TheVariants as feed
 use Rattle.csv_rows.specs.declared.limits.Limits.{Limits}
-use Rattle.csv_rows.specs.FeedTables.{unread_of as unread_table_of}
+use Rattle.csv_rows.specs.FeedTables.{unread_table}
 use Rattle.gtfs_tables.specs.Feeds.{FeedParts, tables_in, IsFeedOf, IsSoundFeed}
 use Rattle.service_days.specs.Services.{ServiceParts, runs}
 use Rattle.service_days.specs.Calendars.{calendars_in, RunsBy, RunsBySome}
-use Rattle.change_times.specs.Changes.{ChangeParts, AreToldChanges, AreToldBySome, transfers_in}
+use Rattle.change_times.specs.Changes.{ChangeParts, AreCollectedChanges, AreReportedBySome, transfers_in}
 use Rattle.change_times.specs.Transfers.{place_of_stop}
 use Rattle.delay_table.specs.DelayLists.{DelayLists}
 use Rattle.delay_table.specs.Slots.{AreDelays}
@@ -22,7 +22,7 @@ use Rattle.journey_model.specs.declared.faults.LimitKind.TheVariants.{Bytes, Row
 use Rattle.journey_model.specs.declared.faults.Fault.{Fault}
 use Rattle.journey_model.specs.declared.faults.Fault.TheVariants.{Feed, UnknownStop, Limit, Read, NoMemory}
 use Rattle.journey_model.specs.declared.problem.Problem.{Problem}
-use Rattle.journey_model.specs.Faults.{unread_of}
+use Rattle.journey_model.specs.Faults.{unread_input}
 use Rattle.journey_problem.specs.InputTables.{AreDelaysOf, delay_fault}
 
 -- a fault of a feed as one of the run
@@ -48,24 +48,24 @@ pub record GtfsFolder : Type 0 where
 pub record IsFolder (limits : Limits) (files : FileMap) (folder : List ℕ) (h : GtfsFolder) : Type 0 where
   pub feed : IsFeedOf (tables_in files folder limits None) h.feed
   pub services : IsOkAnd (calendars_in files folder limits None) (RunsBy (runs h.services))
-  pub changes : IsOkAnd (transfers_in files folder limits None h.feed) (AreToldChanges h.feed h.changes)
+  pub changes : IsOkAnd (transfers_in files folder limits None h.feed) (AreCollectedChanges h.feed h.changes)
 
 -- the later tables have no fault, and these are the services and the change times
 abbrev pub AreRules : Limits → FileMap → List ℕ → FeedParts → ServiceParts → ChangeParts → Type 0
 AreRules limits files folder f s c =
-    IsOkAnd (calendars_in files folder limits None) (RunsBy (runs s)) × IsOkAnd (transfers_in files folder limits None f) (AreToldChanges f c)
+    IsOkAnd (calendars_in files folder limits None) (RunsBy (runs s)) × IsOkAnd (transfers_in files folder limits None f) (AreCollectedChanges f c)
 
 -- after tables with no fault the first fault is this one, of the calendars or else of the transfers
 abbrev pub IsLaterTableFault : Limits → FileMap → List ℕ → FeedParts → FeedFault → Type 0
 IsLaterTableFault limits files folder f fault =
-    (calendars_in files folder limits (unread_table_of fault) ≡ Err fault)
-    ⊎ (IsOk (calendars_in files folder limits None) × (transfers_in files folder limits (unread_table_of fault) f ≡ Err fault))
+    (calendars_in files folder limits (unread_table fault) ≡ Err fault)
+    ⊎ (IsOk (calendars_in files folder limits None) × (transfers_in files folder limits (unread_table fault) f ≡ Err fault))
 
 -- the first fault of a folder is this one, where no table but that of the fault is unread: of the tables of the feed, or
 -- else of the later ones
 abbrev pub IsFolderFault : Limits → FileMap → List ℕ → FeedFault → Type 0
 IsFolderFault limits files folder fault =
-    (tables_in files folder limits (unread_table_of fault) ≡ Err fault)
+    (tables_in files folder limits (unread_table fault) ≡ Err fault)
     ⊎ ((f : FeedParts) × IsFeedOf (tables_in files folder limits None) f × IsLaterTableFault limits files folder f fault)
 
 -- a stop of the journey that the feed does not have
@@ -94,7 +94,7 @@ IsWindowFault limits horizon j h fault =
 -- after a folder with no fault the first fault is this one: of the delay file, or else of the window
 abbrev pub IsFaultAfterFolder : Limits → FileMap → ℕ → JourneyModel → GtfsFolder → Fault → Type 0
 IsFaultAfterFolder limits files horizon j h fault =
-    (delay_fault limits (file_at files j.delays) (unread_of fault) ≡ Some fault)
+    (delay_fault limits (file_at files j.delays) (unread_input fault) ≡ Some fault)
     ⊎ ((delay_fault limits (file_at files j.delays) None ≡ None) × IsWindowFault limits horizon j h fault)
 
 -- the first fault is this one: of the folder, or else of what comes after it
@@ -110,11 +110,11 @@ pub record IsFeedTimetable (parts : GtfsFolder) (lists : DelayLists) (horizon : 
   pub source : place_of_stop parts.feed j.from ≡ Some p.source.0
   pub target : place_of_stop parts.feed j.to ≡ Some p.target.0
 
--- whatever the files tell, each part is that of some tables with no fault
+-- whatever the files contain, each part is that of some tables with no fault
 pub record IsSoundFolder (h : GtfsFolder) : Type 0 where
   pub feed : IsSoundFeed h.feed
   pub services : RunsBySome (runs h.services)
-  pub changes : AreToldBySome h.feed h.changes
+  pub changes : AreReportedBySome h.feed h.changes
 
 -- this is so of some folder with no fault and some delays
 abbrev pub HasFeedTimetable : ℕ → JourneyModel → Problem → Type 0

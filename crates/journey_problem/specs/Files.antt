@@ -12,7 +12,7 @@ use Rattle.journey_model.specs.declared.faults.Input.TheVariants as input
 use Rattle.journey_model.specs.declared.faults.LimitKind.TheVariants.{Bytes}
 use Rattle.journey_model.specs.declared.faults.Fault.{Fault}
 use Rattle.journey_model.specs.declared.faults.Fault.TheVariants.{Missing, Limit, Read, NoMemory}
-use Rattle.journey_model.specs.Faults.{unread_of, is_unread}
+use Rattle.journey_model.specs.Faults.{unread_input, is_unread_input}
 
 -- the records of a table, of which the first is the header
 abbrev pub Records : Type 0
@@ -48,7 +48,7 @@ bytes_present most input (Some bytes) = if nat_lt most (length bytes) then Err (
 
 -- the bytes of a file, where at most one file is unread
 abbrev pub bytes_of : ℕ → Input → Option Input → Option (List ℕ) → Result (List ℕ) Fault
-bytes_of most input unread file = if is_unread unread input then Err (Read input) else bytes_present most input file
+bytes_of most input unread file = if is_unread_input unread input then Err (Read input) else bytes_present most input file
 
 -- a file with no record has the fault that is given for it
 abbrev pub with_header : Fault → Records → Result Records Fault
@@ -62,7 +62,7 @@ records_of most input headless unread file = and_then (bytes_of most input unrea
 -- the answer is what is wanted: a value where no file is unread, and else the fault that holds first, or that there is no memory
 abbrev pub Finds : {A B : Type 0} → (A → B) → (Option Input → Result B Fault) → Result A Fault → Type 0
 Finds shown wanted (Ok a) = wanted None ≡ Ok (shown a)
-Finds shown wanted (Err fault) = fault ≢ NoMemory → wanted (unread_of fault) ≡ Err fault
+Finds shown wanted (Err fault) = fault ≢ NoMemory → wanted (unread_input fault) ≡ Err fault
 
 -- the files are kept, and `Read` comes only where the count of faults rose, where the files are known that of the input's own path
 -- too; and always where it grew

@@ -14,7 +14,7 @@ use Rattle.journey_model.specs.declared.faults.Input.{Input}
 use Rattle.journey_model.specs.declared.faults.Input.TheVariants as input
 use Rattle.journey_model.specs.declared.faults.Fault.{Fault}
 use Rattle.journey_model.specs.declared.faults.Fault.TheVariants.{GraphFile, NoMemory}
-use Rattle.journey_model.specs.Faults.{unread_of}
+use Rattle.journey_model.specs.Faults.{unread_input}
 use Rattle.journey_model.specs.Stages.{IsOfInput}
 use Rattle.journey_model.specs.declared.problem.Problem.{Problem}
 use Rattle.journey_problem.specs.Files.{bytes_of}
@@ -51,4 +51,4 @@ InGraphFile contents limits start path p P = (head : Head) × (graph : PlanGraph
 -- the first fault of the graph file is this one, where no file but that of the fault is unread
 abbrev pub FailsGraph : Option FileMap → Limits → ℕ → List ℕ → Problem → Fault → Type 0
 FailsGraph contents limits start path p fault =
-    IsOfInput input.Graph fault × IfSome contents (λ files. graph_in limits p start (unread_of fault) (file_at files path) ≡ Err fault)
+    IsOfInput input.Graph fault × IfSome contents (λ files. graph_in limits p start (unread_input fault) (file_at files path) ≡ Err fault)

@@ -7,7 +7,7 @@ use Rattle.csv_rows.specs.Tables.{table_of}
 use Rattle.cut_file.specs.declared.faults.CutFault.{CutFault}
 use Rattle.cut_file.specs.declared.faults.CutFault.TheVariants as cut
 use Rattle.cut_file.specs.Faults.{first_cut_fault}
-use Rattle.cut_file.specs.Read.{Cut as CutParts, IsRead}
+use Rattle.cut_file.specs.Read.{Cut as CutParts, IsCutRead}
 use Rattle.delay_table.specs.declared.faults.DelayFault.TheVariants as delay
 use Rattle.delay_table.specs.DelayLists.{DelayLists}
 use Rattle.delay_table.specs.Delays.{delays_of, first_delay_fault}
@@ -53,7 +53,7 @@ pub record IsCutTable (table : Records) : Type 0 where
 -- these are the parts of the cut file
 abbrev pub IsCutOf : Limits → Option (List ℕ) → CutParts → Type 0
 IsCutOf limits file parts =
-    (table : Records) × (cut_records limits None file ≡ Ok table) × IsRead table parts.runs parts.places parts.rows parts.keys
+    (table : Records) × (cut_records limits None file ≡ Ok table) × IsCutRead table parts.runs parts.places parts.rows parts.keys
 
 -- the cut file has no fault, and these are its parts
 abbrev pub HasCut : Limits → Option (List ℕ) → CutParts → Type 0
@@ -61,7 +61,7 @@ HasCut limits file parts = (cut_fault limits file None ≡ None) × IsCutOf limi
 
 -- these are the parts of some cut file with no fault
 abbrev pub IsCutOfSome : CutParts → Type 0
-IsCutOfSome parts = (table : Records) × IsCutTable table × IsRead table parts.runs parts.places parts.rows parts.keys
+IsCutOfSome parts = (table : Records) × IsCutTable table × IsCutRead table parts.runs parts.places parts.rows parts.keys
 
 -- the table of the delay file
 abbrev pub delay_records : Limits → Option Input → Option (List ℕ) → Result Records Fault

@@ -6,7 +6,7 @@ use Rattle.command_line.specs.Jobs.{TimetableModel, CutFile, FeedFolder, Journey
 use Rattle.journey_model.specs.declared.faults.Fault.{Fault}
 use Rattle.journey_model.specs.declared.faults.Fault.TheVariants.{NoMemory}
 use Rattle.journey_model.specs.declared.problem.Problem.{Problem}
-use Rattle.journey_model.specs.Faults.{unread_of, IsUndisturbed}
+use Rattle.journey_model.specs.Faults.{unread_input, IsUndisturbed}
 use Rattle.journey_problem.specs.FaultsBeforeSearch.{IsBeforeSearch}
 use Rattle.journey_problem.specs.CutProblems.{cut_problem_fault, IsCutProblem, HasCutTimetable}
 use Rattle.journey_problem.specs.FeedProblems.{IsFeedProblem, IsFeedProblemFault, HasFeedTimetable}
@@ -21,7 +21,7 @@ IsProblem limits files j p = IsProblemOver limits files j.timetable j p
 
 -- this is the first fault of the journey's files, where no file but that of the fault is unread
 abbrev pub IsProblemFaultOver : Limits → FileMap → TimetableModel → JourneyModel → Fault → Type 0
-IsProblemFaultOver limits files (CutFile path) j fault = cut_problem_fault limits files path j (unread_of fault) ≡ Some fault
+IsProblemFaultOver limits files (CutFile path) j fault = cut_problem_fault limits files path j (unread_input fault) ≡ Some fault
 IsProblemFaultOver limits files (FeedFolder folder horizon) j fault = IsFeedProblemFault limits files folder horizon j fault
 
 abbrev pub IsProblemFault : Limits → FileMap → JourneyModel → Fault → Type 0

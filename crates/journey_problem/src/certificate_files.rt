@@ -1,6 +1,6 @@
 //! The certificate that a command reads.
 ghost use Rattle.std.specs.Prelude.{◌≡◌, ◌≢◌, Some, None, IfOk, IfErr, IfSome};
-ghost use Rattle.journey_model.specs.Faults.{MayBeUnread, unread_of};
+ghost use Rattle.journey_model.specs.Faults.{MayBeUnread, unread_input};
 ghost use Rattle.journey_model.specs.Stages.{IsOfInput};
 ghost use Rattle.journey_problem.specs.Files.{HasCauses};
 ghost use Rattle.journey_problem.specs.CertificateFiles.{IsCertificateText, FailsText, IsCertificateFile, FailsCertificate};
@@ -24,7 +24,7 @@ fn certificate_of_bytes(
     ensures fault { IfErr result (λ fault. fault ≢ Fault.NoMemory
         → FailsText problem.now start.0 bytes.now fault) }
     ensures stage { IfErr result (λ fault. fault ≢ Fault.NoMemory → IsOfInput Input.Proof fault) }
-    ensures read { IfErr result (λ fault. unread_of fault ≡ None) }
+    ensures read { IfErr result (λ fault. unread_input fault ≡ None) }
 {
     match read_text(
         alloc,

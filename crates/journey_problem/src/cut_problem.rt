@@ -1,11 +1,11 @@
 //! A journey over a cut file.
 ghost use Rattle.std.specs.Prelude.{◌≡◌, ◌≢◌, ℕ, List as Bytes, None, Some, IfSome, IfOk, IfErr, OnOk};
 ghost use Rattle.cut_file.specs.CutNetwork.{IsCutNetwork};
-ghost use Rattle.cut_file.specs.Read.{IsRead};
+ghost use Rattle.cut_file.specs.Read.{IsCutRead};
 ghost use Rattle.file_ports.specs.Ports.{file_at};
 ghost use Rattle.command_line.specs.Shown.{journey_shown};
 ghost use Rattle.command_line.specs.Jobs.{TimetableModel, CutFile};
-ghost use Rattle.journey_model.specs.Faults.{IsFirst, MayBeUnread, unread_of};
+ghost use Rattle.journey_model.specs.Faults.{IsFirst, MayBeUnread, unread_input};
 ghost use Rattle.journey_problem.specs.Files.{Records, OwnPaths, path_by, HasCauses};
 ghost use Rattle.journey_problem.specs.FaultsBeforeSearch.{IsBeforeSearch};
 ghost use Rattle.journey_problem.specs.CutProblems.{cut_problem_fault, IsCutProblem, HasCutTimetable, IsNamed, stop_fault};
@@ -29,7 +29,7 @@ fn ends_of(names: &Names, from: &str, to: &str) -> Result<Ends, Fault>
     ensures fault { IfErr result (λ fault.
         stop_fault names.now.places from.now to.now ≡ Some fault) }
     ensures early { (timetable : TimetableModel) → IfErr result (IsBeforeSearch timetable) }
-    ensures read { IfErr result (λ fault. unread_of fault ≡ None) }
+    ensures read { IfErr result (λ fault. unread_input fault ≡ None) }
 {
     let Some(source) = names.place(from) else {
         return Err(Fault::UnknownStop(Which::From));
@@ -52,7 +52,7 @@ fn problem_between(timetable: Timetable, journey: &Journey) -> Result<Problem, F
     ensures fault { IfErr result (λ fault.
         stop_fault timetable.names.places journey.now.from.now journey.now.to.now ≡ Some fault) }
     ensures early { (timetable : TimetableModel) → IfErr result (IsBeforeSearch timetable) }
-    ensures read { IfErr result (λ fault. unread_of fault ≡ None) }
+    ensures read { IfErr result (λ fault. unread_input fault ≡ None) }
 {
     let ends = ends_of(&timetable.names, journey.from, journey.to)?;
     Ok(Problem::between(ends, timetable))
@@ -66,7 +66,7 @@ fn problem_in(
     journey: &Journey,
 ) -> Result<Problem, Fault>
     ensures network { IfOk result (λ p. (table : Records)
-        → IsRead table cut.now.runs cut.now.places cut.now.rows cut.now.keys
+        → IsCutRead table cut.now.runs cut.now.places cut.now.rows cut.now.keys
         → IsCutNetwork table delays.now p.timetable.network p.timetable.names) }
     ensures source { IfOk result (λ p.
         IsNamed p.timetable.names p.source.0 journey.now.from.now) }
@@ -77,7 +77,7 @@ fn problem_in(
     ensures fault { IfErr result (λ fault. fault ≢ Fault.NoMemory
         → stop_fault cut.now.places journey.now.from.now journey.now.to.now ≡ Some fault) }
     ensures early { (timetable : TimetableModel) → IfErr result (IsBeforeSearch timetable) }
-    ensures read { IfErr result (λ fault. unread_of fault ≡ None) }
+    ensures read { IfErr result (λ fault. unread_input fault ≡ None) }
 {
     let (network, names) = cut.network(alloc, delays)?;
     problem_between(Timetable::new(network, names), journey)

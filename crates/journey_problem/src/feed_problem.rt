@@ -2,7 +2,7 @@
 ghost use Rattle.std.specs.Prelude.{◌≡◌, ◌≢◌, ◌<◌, ◌≤◌, ℕ, List as Bytes, length, None, Some, IfSome, IfOk, IfErr, OnOk};
 ghost use Rattle.table_files.specs.Loading.{HasFeedCauses};
 ghost use Rattle.change_times.specs.Transfers.{place_of_stop};
-ghost use Rattle.change_times.specs.Changes.{LinksComeFrom, AreToldBySome};
+ghost use Rattle.change_times.specs.Changes.{LinksComeFrom, AreReportedBySome};
 ghost use Rattle.connections.specs.Cut.{IsNetworkFrom};
 ghost use Rattle.service_days.specs.Services.{runs};
 ghost use Rattle.service_days.specs.Calendars.{RunsBySome};
@@ -10,7 +10,7 @@ ghost use Rattle.command_line.specs.Shown.{journey_shown};
 ghost use Rattle.command_line.specs.Jobs.{TimetableModel, FeedFolder};
 ghost use Rattle.command_line.specs.Ranges.{IsJourney};
 ghost use Rattle.command_line.specs.Values.{most_horizon};
-ghost use Rattle.journey_model.specs.Faults.{MayBeUnread, unread_of};
+ghost use Rattle.journey_model.specs.Faults.{MayBeUnread, unread_input};
 ghost use Rattle.journey_problem.specs.Files.{OwnPaths, path_by, HasCauses};
 ghost use Rattle.journey_problem.specs.FaultsBeforeSearch.{IsBeforeSearch};
 ghost use Rattle.journey_problem.specs.FeedProblems.{feed_as, feed_stop_fault, window_fault_of, AreRules, IsFolder, IsSoundFolder, IsFolderFault, IsLaterTableFault, IsFaultAfterFolder, IsWindowFault, IsFeedProblem, IsFeedProblemFault, HasFeedTimetable};
@@ -43,7 +43,7 @@ fn read_rules<F: Files>(
     ensures fault { IfSome (F.state files.old).files (λ m. IfErr result (λ f. f ≢ FeedFault.NoMemory
         → IsLaterTableFault limits.now m folder.now feed.now f)) }
     ensures services { IfOk result (λ r. RunsBySome (runs r.services)) }
-    ensures changes { IfOk result (λ r. AreToldBySome feed.now r.changes) }
+    ensures changes { IfOk result (λ r. AreReportedBySome feed.now r.changes) }
     ensures links { IfOk result (λ r. LinksComeFrom (length feed.now.stop_ids) r.changes) }
     ensures causes { HasFeedCauses folder.now (F.state files.old) (F.state files.new) result }
 {
@@ -143,7 +143,7 @@ fn window_problem(
     ensures fault { IfErr result (λ fault. fault ≢ Fault.NoMemory → IsWindowFault limits.now
         horizon (journey_shown journey.now) (gtfs_folder_of tables.now) fault) }
     ensures early { (folder : Bytes ℕ) → IfErr result (IsBeforeSearch (FeedFolder folder horizon)) }
-    ensures read { IfErr result (λ fault. unread_of fault ≡ None) }
+    ensures read { IfErr result (λ fault. unread_input fault ≡ None) }
 {
     let ends = ends_of(&tables.feed, journey.from, journey.to)?;
     match cut(

@@ -4,7 +4,7 @@ ghost use Rattle.plan_graph.specs.Tidy.{IsFit};
 ghost use Rattle.graph_text.specs.Asked.{IsHeadOf};
 ghost use Rattle.graph_text.specs.Reading.{graph_of};
 ghost use Rattle.file_ports.specs.Ports.{file_at};
-ghost use Rattle.journey_model.specs.Faults.{MayBeUnread, unread_of};
+ghost use Rattle.journey_model.specs.Faults.{MayBeUnread, unread_input};
 ghost use Rattle.journey_model.specs.Sites.{last_printable};
 ghost use Rattle.journey_model.specs.Stages.{IsOfInput};
 ghost use Rattle.journey_problem.specs.Files.{Finds, HasCauses};
@@ -32,7 +32,7 @@ fn graph_of_bytes(
         → graph_as (graph_of bytes.now problem.now.timetable.network problem.now.timetable.names
         problem.now.source.0 problem.now.target.0 start.0) ≡ Err fault) }
     ensures stage { IfErr result (λ fault. fault ≢ Fault.NoMemory → IsOfInput Input.Graph fault) }
-    ensures read { IfErr result (λ fault. unread_of fault ≡ None) }
+    ensures read { IfErr result (λ fault. unread_input fault ≡ None) }
 {
     match read(
         alloc,

@@ -3,7 +3,7 @@ ghost use Rattle.std.specs.Prelude.{◌≡◌, ◌≢◌, ℕ, List as Bytes, So
 ghost use Rattle.csv_rows.specs.Tables.{table_of};
 ghost use Rattle.delay_table.specs.Slots.{AreDelays};
 ghost use Rattle.file_ports.specs.Ports.{file_at};
-ghost use Rattle.journey_model.specs.Faults.{MayBeUnread, unread_of};
+ghost use Rattle.journey_model.specs.Faults.{MayBeUnread, unread_input};
 ghost use Rattle.journey_problem.specs.Files.{bytes_of, records_of, Finds, HasCauses};
 ghost use Rattle.command_line.specs.Jobs.{TimetableModel, CutFile};
 ghost use Rattle.journey_problem.specs.FaultsBeforeSearch.{IsBeforeSearch, IsInputOf};
@@ -52,7 +52,7 @@ fn load_rows<F: Files>(
     headless: Fault,
     limits: &Limits,
 ) -> Result<Rows, Fault>
-    requires headless { unread_of headless ≡ None }
+    requires headless { unread_input headless ≡ None }
     requires early { (timetable : TimetableModel) → IsInputOf timetable input
         → IsBeforeSearch timetable headless }
     ensures text { IfOk result (λ rows. (text : Bytes ℕ) × (rows ≡ table_of text)) }
@@ -75,7 +75,7 @@ fn load_rows<F: Files>(
 fn fault_of_cut(fault: CutFault) -> Fault
     ensures fault { result ≡ cut_as fault }
     ensures early { (path : Bytes ℕ) → IsBeforeSearch (CutFile path) result }
-    ensures read { unread_of result ≡ None }
+    ensures read { unread_input result ≡ None }
 {
     match fault {
         CutFault::TooManyRows(count) => Fault::Limit(LimitKind::CutRows, count),
@@ -112,7 +112,7 @@ fn fault_of_delays(fault: DelayFault) -> Fault
     ensures fault { fault ≢ DelayFault.NoMemory → result ≡ Fault.Delays fault }
     ensures memory { fault ≡ DelayFault.NoMemory → result ≡ Fault.NoMemory }
     ensures early { (timetable : TimetableModel) → IsBeforeSearch timetable result }
-    ensures read { unread_of result ≡ None }
+    ensures read { unread_input result ≡ None }
 {
     match fault {
         DelayFault::NoMemory => Fault::NoMemory,

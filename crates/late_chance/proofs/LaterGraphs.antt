@@ -52,7 +52,7 @@ pick_at-later shift tables p x =
 all_mapped : {A B : Type 0} (f : A → B) (P : A → Type 0) (Q : B → Type 0) (xs : List A) → ((a : A) → P a → Q (f a)) → All P xs → All Q (map f xs)
 all_mapped f P Q xs to all = All-map Q f xs (All-weaker P (λ a. Q (f a)) to xs all)
 
--- a leg that stands in a safe tree is one of the network
+-- a leg that is in a safe tree is one of the network
 module _ (n : NetworkModel) (target : ℕ) (by : Option ℕ) (leg : Leg) where
   mutual
     stands : (tree : Tree) (p x : ℕ) → IsSafe n target by tree p x → Stands leg tree → IsLegOf n leg

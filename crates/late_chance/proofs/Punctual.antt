@@ -39,14 +39,14 @@ module _ (n m : NetworkModel) (shift first : ℕ) (q : Query) (shown : IsShown n
 
   graphs : (promise : ℕ) (graph : PlanGraph) (chance : Interval) → IsPunctual n q promise graph chance → IsPunctual m (later_query shift q) (promise + shift) (later_graph shift graph) chance
   graphs promise graph chance p =
-      let told = alike n m shift first q shown graph p.tidy p.safe in
+      let reported = alike n m shift first q shown graph p.tidy p.safe in
       let own : Tree = unfold_plan graph n q in
       record {
-        tidy = told.tidy;
-        safe = told.safe;
-        below_own = subst (λ (t : Tree). LateBelow (promise + shift) chance.lo t) (sym told.unfolds) (below promise chance.lo own p.below_own);
-        covers_own = subst (λ (t : Tree). LateCovers (promise + shift) chance.hi t) (sym told.unfolds) (covers promise chance.hi own p.covers_own);
-        rounded = p.rounded ∙ sym (up promise own) ∙ ap (rounded_up certainty (late (promise + shift))) (sym told.unfolds);
+        tidy = reported.tidy;
+        safe = reported.safe;
+        below_own = subst (λ (t : Tree). LateBelow (promise + shift) chance.lo t) (sym reported.unfolds) (below promise chance.lo own p.below_own);
+        covers_own = subst (λ (t : Tree). LateCovers (promise + shift) chance.hi t) (sym reported.unfolds) (covers promise chance.hi own p.covers_own);
+        rounded = p.rounded ∙ sym (up promise own) ∙ ap (rounded_up certainty (late (promise + shift))) (sym reported.unfolds);
         below_safe = λ u safe. let s = sooner u safe in subst (λ (t : Tree). LateBelow (promise + shift) chance.lo t) s.1 (below promise chance.lo s.0 (p.below_safe s.0 s.2));
         least = λ u safe. let s = sooner u safe in subst (λ (t : Tree). chance.lo ≤ rounded_down certainty (late (promise + shift)) t) s.1 (down promise chance.lo s.0 (p.least s.0 s.2));
         gap = let g = p.gap in let many = shown.view.as_many in omega arith;

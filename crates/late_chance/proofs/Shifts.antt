@@ -16,7 +16,7 @@ use Rattle.plan_graph.specs.declared.PlanGraph.{PlanGraph}
 use Rattle.plan_graph.specs.Tidy.{IsTidy, IsFitRow}
 use Rattle.late_chance.specs.Chances.{promised, seconds_per_week}
 use Rattle.late_chance.specs.LaterGraphs.{later_graph, later_query, IsShown}
-use Rattle.late_chance.specs.Punctual.{IsPunctual, PunctualAlike, TellsOfNetwork, shift_for, seen_for, asked_for}
+use Rattle.late_chance.specs.Punctual.{IsPunctual, PunctualAlike, IsAboutNetwork, shift_for, seen_for, asked_for}
 use Rattle.late_chance.proofs.SeenFrom.{valid, view}
 use Rattle.late_chance.proofs.Punctual.{punctual_alike}
 
@@ -55,8 +55,8 @@ module _ (m : NetworkModel) (q : Query) (promise : ℕ) (v : IsValid m) (early :
   graphs : (graph : PlanGraph) (chance : Interval) → IsPunctual n asked promised graph chance → IsPunctual m q promise (later_graph shift graph) chance
   graphs graph chance p =
       let whole : promised + shift ≡ promise = omega arith in
-      let told = subst (λ (k : Query). IsPunctual m k (promised + shift) (later_graph shift graph) chance) back (alike.graphs promised graph chance p) in
-      subst (λ (k : ℕ). IsPunctual m q k (later_graph shift graph) chance) whole told
+      let reported = subst (λ (k : Query). IsPunctual m k (promised + shift) (later_graph shift graph) chance) back (alike.graphs promised graph chance p) in
+      subst (λ (k : ℕ). IsPunctual m q k (later_graph shift graph) chance) whole reported
 
   in_range : (graph : PlanGraph) → IsTidy n asked graph → All (λ table. All (λ row. row.by.0 + shift < 2 ^ 64) table.rows) graph.tables
   in_range graph tidy k table h j row l =
@@ -71,5 +71,5 @@ module _ (m : NetworkModel) (q : Query) (promise : ℕ) (v : IsValid m) (early :
       let there = start_there n m shift q.start.0 shown.view v q.target.0 (Some asked.deadline.0) tree q.source.0 asked.start.0 safe in
       nothing (later_by shift tree) (subst (λ (k : Query). IsSafeFor m k (later_by shift tree)) back there)
 
-  pub tells : TellsOfNetwork m q promise
-  tells = record { graphs = graphs; in_range = in_range; none = none; none_back = none_back }
+  pub reports : IsAboutNetwork m q promise
+  reports = record { graphs = graphs; in_range = in_range; none = none; none_back = none_back }

@@ -26,7 +26,7 @@ later_graph shift graph = record { start = graph.start; tables = map (later_tabl
 abbrev pub later_query : ℕ → Query → Query
 later_query shift query = record { source = query.source; target = query.target; start = record { 0 = query.start.0 + shift }; deadline = record { 0 = query.deadline.0 + shift } }
 
--- the query by so many seconds sooner
+-- the query by this many seconds sooner
 abbrev pub sooner_query : ℕ → Query → Query
 sooner_query shift query = record { source = query.source; target = query.target; start = record { 0 = query.start.0 - shift }; deadline = record { 0 = query.deadline.0 - shift } }
 

@@ -49,7 +49,7 @@ asked_for query promise = sooner_query (shift_for promise) query
 
 -- what a graph of the network that is seen says there, the later graph says of the network itself; its moments are in range.
 -- nothing is safe in the one exactly where nothing is in the other
-pub record TellsOfNetwork (m : NetworkModel) (query : Query) (promise : ℕ) : Type 0 where
+pub record IsAboutNetwork (m : NetworkModel) (query : Query) (promise : ℕ) : Type 0 where
   pub graphs : (graph : PlanGraph) (chance : Interval) → IsPunctual (seen_for m query promise) (asked_for query promise) promised graph chance →
       IsPunctual m query promise (later_graph (shift_for promise) graph) chance
   pub in_range : (graph : PlanGraph) → IsTidy (seen_for m query promise) (asked_for query promise) graph →

@@ -19,7 +19,7 @@ ghost use Rattle.plan_graph.specs.Unfold.{unfold_plan};
 ghost use Rattle.late_chance.specs.Chances.{seconds_per_week};
 ghost use Rattle.late_chance.specs.LaterGraphs.{IsShown, LaterAlike};
 ghost use Rattle.late_chance.specs.SeenFrom.{shifted_parts};
-ghost use Rattle.late_chance.specs.Punctual.{IsPunctual, PunctualAlike, TellsOfNetwork};
+ghost use Rattle.late_chance.specs.Punctual.{IsPunctual, PunctualAlike, IsAboutNetwork};
 ghost use Rattle.interval_fixed.specs.Interval.{Interval};
 
 mod chance;
@@ -55,7 +55,7 @@ pub fn punctual_in_view()
 /// network for its own query and promise; and if nothing is safe in the one, nothing is in the other.
 pub fn punctual_by_shift()
     ensures { (m : NetworkModel) (q : Query) (promise : ℕ) → IsValid m → q.start.0 < end_of_time → q.start.0 ≤ q.deadline.0 →
-        seconds_per_week ≤ promise → q.start.0 ≤ promise → promise ≤ q.start.0 + seconds_per_week → TellsOfNetwork m q promise }
+        seconds_per_week ≤ promise → q.start.0 ≤ promise → promise ≤ q.start.0 + seconds_per_week → IsAboutNetwork m q promise }
 {}
 
 /// A law, with no code: if the promised moment is not before the deadline, both bounds are 0.

@@ -18,7 +18,7 @@ HasArrivals network target r =
     map (λ row. row.by.0) r.after
     ≡ (if end_of network r.leg == target then [] else map (λ o. arrival_of network r.leg o.delay) (outcomes_of network r.leg))
 
--- each leg that stands in the unfolding has a ride, those that end at the target among them
+-- each leg that is in the unfolding has a ride, those that end at the target among them
 abbrev pub HasEachRide : NetworkModel → Query → ExpandedGraph → Type 0
 HasEachRide network query graph = (leg : Leg) → Stands leg (unfold_expanded graph network query) → HasRideOf graph.rides leg
 

@@ -192,7 +192,7 @@ module _ (n : NetworkModel) (valid : IsValid n) (q : Query) (values : List (Opti
 
 -- ---- no accepted certificate has a greater value
 
--- each value is at most the one that stands beside it
+-- each value is at most the one that is beside it
 abbrev EachAtMost : List ℕ → List ℕ → Type 0
 EachAtMost [] [] = Unit {0}
 EachAtMost (w ∷ ws) (v ∷ vs) = (w ≤ v) × EachAtMost ws vs

@@ -13,7 +13,7 @@ use Rattle.plan_model.specs.NameLists.{NameLists}
 use Rattle.printed_rows.specs.Fields.{field, whole_at, number_of, is_query}
 use Rattle.printed_rows.proofs.Chains.{if-value}
 use Rattle.lower_proof.specs.declared.reader.BoundsRow.{BoundsRow}
-use Rattle.lower_proof.specs.Reading.{bounds_numbers, is_bounds, bounds_row_in, bounds_in, IsProofTold}
+use Rattle.lower_proof.specs.Reading.{bounds_numbers, is_bounds, bounds_row_in, bounds_in, IsProofReported}
 
 by_numbers : (a b c : Option ℕ) (x : BoundsRow) → bounds_numbers a b c ≡ Some x → b ≡ Some x.deadline.0
 by_numbers (Some s) (Some d) (Some k) x is = ap (λ (y : BoundsRow). Some y.deadline.0) (some_cases (nat_le s d) _ x is).1
@@ -30,8 +30,8 @@ row_deadline names source target start r y is =
     let numbers = (if_cases (is_bounds r) (bounds_numbers (moment_at (field r 4)) (moment_at (field r 5)) (whole_at (field r 6))) x.0 x.1).1 in
     moment_range (field r 5) y.deadline.0 (by_numbers (moment_at (field r 4)) (moment_at (field r 5)) (whole_at (field r 6)) x.0 numbers ∙ ap (λ (b : BoundsRow). Some b.deadline.0) same)
 
--- the deadline of a query that a text tells
-pub told_deadline : (n : NetworkModel) (names : NameLists) (source target start : ℕ) (t : List (List (List ℕ))) (q : Query) (values : List (Option ℕ))
-    → IsProofTold n names source target start t q values → q.deadline.0 ≤ last_printable
-told_deadline n names source target start t q values is =
+-- the deadline of a query that a text gives
+pub reported_deadline : (n : NetworkModel) (names : NameLists) (source target start : ℕ) (t : List (List (List ℕ))) (q : Query) (values : List (Option ℕ))
+    → IsProofReported n names source target start t q values → q.deadline.0 ≤ last_printable
+reported_deadline n names source target start t q values is =
     subst (λ (m : Moment). m.0 ≤ last_printable) (sym is.until) (row_deadline names source target start (header t) is.bounds is.head)

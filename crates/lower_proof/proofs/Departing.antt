@@ -1,4 +1,4 @@
--- The connections that depart by a moment, sorted by departure and number, stand in the scan order.
+-- The connections that depart by a moment, sorted by departure and number, are in the scan order.
 use Rattle.std.proofs.Common.{◌≡◌, ℕ, ◌+◌, ◌<◌, ◌≤◌, ◌∷◌, [], ◌++◌, List, Bool, false, length, get_or, map, All, AllPairs, eqb, arith, ⊎_elim, inl, inr, sym}
 use Rattle.std.proofs.Common.{ap, ◌∙◌, refl, subst, append_assoc, IsPermutation, IsSorted, append-nil}
 use Rattle.std.proofs.lemmas.Bool.{cases_lt}

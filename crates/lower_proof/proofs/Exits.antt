@@ -55,7 +55,7 @@ module _ (n : NetworkModel) (q : Query) (values : List (Option ℕ)) (last : ℕ
   other_run : (run : ℕ) → run ≢ run_of n id.0 → (least : Option ℕ) → IsLeastOf (LeavesBy n q values last taken run) least → IsLeastOf (LeavesBy n q values last (id ∷ taken) run) least
   other_run run differ least = grind (arith, least_same, grown)
 
-  -- whoever boards the connection can leave by the known ones of its run
+  -- a traveller who boards the connection can leave by the known ones of its run
   least_ride : IsTrue (connection n id.0).can_board → (best : Option ℕ) → IsLeastOf (LeavesBy n q values last (id ∷ taken) (run_of n id.0)) best → IsLeastOf (Rides n q values id.0) best
   least_ride board best = grind (arith, least_same)
 
@@ -95,7 +95,7 @@ module _ {n : NetworkModel} (good : IsValid n) {q : Query} {values : List (Optio
     best_leaving : IsLeastOf (LeavesBy n q values last (e.id ∷ taken) (run_of n e.id.0)) best
     best_leaving = rw own.lesser_is (own_run n q values last taken e.id scanned_is_next (exit_of exits (run_of n e.id.0)) own.via (scanned.are_exits (run_of n e.id.0)) own.least)
 
-    -- whoever boards it leaves at best for this value
+    -- a traveller who boards it leaves at best for this value
     pub best_ride : IsTrue (connection n e.id.0).can_board → IsLeastOf (Rides n q values e.id.0) best
     best_ride board = least_ride n q values last taken e.id scanned_is_next board best best_leaving
 

@@ -103,7 +103,7 @@ module _ (n : NetworkModel) (values : List (Option ℕ)) (Boards : ℕ → Type 
   all_offers r = least_same (Below (Offers n values Boards) (count n)) (λ v. (c : ℕ) × Offers n values Boards c v) (λ v o. (o.0, o.2)) r
       (λ v o. (o.0, o.1.there, o.1))
 
-  -- the least is found, where it can be told which can be boarded
+  -- the least is found, where it can be decided which can be boarded
   least_offer : ((c : ℕ) → Boards c ⊎ (Boards c → ⊥)) → (r : Option ℕ) × IsLeastOf (λ v. (c : ℕ) × Offers n values Boards c v) r
   least_offer decide = let all = found (count n) (omega arith) in (all.0, all_offers all.0 all.1)
     where
@@ -120,7 +120,7 @@ module _ (n : NetworkModel) (values : List (Option ℕ)) (Boards : ℕ → Type 
             | inr never ↦ (before.0, below_same (Offers n values Boards) m before.0 (λ v o. never o.boards) before.1)
           ])
 
--- it can be told which connections one can board, so the least value of these is found
+-- it can be decided which connections one can board, so the least value of these is found
 module _ (n : NetworkModel) (values : List (Option ℕ)) (p x : ℕ) where
   -- by the seconds of the way
   by_way : (c : ℕ) (way : Option ℕ) → way_of n p (from_of n c) ≡ way → IsBoardable n p x c ⊎ (IsBoardable n p x c → ⊥)

@@ -8,8 +8,8 @@ use Rattle.std.proofs.lemmas.List.Sums.{sum_by-cons}
 use Rattle.std.proofs.lemmas.List.{drop_all}
 use Rattle.std.proofs.lemmas.Bool.{cases_eq}
 use Rattle.clock_text.specs.Civil.{nanos_text, last_printable}
-use Rattle.clock_text.proofs.Walk.{text_tells}
-use Rattle.clock_text.proofs.NanosLemmas.{nanos_tell}
+use Rattle.clock_text.proofs.Walk.{text_reports}
+use Rattle.clock_text.proofs.NanosLemmas.{nanos_report}
 use Rattle.csv_rows.specs.Tables.{table_of, row_count}
 use Rattle.plan_model.specs.declared.model.Query.{Query}
 use Rattle.plan_model.specs.NetworkModel.{NetworkModel}
@@ -29,8 +29,8 @@ use Rattle.lower_proof.specs.declared.reader.ProofFault.{ProofFault}
 use Rattle.lower_proof.specs.Certificates.{bound_of}
 use Rattle.lower_proof.specs.CertificateTexts.{bounds_record, value_record, value_records, certificate_text, entry_text}
 use Rattle.lower_proof.specs.Reading.{bounds_row_in, bounds_in, value_row_in, connection_in}
-use Rattle.lower_proof.specs.Reading.{nanos_in, told_in, value_row, connection_before}
-use Rattle.lower_proof.specs.Reading.{value_fault, AreValuesTold, IsProofTold, IsProofRead, IsReadBack}
+use Rattle.lower_proof.specs.Reading.{nanos_in, reported_in, value_row, connection_before}
+use Rattle.lower_proof.specs.Reading.{value_fault, AreValuesReported, IsProofReported, IsProofRead, IsReadBack}
 use Rattle.lower_proof.specs.Steps.{AllFit}
 
 -- two facts of one result
@@ -116,7 +116,7 @@ module _ (n : NetworkModel) (names : NameLists) (valid : IsValid n) (fit : Names
   numbers c v = record { step = step_of n c; value = v }
 
   numbers_back : (c v : ℕ) → c < count n → v < 2 ^ 64 → value_row_in (value_record n names c v) ≡ Some (numbers c v)
-  numbers_back c v there small = rw (step_back n valid c there, nanos_tell v small) refl
+  numbers_back c v there small = rw (step_back n valid c there, nanos_report v small) refl
 
   value_back : (c v : ℕ) → c < count n → v < 2 ^ 64 → nanos_in (value_record n names c v) ≡ Some v
   value_back c v there small = ap (option_map (λ (x : ValueRow). x.value)) (numbers_back c v there small)
@@ -124,9 +124,9 @@ module _ (n : NetworkModel) (names : NameLists) (valid : IsValid n) (fit : Names
   named_back : (c v : ℕ) → c < count n → v < 2 ^ 64 → connection_in n names (value_record n names c v) ≡ Some c
   named_back c v there small = rw (numbers_back c v there small, run_back n names fit own c there) (connection_back n valid c there)
 
-  told_back : (c v line : ℕ) (before : Option ℕ) → c < count n → v < 2 ^ 64 → rises before c ≡ true
-      → told_in n names line before (value_record n names c v) ≡ Ok (record { id = record { 0 = c }; value = v })
-  told_back c v line before there small rise = rw (numbers_back c v there small, run_back n names fit own c there, connection_back n valid c there, rise) refl
+  reported_back : (c v line : ℕ) (before : Option ℕ) → c < count n → v < 2 ^ 64 → rises before c ≡ true
+      → reported_in n names line before (value_record n names c v) ≡ Ok (record { id = record { 0 = c }; value = v })
+  reported_back c v line before there small rise = rw (numbers_back c v there small, run_back n names fit own c there, connection_back n valid c there, rise) refl
 
   -- ---- all of them, after a first row
 
@@ -140,17 +140,17 @@ module _ (n : NetworkModel) (names : NameLists) (valid : IsValid n) (fit : Names
     row_is : (i : ℕ) → value_row table i ≡ slice_index_or rows i []
     row_is i = let e : i + 1 ≡ suc i = omega arith in ap (λ (k : ℕ). slice_index_or table k []) e
 
-    row_told : (i : ℕ) → i < length rows
+    row_reported : (i : ℕ) → i < length rows
         → (v : ℕ) × (offset_at values i < count n) × (bound_of values (offset_at values i) ≡ Some v) ×
         (value_row table i ≡ value_record n names (offset_at values i) v)
-    row_told i within =
+    row_reported i within =
         let (v, inside, value, row) = row_at n names 0 values i within in
         let e : 0 + offset_at values i ≡ offset_at values i = omega arith in
         (v, omega (arith, inside, as_many), value, row_is i ∙ row ∙ ap (λ (d : ℕ). value_record n names d v) e)
 
     row_connection : (i : ℕ) → i < length rows → connection_in n names (value_row table i) ≡ Some (offset_at values i)
     row_connection i within =
-        let r = row_told i within in
+        let r = row_reported i within in
         ap (connection_in n names) r.3 ∙ named_back (offset_at values i) r.0 r.1 (small (offset_at values i) r.0 r.2)
 
     row_rises : (i : ℕ) → i < length rows → rises (connection_before n names table i) (offset_at values i) ≡ true
@@ -161,9 +161,9 @@ module _ (n : NetworkModel) (names : NameLists) (valid : IsValid n) (fit : Names
 
     row_faultless : (stated i : ℕ) → i < stated → i < length rows → value_fault n names table stated i ≡ None
     row_faultless stated i inside within =
-        let r = row_told i within in
+        let r = row_reported i within in
         let c = offset_at values i in
-        rw (lt-ltb i stated inside, r.3) (ap result_err (told_back c r.0 (i + 2) (connection_before n names table i) r.1 (small c r.0 r.2)
+        rw (lt-ltb i stated inside, r.3) (ap result_err (reported_back c r.0 (i + 2) (connection_before n names table i) r.1 (small c r.0 r.2)
         (row_rises i within)))
 
     -- each value that is there has its row
@@ -173,47 +173,47 @@ module _ (n : NetworkModel) (names : NameLists) (valid : IsValid n) (fit : Names
         let e : 0 + c ≡ c = omega arith in
         (at.0, at.1, row_is at.0 ∙ at.2 ∙ ap (λ (d : ℕ). value_record n names d v) e)
 
-    never_told : (c : ℕ) → ((i : ℕ) → i < length rows → connection_in n names (value_row table i) ≢ Some c) → (own_value : Option ℕ) → bound_of values c ≡ own_value → own_value ≡ None
-    never_told c never None is = refl
-    never_told c never (Some v) is =
+    never_reported : (c : ℕ) → ((i : ℕ) → i < length rows → connection_in n names (value_row table i) ≢ Some c) → (own_value : Option ℕ) → bound_of values c ≡ own_value → own_value ≡ None
+    never_reported c never None is = refl
+    never_reported c never (Some v) is =
         let at = row_for c v is in
         absurd (never at.0 at.1 (ap (connection_in n names) at.2 ∙ named_back c v (omega (arith, as_many, present values c v is)) (small c v is)))
 
-    -- and no other values are told
-    only : (stated : ℕ) (others : List (Option ℕ)) → AreValuesTold n names table stated others → others ≡ values
-    only stated others told = ext_get_or None others values (told.as_many ∙ sym as_many) (λ c within. same c (bound_of values c) refl)
+    -- and no other values are given
+    only : (stated : ℕ) (others : List (Option ℕ)) → AreValuesReported n names table stated others → others ≡ values
+    only stated others reported = ext_get_or None others values (reported.as_many ∙ sym as_many) (λ c within. same c (bound_of values c) refl)
       where
         same : (c : ℕ) (x : Option ℕ) → bound_of values c ≡ x → bound_of others c ≡ bound_of values c
         same c (Some v) is =
             let at = row_for c v is in
             let there : c < count n = omega (arith, as_many, present values c v is) in
-            told.told at.0 c (omega (arith, at.1)) (ap (connection_in n names) at.2 ∙ named_back c v there (small c v is))
+            reported.reported at.0 c (omega (arith, at.1)) (ap (connection_in n names) at.2 ∙ named_back c v there (small c v is))
             ∙ ap nanos_in at.2 ∙ value_back c v there (small c v is) ∙ sym is
         same c None is =
-            told.others c (λ i inside at.
+            reported.others c (λ i inside at.
             let within : i < length rows = omega (arith, inside) in
-            let r = row_told i within in
+            let r = row_reported i within in
             let both : ◌≡◌ {A = Option ℕ} (Some (offset_at values i)) (Some c) = sym (row_connection i within) ∙ at in
             let here : offset_at values i ≡ c = cc in
             let some : ◌≡◌ {A = Option ℕ} (Some r.0) None = sym r.2 ∙ ap (bound_of values) here ∙ is in
             cc)
             ∙ sym is
 
-    all_told : AreValuesTold n names table (count_by is_some values) values
-    all_told =
+    all_reported : AreValuesReported n names table (count_by is_some values) values
+    all_reported =
         let many : length rows ≡ count_by is_some values = rows_many n names 0 values in
         record {
           faultless = λ i within.
               let inside : i < length rows = omega (arith, many, within, max-le {a = row_count table} {b = count_by is_some values} {k = length rows} (omega arith) (omega (arith, many))) in
               row_faultless (count_by is_some values) i (omega (arith, many, inside)) inside;
           as_many = as_many;
-          told = λ i c within at.
+          reported = λ i c within at.
               let inside : i < length rows = omega (arith, within) in
-              let r = row_told i inside in
+              let r = row_reported i inside in
               let both : ◌≡◌ {A = Option ℕ} (Some (offset_at values i)) (Some c) = sym (row_connection i inside) ∙ at in
               let same : offset_at values i ≡ c = cc in
               ap (bound_of values) (sym same) ∙ r.2 ∙ sym (ap nanos_in r.3 ∙ value_back (offset_at values i) r.0 r.1 (small (offset_at values i) r.0 r.2));
-          others = λ c never. never_told c (λ i within. never i (omega (arith, within))) (bound_of values c) refl;
+          others = λ c never. never_reported c (λ i within. never i (omega (arith, within))) (bound_of values c) refl;
         }
 
   -- ---- the first row
@@ -228,7 +228,7 @@ module _ (n : NetworkModel) (names : NameLists) (valid : IsValid n) (fit : Names
 
     bounds_row_back : bounds_row_in (bounds_record names q values) ≡ Some bounds
     bounds_row_back =
-        rw (text_tells q.start.0 start, text_tells q.deadline.0 deadline, whole_back (count_by is_some values) few, le-leb q.start.0 q.deadline.0 in_time) refl
+        rw (text_reports q.start.0 start, text_reports q.deadline.0 deadline, whole_back (count_by is_some values) few, le-leb q.start.0 q.deadline.0 in_time) refl
 
     bounds_back : bounds_in names q.source.0 q.target.0 q.start.0 (bounds_record names q values) ≡ Ok bounds
     bounds_back = grind (arith, bounds_row_back, place_back, eq-eqb)
@@ -242,20 +242,20 @@ module _ (n : NetworkModel) (names : NameLists) (valid : IsValid n) (fit : Names
     pub reads_back : length values ≡ count n → ((c v : ℕ) → bound_of values c ≡ Some v → v < 2 ^ 64)
         → (result : Result (Query × LowerBounds) ProofFault) → IsProofRead n names q.source.0 q.target.0 q.start.0 (certificate_text n names q values) result → IsReadBack q values result
     reads_back as_many small (Ok read) is =
-        told_once read.0 read.1.values (subst (λ (t : List (List (List ℕ))). IsProofTold n names q.source.0 q.target.0 q.start.0 t read.0 read.1.values) (table_is as_many) is)
+        reported_once read.0 read.1.values (subst (λ (t : List (List (List ℕ))). IsProofReported n names q.source.0 q.target.0 q.start.0 t read.0 read.1.values) (table_is as_many) is)
       where
-        told_once : (other : Query) (others : List (Option ℕ)) → IsProofTold n names q.source.0 q.target.0 q.start.0 (bounds_record names q values ∷ value_records n names 0 values) other others
+        reported_once : (other : Query) (others : List (Option ℕ)) → IsProofReported n names q.source.0 q.target.0 q.start.0 (bounds_record names q values ∷ value_records n names 0 values) other others
             → (other ≡ q) × (others ≡ values)
-        told_once other others told =
-            let both : ◌≡◌ {A = Result BoundsRow ProofFault} (Ok told.bounds) (Ok bounds) = sym told.head ∙ bounds_back in
-            let same : ◌≡◌ {A = BoundsRow} told.bounds bounds = cc in (
-              same_query other q told.from told.to told.since (told.until ∙ ap (λ (b : BoundsRow). b.deadline) same),
-              only (bounds_record names q values) values as_many small told.bounds.number others told.told,
+        reported_once other others reported =
+            let both : ◌≡◌ {A = Result BoundsRow ProofFault} (Ok reported.bounds) (Ok bounds) = sym reported.head ∙ bounds_back in
+            let same : ◌≡◌ {A = BoundsRow} reported.bounds bounds = cc in (
+              same_query other q reported.from reported.to reported.since (reported.until ∙ ap (λ (b : BoundsRow). b.deadline) same),
+              only (bounds_record names q values) values as_many small reported.bounds.number others reported.reported,
             )
     reads_back as_many small (Err fault) (inl none) = none
     reads_back as_many small (Err fault) (inr first) =
         let late = rw (table_is as_many, bounds_back) at first in
-        let none = (all_told (bounds_record names q values) values as_many small).faultless late.i late.within in
+        let none = (all_reported (bounds_record names q values) values as_many small).faultless late.i late.within in
         let both : ◌≡◌ {A = Option ProofFault} (Some fault) None = sym late.here ∙ none in
         absurd (cc)
 

@@ -1,4 +1,4 @@
--- A text tells one certificate, or has one first fault, and that is never want of memory.
+-- A text gives one certificate, or has one first fault, and that is never that memory ran out.
 use Rattle.std.proofs.Common.{◌≡◌, ◌≢◌, ℕ, zero, suc, ◌+◌, ◌<◌, ◌⊎◌, Bool, true, false, List, Option, Some, None, Ok, Err, Result, arith, inl, inr, sym, ◌∙◌, ap, subst, ext_get_or, if◌then◌else◌}
 use Rattle.std.specs.Result.{result_err}
 use Rattle.std.proofs.lemmas.Bool.{cases_eq, cases_lt, cases_order}
@@ -10,14 +10,14 @@ use Rattle.plan_model.specs.NameLists.{NameLists}
 use Rattle.printed_rows.specs.Fields.{field, number_of, connection_of, rises, is_query}
 use Rattle.lower_proof.specs.declared.LowerBounds.{LowerBounds}
 use Rattle.lower_proof.specs.declared.reader.BoundsRow.{BoundsRow}
-use Rattle.lower_proof.specs.declared.reader.Told.{Told}
+use Rattle.lower_proof.specs.declared.reader.RowValue.{RowValue}
 use Rattle.lower_proof.specs.declared.reader.ProofFault.{ProofFault}
 use Rattle.lower_proof.specs.declared.reader.ProofFault.TheVariants.{Row, UnknownName, NoConnection, NotRising, OtherQuery, NoMemory}
 use Rattle.lower_proof.specs.Certificates.{bound_of}
-use Rattle.lower_proof.specs.Reading.{bounds_row_in, bounds_in, value_row_in, connection_in, told_in, value_row, connection_before}
-use Rattle.lower_proof.specs.Reading.{value_fault, IsFirstLineFault, IsFaultAfter, AreValuesTold, IsProofTold, IsProofRead}
+use Rattle.lower_proof.specs.Reading.{bounds_row_in, bounds_in, value_row_in, connection_in, reported_in, value_row, connection_before}
+use Rattle.lower_proof.specs.Reading.{value_fault, IsFirstLineFault, IsFaultAfter, AreValuesReported, IsProofReported, IsProofRead}
 
--- ---- no line lacks memory
+-- ---- memory is enough for each line
 
 -- the fault of a chain is that of its first part, or of the rest
 require-err : {A B E : Type 0} (o : Option A) (fault : E) (next : A → Result B E) (f : E) → require o fault next ≡ Err f → (fault ≡ f) ⊎ ((a : A) × (next a ≡ Err f))
@@ -28,8 +28,8 @@ if-err : {A E : Type 0} (test : Bool) (a : A) (fault f : E) → (if test then Ok
 if-err true a fault f is = absurd (cc)
 if-err false a fault f is = cc
 
-told_in_memory : (n : NetworkModel) (names : NameLists) (line : ℕ) (before : Option ℕ) (r : List (List ℕ)) → told_in n names line before r ≡ Err NoMemory → ⊥
-told_in_memory n names line before r is = elim (require-err (value_row_in r) (Row line) _ NoMemory is) [
+reported_in_memory : (n : NetworkModel) (names : NameLists) (line : ℕ) (before : Option ℕ) (r : List (List ℕ)) → reported_in n names line before r ≡ Err NoMemory → ⊥
+reported_in_memory n names line before r is = elim (require-err (value_row_in r) (Row line) _ NoMemory is) [
   | inl e ↦ absurd (cc)
   | inr row ↦ elim (require-err (number_of names.runs (field r 1)) (UnknownName line) _ NoMemory row.1) [
     | inl e ↦ absurd (cc)
@@ -56,14 +56,14 @@ result_err-some : {A E : Type 0} (r : Result A E) (f : E) → result_err r ≡ S
 result_err-some (Ok a) f is = absurd (cc)
 result_err-some (Err e) f is = let same : e ≡ f = cc in ap Err same
 
-cond_memory : (test : Bool) (told : Result Told ProofFault) (line : ℕ) → (told ≡ Err NoMemory → ⊥) → (if test then result_err told else Some (Row line)) ≡ Some NoMemory → ⊥
-cond_memory true told line not is = not (result_err-some told NoMemory is)
-cond_memory false told line not is = absurd (cc)
+cond_memory : (test : Bool) (reported : Result RowValue ProofFault) (line : ℕ) → (reported ≡ Err NoMemory → ⊥) → (if test then result_err reported else Some (Row line)) ≡ Some NoMemory → ⊥
+cond_memory true reported line not is = not (result_err-some reported NoMemory is)
+cond_memory false reported line not is = absurd (cc)
 
 after_memory : (n : NetworkModel) (names : NameLists) (t : List (List (List ℕ))) (first : Result BoundsRow ProofFault) → (first ≡ Err NoMemory → ⊥) → IsFaultAfter n names t first NoMemory → ⊥
 after_memory n names t (Ok bounds) not late =
-    cond_memory _ (told_in n names (late.i + 2) (connection_before n names t late.i) (value_row t late.i)) (late.i + 2)
-    (told_in_memory n names (late.i + 2) (connection_before n names t late.i) (value_row t late.i)) late.here
+    cond_memory _ (reported_in n names (late.i + 2) (connection_before n names t late.i) (value_row t late.i)) (late.i + 2)
+    (reported_in_memory n names (late.i + 2) (connection_before n names t late.i) (value_row t late.i)) late.here
 after_memory n names t (Err fault) not is = not (ap Err is)
 
 -- the first fault of a text is not that there was no memory
@@ -100,12 +100,12 @@ module _ (n : NetworkModel) (names : NameLists) (t : List (List (List ℕ))) whe
     ]
   ]
 
-  one_values : (stated other : ℕ) (a b : List (Option ℕ)) → AreValuesTold n names t stated a → AreValuesTold n names t other b → a ≡ b
+  one_values : (stated other : ℕ) (a b : List (Option ℕ)) → AreValuesReported n names t stated a → AreValuesReported n names t other b → a ≡ b
   one_values stated other a b one two = ext_get_or None a b (one.as_many ∙ sym two.as_many) (λ c within. same c)
     where
       same : (c : ℕ) → bound_of a c ≡ bound_of b c
       same c = elim (of_rows c (row_count t)) [
-        | inl at ↦ one.told at.0 c at.1 at.2 ∙ sym (two.told at.0 c at.1 at.2)
+        | inl at ↦ one.reported at.0 c at.1 at.2 ∙ sym (two.reported at.0 c at.1 at.2)
         | inr never ↦ one.others c never ∙ sym (two.others c never)
       ]
 
@@ -126,30 +126,30 @@ module _ (n : NetworkModel) (names : NameLists) (t : List (List (List ℕ))) whe
   after_one (Err fault) f g one two = sym one ∙ two
 
   not_both : (first : Result BoundsRow ProofFault) (bounds : BoundsRow) (values : List (Option ℕ)) (f : ProofFault) → first ≡ Ok bounds
-      → AreValuesTold n names t bounds.number values → IsFaultAfter n names t first f → ⊥
-  not_both (Ok own) bounds values f is told late =
+      → AreValuesReported n names t bounds.number values → IsFaultAfter n names t first f → ⊥
+  not_both (Ok own) bounds values f is reported late =
       let same : own ≡ bounds = cc in
       let first : IsFirstLineFault n names t bounds.number f = subst (λ (b : BoundsRow). IsFirstLineFault n names t b.number f) same late in
-      let both : ◌≡◌ {A = Option ProofFault} (Some f) None = sym first.here ∙ told.faultless first.i first.within in
+      let both : ◌≡◌ {A = Option ProofFault} (Some f) None = sym first.here ∙ reported.faultless first.i first.within in
       absurd (cc)
-  not_both (Err fault) bounds values f is told late = absurd (cc)
+  not_both (Err fault) bounds values f is reported late = absurd (cc)
 
 module _ (n : NetworkModel) (names : NameLists) (source target start : ℕ) where
-  one_told : (t : List (List (List ℕ))) (a b : Query × LowerBounds) → IsProofTold n names source target start t a.0 a.1.values → IsProofTold n names source target start t b.0 b.1.values → a ≡ b
-  one_told t a b one two =
+  one_reported : (t : List (List (List ℕ))) (a b : Query × LowerBounds) → IsProofReported n names source target start t a.0 a.1.values → IsProofReported n names source target start t b.0 b.1.values → a ≡ b
+  one_reported t a b one two =
       let both : ◌≡◌ {A = Result BoundsRow ProofFault} (Ok one.bounds) (Ok two.bounds) = sym one.head ∙ two.head in
       let same : ◌≡◌ {A = BoundsRow} one.bounds two.bounds = cc in
       same_read a b
       (same_query a.0 b.0 (one.from ∙ sym two.from) (one.to ∙ sym two.to) (one.since ∙ sym two.since) (one.until ∙ ap (λ (r : BoundsRow). r.deadline) same ∙ sym two.until))
-      (one_values n names t one.bounds.number two.bounds.number a.1.values b.1.values one.told two.told)
+      (one_values n names t one.bounds.number two.bounds.number a.1.values b.1.values one.reported two.reported)
 
-  -- what is read of a text is one, but for want of memory
+  -- what is read of a text is one, unless memory runs out
   pub read_once : (text : List ℕ) (r s : Result (Query × LowerBounds) ProofFault) → IsProofRead n names source target start text r → IsProofRead n names source target start text s
       → r ≢ Err NoMemory → s ≢ Err NoMemory → r ≡ s
-  read_once text (Ok a) (Ok b) one two _ _ = ap Ok (one_told (table_of text) a b one two)
+  read_once text (Ok a) (Ok b) one two _ _ = ap Ok (one_reported (table_of text) a b one two)
   read_once text (Ok a) (Err g) one (inl none) _ some = absurd (some (ap Err none))
-  read_once text (Ok a) (Err g) one (inr late) _ _ = absurd (not_both n names (table_of text) _ one.bounds a.1.values g one.head one.told late)
+  read_once text (Ok a) (Err g) one (inr late) _ _ = absurd (not_both n names (table_of text) _ one.bounds a.1.values g one.head one.reported late)
   read_once text (Err f) s (inl none) two some _ = absurd (some (ap Err none))
-  read_once text (Err f) (Ok b) (inr late) two _ _ = absurd (not_both n names (table_of text) _ two.bounds b.1.values f two.head two.told late)
+  read_once text (Err f) (Ok b) (inr late) two _ _ = absurd (not_both n names (table_of text) _ two.bounds b.1.values f two.head two.reported late)
   read_once text (Err f) (Err g) (inr late) (inl none) _ some = absurd (some (ap Err none))
   read_once text (Err f) (Err g) (inr late) (inr other) _ _ = ap Err (after_one n names (table_of text) _ f g late other)

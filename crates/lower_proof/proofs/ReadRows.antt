@@ -13,27 +13,27 @@ use Rattle.plan_model.specs.NameLists.{NameLists}
 use Rattle.plan_model.specs.Network.{count}
 use Rattle.printed_rows.specs.Fields.{field, number_of, connection_of, rises}
 use Rattle.lower_proof.specs.declared.reader.ValueRow.{ValueRow}
-use Rattle.lower_proof.specs.declared.reader.Told.{Told}
+use Rattle.lower_proof.specs.declared.reader.RowValue.{RowValue}
 use Rattle.lower_proof.specs.declared.reader.ProofFault.{ProofFault}
 use Rattle.lower_proof.specs.declared.reader.ProofFault.TheVariants.{Row}
 use Rattle.lower_proof.specs.Certificates.{bound_of}
-use Rattle.lower_proof.specs.Reading.{value_row_in, connection_in, nanos_in, told_in, value_row, connection_before, value_fault, IsFirstLineFault, AreValuesTold}
+use Rattle.lower_proof.specs.Reading.{value_row_in, connection_in, nanos_in, reported_in, value_row, connection_before, value_fault, IsFirstLineFault, AreValuesReported}
 
--- ---- a row that tells
+-- ---- a row that is well formed
 
-record Tells (n : NetworkModel) (names : NameLists) (before : Option ℕ) (r : List (List ℕ)) (told : Told) : Type 0 where
-  connection : connection_in n names r ≡ Some told.id.0
-  value : nanos_in r ≡ Some told.value
-  rise : rises before told.id.0 ≡ true
+record Reports (n : NetworkModel) (names : NameLists) (before : Option ℕ) (r : List (List ℕ)) (reported : RowValue) : Type 0 where
+  connection : connection_in n names r ≡ Some reported.id.0
+  value : nanos_in r ≡ Some reported.value
+  rise : rises before reported.id.0 ≡ true
 
-tells : (n : NetworkModel) (names : NameLists) (line : ℕ) (before : Option ℕ) (r : List (List ℕ)) (told : Told) → told_in n names line before r ≡ Ok told → Tells n names before r told
-tells n names line before r told is =
-    let x = require-ok (value_row_in r) _ _ told is in
-    let run = require-ok (number_of names.runs (field r 1)) _ _ told x.2 in
-    let c = require-ok (connection_of n run.0 x.0.step) _ _ told run.2 in
-    let own = if-value (rises before c.0) _ _ told c.2 in
-    let same : record { id = record { 0 = c.0 }; value = x.0.value } ≡ told = (cc) in
-    subst (Tells n names before r) same (record {
+reports : (n : NetworkModel) (names : NameLists) (line : ℕ) (before : Option ℕ) (r : List (List ℕ)) (reported : RowValue) → reported_in n names line before r ≡ Ok reported → Reports n names before r reported
+reports n names line before r reported is =
+    let x = require-ok (value_row_in r) _ _ reported is in
+    let run = require-ok (number_of names.runs (field r 1)) _ _ reported x.2 in
+    let c = require-ok (connection_of n run.0 x.0.step) _ _ reported run.2 in
+    let own = if-value (rises before c.0) _ _ reported c.2 in
+    let same : record { id = record { 0 = c.0 }; value = x.0.value } ≡ reported = (cc) in
+    subst (Reports n names before r) same (record {
       connection = by_parts (value_row_in r) (number_of names.runs (field r 1)) x.1 run.1 c.1;
       value = ap (option_map (λ (row : ValueRow). row.value)) x.1;
       rise = own.0;
@@ -56,17 +56,17 @@ pub record IsReadTo (n : NetworkModel) (names : NameLists) (t : List (List (List
   pub before : last ≡ connection_before n names t i
   pub below : (k c : ℕ) → k < i → connection_in n names (value_row t k) ≡ Some c → (l : ℕ) × (last ≡ Some l) × (c ≤ l)
   pub as_many : length values ≡ count n
-  pub told : (k c : ℕ) → k < i → connection_in n names (value_row t k) ≡ Some c → bound_of values c ≡ nanos_in (value_row t k)
+  pub reported : (k c : ℕ) → k < i → connection_in n names (value_row t k) ≡ Some c → bound_of values c ≡ nanos_in (value_row t k)
   pub others : (c : ℕ) → ((k : ℕ) → k < i → connection_in n names (value_row t k) ≢ Some c) → bound_of values c ≡ None
 
 pub read_first : (n : NetworkModel) (names : NameLists) (t : List (List (List ℕ))) (stated : ℕ) (values : List (Option ℕ)) → length values ≡ count n → ((c : ℕ) → bound_of values c ≡ None)
     → IsReadTo n names t stated 0 values None
 read_first n names t stated values as_many none = grind arith
 
--- the fault of row i, by what it tells after the row before
-fault_is : (n : NetworkModel) (names : NameLists) (t : List (List (List ℕ))) (stated i : ℕ) (last : Option ℕ) (told : Result Told ProofFault) → i < stated → last ≡ connection_before n names t i
-    → told ≡ told_in n names (i + 2) last (value_row t i) → value_fault n names t stated i ≡ result_err told
-fault_is n names t stated i last told inside before is =
+-- the fault of row i, by what it gives after the row before
+fault_is : (n : NetworkModel) (names : NameLists) (t : List (List (List ℕ))) (stated i : ℕ) (last : Option ℕ) (reported : Result RowValue ProofFault) → i < stated → last ≡ connection_before n names t i
+    → reported ≡ reported_in n names (i + 2) last (value_row t i) → value_fault n names t stated i ≡ result_err reported
+fault_is n names t stated i last reported inside before is =
     rw (lt-ltb i stated inside, ← before) (ap result_err (sym is))
 
 module _ (n : NetworkModel) (names : NameLists) (t : List (List (List ℕ))) (stated i : ℕ) (values : List (Option ℕ)) (last : Option ℕ) (so_far : IsReadTo n names t stated i values last) where
@@ -74,37 +74,37 @@ module _ (n : NetworkModel) (names : NameLists) (t : List (List (List ℕ))) (st
   below_or_here k less = elim (cases_lt k i) [ inl own ↦ inl own | inr le ↦ inr (omega (arith, le, less)) ]
 
   -- with row i
-  pub read_on : (told : Told) → i < row_count t → i < stated → Ok told ≡ told_in n names (i + 2) last (value_row t i) → told.id.0 < count n
-      → IsReadTo n names t stated (i + 1) (set values told.id.0 (Some told.value)) (Some told.id.0)
-  read_on told inside within is there = record {
+  pub read_on : (reported : RowValue) → i < row_count t → i < stated → Ok reported ≡ reported_in n names (i + 2) last (value_row t i) → reported.id.0 < count n
+      → IsReadTo n names t stated (i + 1) (set values reported.id.0 (Some reported.value)) (Some reported.id.0)
+  read_on reported inside within is there = record {
     rows = omega (arith, inside);
     stated_rows = omega (arith, within);
     faultless = λ k less. elim (below_or_here k less) [
       | inl own ↦ so_far.faultless k own
-      | inr same ↦ subst (λ (m : ℕ). value_fault n names t stated m ≡ None) (sym same) (fault_is n names t stated i last (Ok told) within so_far.before is)
+      | inr same ↦ subst (λ (m : ℕ). value_fault n names t stated m ≡ None) (sym same) (fault_is n names t stated i last (Ok reported) within so_far.before is)
     ];
     before = let one : suc i ≡ i + 1 = omega arith in subst (λ (m : ℕ). Some c ≡ connection_before n names t m) one (sym own_row.connection);
     below = λ k d less at. elim (below_or_here k less) [
       | inl own ↦ let b = so_far.below k d own at in let l_below = above last b.0 c b.1 own_row.rise in (c, refl, omega (arith, l_below, b.2))
       | inr same ↦ let e = named k d same at in (c, refl, omega (arith, e))
     ];
-    as_many = length-set values c (Some told.value) ∙ so_far.as_many;
-    told = λ k d less at. elim (below_or_here k less) [
-      | inl own ↦ get_or-set_other values c d (Some told.value) None (λ e. fresh k own (at ∙ ap Some e)) ∙ so_far.told k d own at
+    as_many = length-set values c (Some reported.value) ∙ so_far.as_many;
+    reported = λ k d less at. elim (below_or_here k less) [
+      | inl own ↦ get_or-set_other values c d (Some reported.value) None (λ e. fresh k own (at ∙ ap Some e)) ∙ so_far.reported k d own at
       | inr same ↦
-          subst (λ (m : ℕ). bound_of (set values c (Some told.value)) d ≡ nanos_in (value_row t m)) (sym same)
-          (subst (λ (m : ℕ). bound_of (set values c (Some told.value)) m ≡ nanos_in (value_row t i)) (sym (named k d same at)) (stored ∙ sym own_row.value))
+          subst (λ (m : ℕ). bound_of (set values c (Some reported.value)) d ≡ nanos_in (value_row t m)) (sym same)
+          (subst (λ (m : ℕ). bound_of (set values c (Some reported.value)) m ≡ nanos_in (value_row t i)) (sym (named k d same at)) (stored ∙ sym own_row.value))
     ];
     others = λ d never.
-        get_or-set_other values c d (Some told.value) None (λ e. never i (omega arith) (own_row.connection ∙ ap Some (sym e)))
+        get_or-set_other values c d (Some reported.value) None (λ e. never i (omega arith) (own_row.connection ∙ ap Some (sym e)))
         ∙ so_far.others d (λ k less. never k (omega (arith, less)));
   }
     where
       c : ℕ
-      c = told.id.0
+      c = reported.id.0
 
-      own_row : Tells n names last (value_row t i) told
-      own_row = tells n names (i + 2) last (value_row t i) told (sym is)
+      own_row : Reports n names last (value_row t i) reported
+      own_row = reports n names (i + 2) last (value_row t i) reported (sym is)
 
       fresh : (k : ℕ) → k < i → connection_in n names (value_row t k) ≢ Some c
       fresh k less at = let b = so_far.below k c less at in let l_below = above last b.0 c b.1 own_row.rise in omega (arith, l_below, b.2)
@@ -112,11 +112,11 @@ module _ (n : NetworkModel) (names : NameLists) (t : List (List (List ℕ))) (st
       named : (k d : ℕ) → k ≡ i → connection_in n names (value_row t k) ≡ Some d → d ≡ c
       named k d same at = grind (arith, own_row)
 
-      stored : bound_of (set values c (Some told.value)) c ≡ Some told.value
-      stored = get_or-set_same values c (Some told.value) None (omega (arith, there, so_far.as_many))
+      stored : bound_of (set values c (Some reported.value)) c ≡ Some reported.value
+      stored = get_or-set_same values c (Some reported.value) None (omega (arith, there, so_far.as_many))
 
   -- row i has a fault
-  pub fault_here : (fault : ProofFault) → i < row_count t → i < stated → ◌≡◌ {A = Result Told ProofFault} (Err fault) (told_in n names (i + 2) last (value_row t i))
+  pub fault_here : (fault : ProofFault) → i < row_count t → i < stated → ◌≡◌ {A = Result RowValue ProofFault} (Err fault) (reported_in n names (i + 2) last (value_row t i))
       → IsFirstLineFault n names t stated fault
   fault_here fault inside within is = record {
     i = i;
@@ -141,12 +141,12 @@ module _ (n : NetworkModel) (names : NameLists) (t : List (List (List ℕ))) (st
   }
 
   -- all rows
-  pub read_all : max (row_count t) stated ≤ i → AreValuesTold n names t stated values
+  pub read_all : max (row_count t) stated ≤ i → AreValuesReported n names t stated values
   read_all whole =
       let all : i ≡ row_count t = omega (arith, le-max_left (row_count t) stated, so_far.rows, whole) in
       record {
         faultless = λ k within. so_far.faultless k (omega (arith, within, whole));
         as_many = so_far.as_many;
-        told = λ k c within at. so_far.told k c (omega (arith, all, within)) at;
+        reported = λ k c within at. so_far.reported k c (omega (arith, all, within)) at;
         others = λ c never. so_far.others c (λ k less. never k (omega (arith, all, less)));
       }

@@ -10,7 +10,7 @@ use Rattle.lower_proof.specs.Certificates.{bound_of}
 abbrev pub entry_at : List Entry → ℕ → Entry
 entry_at entries k = slice_index_or entries k (record { by = record { 0 = 0 }; id = record { 0 = 0 } })
 
--- it can be boarded by whoever arrives at the place by its moment
+-- it can be boarded by a traveller who arrives at the place by its moment
 pub record IsEntry (network : NetworkModel) (p : ℕ) (e : Entry) : Type 0 where
   pub there : e.id.0 < count network
   pub board : IsTrue (connection network e.id.0).can_board
@@ -22,7 +22,7 @@ pub record AreEntries (network : NetworkModel) (last p m : ℕ) (entries : List 
   pub each : (k : ℕ) → k < length entries → IsEntry network p (entry_at entries k)
   pub all : (c x : ℕ) → c < m → dep_of network c ≤ last → IsTrue (connection network c).can_board → IsBoardable network p x c → (k : ℕ) × (k < length entries) × ((entry_at entries k).id.0 ≡ c)
 
--- the later one may arrive, the sooner it stands
+-- the later one may arrive, the sooner it comes
 abbrev pub Falls : List Entry → Type 0
 Falls entries = AllPairs (λ a b. b.by.0 ≤ a.by.0) entries
 

@@ -1,4 +1,4 @@
--- What the text of a certificate tells, or the first of its faults by line. Value row i stands in line i + 2.
+-- What the text of a certificate gives, or the first of its faults by line. Value row i is in line i + 2.
 use Rattle.std.specs.Prelude.{◌≡◌, ◌≢◌, ℕ, zero, suc, ◌+◌, ◌<◌, Bool, List, [], length, ◌&&◌, ◌⊎◌, nat_le, nat_lt, max, if◌then◌else◌, slice_index_or, codes, Option, Some, None, Result, Ok, Err}
 use Rattle.std.specs.Option.{option_map, option_and_then}
 use Rattle.std.specs.Result.{result_err}
@@ -16,7 +16,7 @@ use Rattle.printed_rows.specs.Fields.{field, is_kind, whole_at, number_of, is_qu
 use Rattle.lower_proof.specs.declared.LowerBounds.{LowerBounds}
 use Rattle.lower_proof.specs.declared.reader.BoundsRow.{BoundsRow}
 use Rattle.lower_proof.specs.declared.reader.ValueRow.{ValueRow}
-use Rattle.lower_proof.specs.declared.reader.Told.{Told}
+use Rattle.lower_proof.specs.declared.reader.RowValue.{RowValue}
 use Rattle.lower_proof.specs.declared.reader.ProofFault.{ProofFault}
 use Rattle.lower_proof.specs.declared.reader.ProofFault.TheVariants.{Row, UnknownName, NoConnection, NotRising, OtherQuery, NoMemory}
 use Rattle.lower_proof.specs.Certificates.{bound_of}
@@ -38,7 +38,7 @@ is_bounds r = is_kind (codes "bounds") 7 r && bytes_eq (field r 1) (codes "1")
 abbrev pub bounds_row_in : List (List ℕ) → Option BoundsRow
 bounds_row_in r = if is_bounds r then bounds_numbers (moment_at (field r 4)) (moment_at (field r 5)) (whole_at (field r 6)) else None
 
--- what the first row tells, or the first of its faults
+-- what the first row gives, or the first of its faults
 abbrev pub bounds_in : NameLists → ℕ → ℕ → ℕ → List (List ℕ) → Result BoundsRow ProofFault
 bounds_in names source target start r =
     require (bounds_row_in r) (Row 1) (λ x.
@@ -65,9 +65,9 @@ connection_in network names r = option_and_then (λ x. option_and_then (λ run. 
 abbrev pub nanos_in : List (List ℕ) → Option ℕ
 nanos_in r = option_map (λ x. x.value) (value_row_in r)
 
--- what a value row tells after one of an earlier connection, or the first of its faults
-abbrev pub told_in : NetworkModel → NameLists → ℕ → Option ℕ → List (List ℕ) → Result Told ProofFault
-told_in network names line before r =
+-- what a value row gives after one of an earlier connection, or the first of its faults
+abbrev pub reported_in : NetworkModel → NameLists → ℕ → Option ℕ → List (List ℕ) → Result RowValue ProofFault
+reported_in network names line before r =
     require (value_row_in r) (Row line) (λ x.
     require (number_of names.runs (field r 1)) (UnknownName line) (λ run.
     require (connection_of network run x.step) (NoConnection line) (λ c.
@@ -84,10 +84,10 @@ abbrev pub connection_before : NetworkModel → NameLists → List (List (List �
 connection_before network names t zero = None
 connection_before network names t (suc i) = connection_in network names (value_row t i)
 
--- the first fault of value row i, of which the first row states so many
+-- the first fault of value row i, of which the first row states this many
 abbrev pub value_fault : NetworkModel → NameLists → List (List (List ℕ)) → ℕ → ℕ → Option ProofFault
 value_fault network names t stated i =
-    if nat_lt i stated then result_err (told_in network names (i + 2) (connection_before network names t i) (value_row t i)) else Some (Row (i + 2))
+    if nat_lt i stated then result_err (reported_in network names (i + 2) (connection_before network names t i) (value_row t i)) else Some (Row (i + 2))
 
 -- it is that of a value row, or of one that is missing, and no line before has one
 pub record IsFirstLineFault (network : NetworkModel) (names : NameLists) (t : List (List (List ℕ))) (stated : ℕ) (fault : ProofFault) : Type 0 where
@@ -102,21 +102,21 @@ IsFaultAfter network names t (Ok bounds) fault = IsFirstLineFault network names 
 IsFaultAfter network names t (Err first) fault = first ≡ fault
 
 -- no line has a fault, and the values are those of the value rows
-pub record AreValuesTold (network : NetworkModel) (names : NameLists) (t : List (List (List ℕ))) (stated : ℕ) (values : List (Option ℕ)) : Type 0 where
+pub record AreValuesReported (network : NetworkModel) (names : NameLists) (t : List (List (List ℕ))) (stated : ℕ) (values : List (Option ℕ)) : Type 0 where
   pub faultless : (i : ℕ) → i < max (row_count t) stated → value_fault network names t stated i ≡ None
   pub as_many : length values ≡ count network
-  pub told : (i c : ℕ) → i < row_count t → connection_in network names (value_row t i) ≡ Some c → bound_of values c ≡ nanos_in (value_row t i)
+  pub reported : (i c : ℕ) → i < row_count t → connection_in network names (value_row t i) ≡ Some c → bound_of values c ≡ nanos_in (value_row t i)
   pub others : (c : ℕ) → ((i : ℕ) → i < row_count t → connection_in network names (value_row t i) ≢ Some c) → bound_of values c ≡ None
 
 -- the query has the source, the target and the start, and the deadline of the first row
-pub record IsProofTold (network : NetworkModel) (names : NameLists) (source target start : ℕ) (t : List (List (List ℕ))) (query : Query) (values : List (Option ℕ)) : Type 0 where
+pub record IsProofReported (network : NetworkModel) (names : NameLists) (source target start : ℕ) (t : List (List (List ℕ))) (query : Query) (values : List (Option ℕ)) : Type 0 where
   pub bounds : BoundsRow
   pub head : bounds_in names source target start (header t) ≡ Ok bounds
   pub from : query.source.0 ≡ source
   pub to : query.target.0 ≡ target
   pub since : query.start.0 ≡ start
   pub until : query.deadline ≡ bounds.deadline
-  pub told : AreValuesTold network names t bounds.number values
+  pub reported : AreValuesReported network names t bounds.number values
 
 -- the fault of a text that is no table: it has no first row, or there was no memory
 abbrev pub fault_of_rows : RowsFault → ProofFault
@@ -125,7 +125,7 @@ fault_of_rows rows.NoMemory = NoMemory
 
 -- what is read of a text, of this source, target and start: a query and values, or the first fault, or there was no memory
 abbrev pub IsProofRead : NetworkModel → NameLists → ℕ → ℕ → ℕ → List ℕ → Result (Query × LowerBounds) ProofFault → Type 0
-IsProofRead network names source target start text (Ok read) = IsProofTold network names source target start (table_of text) read.0 read.1.values
+IsProofRead network names source target start text (Ok read) = IsProofReported network names source target start (table_of text) read.0 read.1.values
 IsProofRead network names source target start text (Err fault) =
     (fault ≡ NoMemory) ⊎ IsFaultAfter network names (table_of text) (bounds_in names source target start (header (table_of text))) fault
 

@@ -11,7 +11,7 @@ ghost use Rattle.lower_proof.specs.declared.reader.ProofFault.TheVariants.{NoMem
 ghost use Rattle.lower_proof.specs.Reading.{bounds_in, IsFaultAfter, IsProofRead};
 
 /// A law, with no code: what is read of a text is one certificate or one fault, unless memory runs out.
-pub fn one_text_tells_one_certificate()
+pub fn one_text_is_one_certificate()
     ensures { (n : NetworkModel) (names : NameLists) (source target start : ℕ) (text : Bytes ℕ) (r s : Either (Asked × Proof) Fault)
         → IsProofRead n names source target start text r → IsProofRead n names source target start text s
         → r ≢ Err Lacking → s ≢ Err Lacking → r ≡ s }

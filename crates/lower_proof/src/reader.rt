@@ -3,7 +3,7 @@ ghost use Rattle.std.specs.Prelude.{◌≡◌, ◌+◌, ◌<◌, ◌⊎◌, nat_
 ghost use Rattle.std.specs.Result.{IfErr};
 ghost use Rattle.csv_rows.specs.Tables.{header};
 ghost use Rattle.plan_model.specs.Network.{count};
-ghost use Rattle.lower_proof.specs.Reading.{is_bounds, bounds_row_in, bounds_in, value_row_in, told_in, IsFirstLineFault, AreValuesTold, IsProofRead};
+ghost use Rattle.lower_proof.specs.Reading.{is_bounds, bounds_row_in, bounds_in, value_row_in, reported_in, IsFirstLineFault, AreValuesReported, IsProofRead};
 
 use crate::{LowerBounds, no_values};
 use clock_text::{read_moment, read_nanos};
@@ -35,7 +35,7 @@ pub enum ProofFault {
 impl From<RowsFault> for ProofFault {
     ghost use Rattle.lower_proof.specs.Reading.{fault_of_rows};
 
-    ghost from_gives = { λ fault told. told ≡ fault_of_rows fault };
+    ghost from_gives = { λ fault reported. reported ≡ fault_of_rows fault };
 
     fn from(fault: RowsFault) -> Self {
         match fault {
@@ -90,7 +90,7 @@ pub(crate) struct ValueRow {
 
 /// A connection and its value.
 #[derive(Clone, Copy)]
-pub(crate) struct Told {
+pub(crate) struct RowValue {
     id: ConnectionId,
     value: u64,
 }
@@ -173,9 +173,9 @@ fn read_value(
     network: &Network,
     names: &NameIndex<'_>,
     last: Option<u64>,
-) -> Result<Told, ProofFault>
-    ensures told { result ≡ told_in network.now names.now printed.now.line last printed.now.fields }
-    ensures there { IfOk result (λ told. told.id.0 < count network.now) }
+) -> Result<RowValue, ProofFault>
+    ensures reported { result ≡ reported_in network.now names.now printed.now.line last printed.now.fields }
+    ensures there { IfOk result (λ reported. reported.id.0 < count network.now) }
 {
     let line = printed.line();
     let Some(numbers) = value_numbers(printed) else {
@@ -188,7 +188,7 @@ fn read_value(
         return Err(ProofFault::NoConnection(line));
     };
     if rises(last, u64::from(id.0)) {
-        Ok(Told {
+        Ok(RowValue {
             id,
             value: numbers.value,
         })
@@ -205,7 +205,7 @@ fn read_values(
     names: &NameIndex<'_>,
     stated: u32,
 ) -> Result<Vec<Option<u64>>, ProofFault>
-    ensures told { IfOk result (λ values. AreValuesTold network.now names.now rows.now stated values.items) }
+    ensures reported { IfOk result (λ values. AreValuesReported network.now names.now rows.now stated values.items) }
     ensures fault { IfErr result (λ fault. (fault ≡ ProofFault.NoMemory) ⊎ IsFirstLineFault network.now names.now rows.now stated fault) }
 {
     let mut values = no_values(alloc, network)?;
@@ -216,9 +216,9 @@ fn read_values(
         if row >= count || row >= most {
             return Err(ProofFault::Row(row as u64 + 2));
         }
-        let told = read_value(&Record::of_row(rows, row), network, names, last)?;
-        values[told.id.0 as usize] = Some(told.value);
-        last = Some(u64::from(told.id.0));
+        let reported = read_value(&Record::of_row(rows, row), network, names, last)?;
+        values[reported.id.0 as usize] = Some(reported.value);
+        last = Some(u64::from(reported.id.0));
     }
     Ok(values)
 }

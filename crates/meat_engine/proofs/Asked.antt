@@ -8,7 +8,7 @@ use Rattle.command_line.specs.Shown.{ask_shown}
 use Rattle.journey_model.specs.declared.faults.Fault.{Fault}
 use Rattle.journey_model.specs.declared.faults.Fault.TheVariants.{NoSafe, NoMemory}
 use Rattle.journey_model.specs.declared.problem.Problem.{Problem}
-use Rattle.journey_model.specs.Faults.{unread_of}
+use Rattle.journey_model.specs.Faults.{unread_input}
 use Rattle.journey_model.specs.Known.{parts_of}
 use Rattle.journey_model.specs.Sites.{IsTellable}
 use Rattle.journey_model.specs.Wants.{OrNoMemory}
@@ -16,7 +16,7 @@ use Rattle.journey_report.specs.declared.answer.Answer.{Answer}
 use Rattle.journey_report.specs.Findings.{findings_of}
 use Rattle.journey_problem.specs.Files.{HasCauses}
 use Rattle.meat_engine.specs.Asks.{own_paths, AnswersAsk, FailsAsk}
-use Rattle.meat_engine.proofs.Asking.{unsafe_told}
+use Rattle.meat_engine.proofs.Asking.{unsafe_reported}
 
 module _ (contents : Option FileMap) (limits : Limits) (start : ℕ) (p : Problem) where
   -- the answer is one to what is asked, and the fault is why there is none
@@ -33,13 +33,13 @@ module _ (contents : Option FileMap) (limits : Limits) (start : ℕ) (p : Proble
   pub record IsAnsweredAlone (ask : AskModel) (r : Result Answer Fault) : Type 0 where
     pub own : IsAnswered ask r
     pub tellable : IfErr r (IsTellable (Some (parts_of p)))
-    pub unread : IfErr r (λ fault. unread_of fault ≡ None)
+    pub unread : IfErr r (λ fault. unread_input fault ≡ None)
 
   alone : (ask : AskModel) → ((fault : Fault) → FailsAsk contents limits start p ask fault → fault ≡ NoSafe) → (r : Result Answer Fault)
       → IfOk r (λ a. AnswersAsk contents limits start p ask (findings_of a.report) a.text.items) → IfErr r (OrNoMemory (FailsAsk contents limits start p ask)) → IsAnsweredAlone ask r
   alone ask unsafe (Ok a) answer fails = record { own = record { answer = answer; fault = tt }; tellable = tt; unread = tt }
   alone ask unsafe (Err fault) answer fails =
-      let h = unsafe_told (FailsAsk contents limits start p ask) unsafe (Some (parts_of p)) fault fails in
+      let h = unsafe_reported (FailsAsk contents limits start p ask) unsafe (Some (parts_of p)) fault fails in
       record { own = record { answer = tt; fault = h.why }; tellable = h.tellable; unread = h.unread }
 
   pub alone-asked : {ask asked : Ask} (r : Result Answer Fault) → ask ≡ asked

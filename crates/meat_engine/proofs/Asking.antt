@@ -7,7 +7,7 @@ use Rattle.journey_model.specs.declared.faults.Input.{Input}
 use Rattle.journey_model.specs.declared.faults.Input.TheVariants as input
 use Rattle.journey_model.specs.declared.faults.Fault.{Fault}
 use Rattle.journey_model.specs.declared.faults.Fault.TheVariants.{Read, NoSafe, NoMemory}
-use Rattle.journey_model.specs.Faults.{unread_of}
+use Rattle.journey_model.specs.Faults.{unread_input}
 use Rattle.journey_model.specs.Sites.{NamedParts, IsTellable}
 use Rattle.journey_model.specs.Stages.{IsStageBeforeSearch}
 use Rattle.journey_model.proofs.Sited.{tellable}
@@ -26,34 +26,34 @@ pub early_tellable : (known : Option NamedParts) (timetable : TimetableModel) (f
 early_tellable known timetable fault early = tellable known fault (λ at. subst IsStageBeforeSearch at early.stage)
 
 -- nor is that there are no strategies: what holds where it fails only as no strategy is safe, or there was no memory
-pub record IsUnsafeTold (Fails : Fault → Type 0) (known : Option NamedParts) (fault : Fault) : Type 0 where
+pub record IsUnsafeReported (Fails : Fault → Type 0) (known : Option NamedParts) (fault : Fault) : Type 0 where
   pub why : fault ≢ NoMemory → Fails fault
   pub tellable : IsTellable known fault
-  pub unread : unread_of fault ≡ None
+  pub unread : unread_input fault ≡ None
 
-pub unsafe_told : (Fails : Fault → Type 0) → ((fault : Fault) → Fails fault → fault ≡ NoSafe) → (known : Option NamedParts) (fault : Fault)
-    → OrNoMemory Fails fault → IsUnsafeTold Fails known fault
-unsafe_told Fails unsafe known fault (inl why) = record {
+pub unsafe_reported : (Fails : Fault → Type 0) → ((fault : Fault) → Fails fault → fault ≡ NoSafe) → (known : Option NamedParts) (fault : Fault)
+    → OrNoMemory Fails fault → IsUnsafeReported Fails known fault
+unsafe_reported Fails unsafe known fault (inl why) = record {
   why = λ other. why;
   tellable = subst (IsTellable known) (sym (unsafe fault why)) tt;
-  unread = ap unread_of (unsafe fault why);
+  unread = ap unread_input (unsafe fault why);
 }
-unsafe_told Fails unsafe known fault (inr memory) = record {
+unsafe_reported Fails unsafe known fault (inr memory) = record {
   why = λ other. absurd (other memory);
   tellable = subst (IsTellable known) (sym memory) tt;
-  unread = ap unread_of memory;
+  unread = ap unread_input memory;
 }
 
 -- a refusal before there is a problem
 pub plain_refusal : (cause : Option NamedParts → Fault → Type 0) (r : Refusal) (fault : Fault) → r.fault ≡ fault → r.problem ≡ None → IsTellable None fault
     → (fault ≢ NoMemory → cause None fault) → IsRefusalBy cause r
-plain_refusal cause r fault is none tells holds = record {
-  tellable = subst (λ (o : Option Problem). IsTellable (option_map parts_of o) r.fault) (sym none) (subst (IsTellable None) (sym is) tells);
+plain_refusal cause r fault is none reports holds = record {
+  tellable = subst (λ (o : Option Problem). IsTellable (option_map parts_of o) r.fault) (sym none) (subst (IsTellable None) (sym is) reports);
   holds = λ other. subst (λ (o : Option Problem). cause (option_map parts_of o) r.fault) (sym none) (subst (cause None) (sym is) (holds (λ same. other (is ∙ same))));
 }
 
 -- where no file fails to be read
-pub never_unread : (fault : Fault) → ((input : Input) → fault ≡ Read input → ⊥) → unread_of fault ≡ None
+pub never_unread : (fault : Fault) → ((input : Input) → fault ≡ Read input → ⊥) → unread_input fault ≡ None
 never_unread (Read file) never = absurd (never file refl)
 never_unread _ never = refl
 

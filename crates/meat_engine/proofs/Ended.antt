@@ -43,17 +43,17 @@ module _ (p : Problem) (start : ℕ) where
 module _ (limits : Limits) (files : FileMap) (start : ℕ) (p : Problem) where
   -- an answered question
   pub answers_end : (ask : AskModel) (found : Findings) (text : List ℕ) → AnswersAsk (Some files) limits start p ask found text → EndsAsk limits files start p ask 0
-  answers_end (Safe alpha) found text (q, w, asked, tells) = asked_ends p start alpha q w asked
-  answers_end (Expand alpha) found text (q, w, asked, tells) = asked_ends p start alpha q w asked
-  answers_end (Plan alpha) found text (q, w, asked, tells) = asked_ends p start alpha q w asked
-  answers_end (Replays graph late) found text (head, plan, file, told) =
-      inl (head, plan, file.reads, inl (told.trace, told.trip, refl))
-  answers_end (Certify alpha) found text (q, w, asked, tells) = asked_ends p start alpha q w asked
+  answers_end (Safe alpha) found text (q, w, asked, reports) = asked_ends p start alpha q w asked
+  answers_end (Expand alpha) found text (q, w, asked, reports) = asked_ends p start alpha q w asked
+  answers_end (Plan alpha) found text (q, w, asked, reports) = asked_ends p start alpha q w asked
+  answers_end (Replays graph late) found text (head, plan, file, reported) =
+      inl (head, plan, file.reads, inl (reported.trace, reported.trip, refl))
+  answers_end (Certify alpha) found text (q, w, asked, reports) = asked_ends p start alpha q w asked
   answers_end (CheckProof path) found text (q, proof, file, held) = inl (q, proof, file, inl (held.accepted, refl))
-  answers_end (CheckGraph path) found text (head, plan, file, told) = inl (head, plan, file.reads, inl (refl, told.scored.safe))
-  answers_end (Punctual alpha promise) found text (q, w, asked, tells) = asked_ends p start alpha q w asked
-  answers_end (Departures until last) found text (rows, same, are, safe, told) = inl (refl, safe)
-  answers_end (Latest until) found text (moment, same, is, told) = inl (refl, (moment.0, is.1.0, is.0, is.1.1))
+  answers_end (CheckGraph path) found text (head, plan, file, reported) = inl (head, plan, file.reads, inl (refl, reported.scored.safe))
+  answers_end (Punctual alpha promise) found text (q, w, asked, reports) = asked_ends p start alpha q w asked
+  answers_end (Departures until last) found text (rows, same, are, safe, reported) = inl (refl, safe)
+  answers_end (Latest until) found text (moment, same, is, reported) = inl (refl, (moment.0, is.1.0, is.0, is.1.1))
 
   replay_ends : (graph late : List ℕ) (fault : Fault) → ((i : Input) → fault ≡ Read i → ⊥)
       → FailsReplay (Some files) limits start graph late p fault → EndsByGraphFile limits files start graph late p (status_of (Some fault))

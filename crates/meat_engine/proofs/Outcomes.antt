@@ -98,11 +98,11 @@ module _ (contents : Option FileMap) (limits : Limits) (words : List (List ℕ))
       → job_of words ≡ Ok wanted → findings_of report ≡ answer
       → AnswersJob contents limits wanted answer text → IsWritten old new text found → ((known : Option NamedParts) → found ≡ Some Write → IsLine (line_of known Write))
       → Outcome contents limits words report old new IsLine found
-  answered_outcome wanted answer report text old new IsLine None is same answers written tells =
+  answered_outcome wanted answer report text old new IsLine None is same answers written reports =
       (text, (wanted, is, subst (λ (f : Findings). AnswersJob contents limits wanted f text) (sym same) answers), written)
-  answered_outcome wanted answer report text old new IsLine (Some Write) is same answers written tells =
-      ((text, (wanted, is, subst (λ (f : Findings). AnswersJob contents limits wanted f text) (sym same) answers), written), λ known. tells known refl)
-  answered_outcome wanted answer report text old new IsLine (Some other) is same answers written tells =
+  answered_outcome wanted answer report text old new IsLine (Some Write) is same answers written reports =
+      ((text, (wanted, is, subst (λ (f : Findings). AnswersJob contents limits wanted f text) (sym same) answers), written), λ known. reports known refl)
+  answered_outcome wanted answer report text old new IsLine (Some other) is same answers written reports =
       absurd (subst (λ (e : Ending). IsWrittenBy e old new text) (refused_ending other (λ write. absurd (cc))) written)
 
 module _ (before after : Option (List ℕ)) (was now : ℕ) (known : Option NamedParts) where

@@ -21,11 +21,11 @@ use Rattle.meat_engine.proofs.Undisturbed.{one_job}
 
 -- what a run that is refused promises
 module _ (limits : Limits) (words : List (List ℕ)) (report : Report) (before after : FilesState) (out err err_after : SinkState)
-    (known : Option NamedParts) (wanted : Fault) (told : IsRefusedWith err.written err_after.written err.faults err_after.faults known wanted report.fault) where
+    (known : Option NamedParts) (wanted : Fault) (reported : IsRefusedWith err.written err_after.written err.faults err_after.faults known wanted report.fault) where
   wanted_is : (fault : Fault) → report.fault ≡ Some fault → fault ≢ NoMemory → wanted ≡ fault
   wanted_is fault is other =
       ⊎_elim (λ (same : fault ≡ wanted). sym same) (λ (none : (fault ≡ NoMemory) × IsFormatted wanted). absurd (other none.0))
-      (refused_is err.written err_after.written err.faults err_after.faults known wanted report.fault fault told is)
+      (refused_is err.written err_after.written err.faults err_after.faults known wanted report.fault fault reported is)
 
   wanted_read : (input : Input) → report.fault ≡ Some (Read input) → wanted ≡ Read input
   wanted_read input is = wanted_is (Read input) is (λ (same : Read input ≡ NoMemory). cc)
@@ -40,7 +40,7 @@ module _ (limits : Limits) (words : List (List ℕ)) (report : Report) (before a
   refused_run status findings cause other same read read_path grew =
       let ended : Outcome before.files limits words report out.written out.written (WritesLine err err_after) report.fault =
       refused_outcome before.files limits words report out.written out.written err.written err_after.written err.faults err_after.faults
-      known wanted report.fault findings (keeps_same out.written) cause other told in
+      known wanted report.fault findings (keeps_same out.written) cause other reported in
       let unread : (input : Input) → report.fault ≡ Some (Read input) → Rose before.faults after.faults
       = λ input is. read input (wanted_read input is) in
       let unwritten : report.fault ≡ Some Write → Rose out.faults out.faults
@@ -48,12 +48,12 @@ module _ (limits : Limits) (words : List (List ℕ)) (report : Report) (before a
       record {
         status = status;
         outcome = ended;
-        quiet = λ none. absurd (refused_some err.written err_after.written err.faults err_after.faults known wanted report.fault told none);
+        quiet = λ none. absurd (refused_some err.written err_after.written err.faults err_after.faults known wanted report.fault reported none);
         same = same;
         read = unread;
         read_path = λ job input is some unread. read_path job input is some (wanted_read input unread);
         files_grew = λ less. let file = grew less in
-            (file.0, refused_read err.written err_after.written err.faults err_after.faults known wanted report.fault file.0 told file.1);
+            (file.0, refused_read err.written err_after.written err.faults err_after.faults known wanted report.fault file.0 reported file.1);
         write = unwritten;
         out_grew = λ less. absurd (omega (arith, less));
         complete = λ files_calm out_calm.
@@ -82,10 +82,10 @@ module _ (limits : Limits) (words : List (List ℕ)) (answer : Findings) (report
       → (report.fault ≡ Some Write → Rose out.faults out_after.faults)
       → (out.faults < out_after.faults → report.fault ≡ Some Write)
       → IsRun limits words report before after out out_after err err_after
-  answered_run job is answers status findings quiet tells same calm write grew =
+  answered_run job is answers status findings quiet reports same calm write grew =
       let ended : Outcome before.files limits words report out.written out_after.written (WritesLine err err_after) report.fault =
       answered_outcome before.files limits words job answer report text out.written out_after.written (WritesLine err err_after) report.fault
-      is findings answers written tells in
+      is findings answers written reports in
       record {
         status = status;
         outcome = ended;

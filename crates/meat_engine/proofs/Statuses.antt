@@ -35,18 +35,18 @@ comes_by : (limits : Limits) (files : FileMap) (j : JourneyModel) (a : AskModel)
 comes_by limits files j a fault m (inl ends) = inl ends
 comes_by limits files j a fault m (inr first) = inr (inl (fault, refl, m, first))
 
-module _ (limits : Limits) (files : FileMap) (words : List (List ℕ)) (report : Report) (old new : Option (List ℕ)) (Tells : List ℕ → Type 0) (j : JourneyModel) (a : AskModel) where
-  fault_comes : (fault : Fault) → job_of words ≡ Ok (Ask j a) → Outcome (Some files) limits words report old new Tells (Some fault)
+module _ (limits : Limits) (files : FileMap) (words : List (List ℕ)) (report : Report) (old new : Option (List ℕ)) (Reports : List ℕ → Type 0) (j : JourneyModel) (a : AskModel) where
+  fault_comes : (fault : Fault) → job_of words ≡ Ok (Ask j a) → Outcome (Some files) limits words report old new Reports (Some fault)
       → IsUndisturbed (Some fault) → (fault ≡ NoMemory) ⊎ (fault ≡ NoMemory → ⊥) → Comes limits files j a (Some fault)
   fault_comes fault h o calm (inl e) = inr (inr (ap Some e))
   fault_comes fault h o calm (inr m) =
-      let f = fails (Some files) limits words report old new Tells fault o (λ e. calm.1 (ap Some e)) m (Ask j a) h in
+      let f = fails (Some files) limits words report old new Reports fault o (λ e. calm.1 (ap Some e)) m (Ask j a) h in
       comes_by limits files j a fault m (fails_over limits files j a f.0 fault (λ i e. calm.0 i (ap Some e)) f.1)
 
-  comes : (fault : Option Fault) → job_of words ≡ Ok (Ask j a) → Outcome (Some files) limits words report old new Tells fault
+  comes : (fault : Option Fault) → job_of words ≡ Ok (Ask j a) → Outcome (Some files) limits words report old new Reports fault
       → IsUndisturbed fault → Comes limits files j a fault
   comes None h o calm =
-      let r = answered (Some files) limits words report old new Tells o (Ask j a) h in
+      let r = answered (Some files) limits words report old new Reports o (Ask j a) h in
       let w = r.1 in
       inl (w.0, w.2, answers_end limits files j.start w.0 a (findings_of report) r.0 w.3)
   comes (Some fault) h o calm = fault_comes fault h o calm (no_memory_or_not fault)
@@ -77,34 +77,34 @@ module _ (limits : Limits) (size : ℕ) where
   sample_fails p known fault one never m (read, (files, same, why)) =
       sample_in p known fault files (over_made files p same one) never m (fails_over limits files sample_journey (Plan sample_alpha) known fault never why)
 
-module _ (contents : Option FileMap) (limits : Limits) (words : List (List ℕ)) (report : Report) (old new : Option (List ℕ)) (Tells : List ℕ → Type 0) (size : ℕ) (p : Problem) (status : ℕ) where
-  sample_fault : (fault : Fault) → job_of words ≡ Ok (Sample size) → IsProblem limits (made size) sample_journey p → Outcome contents limits words report old new Tells (Some fault)
+module _ (contents : Option FileMap) (limits : Limits) (words : List (List ℕ)) (report : Report) (old new : Option (List ℕ)) (Reports : List ℕ → Type 0) (size : ℕ) (p : Problem) (status : ℕ) where
+  sample_fault : (fault : Fault) → job_of words ≡ Ok (Sample size) → IsProblem limits (made size) sample_journey p → Outcome contents limits words report old new Reports (Some fault)
       → IsUndisturbed (Some fault) → status ≡ status_of (Some fault) → (fault ≡ NoMemory) ⊎ (fault ≡ NoMemory → ⊥) → EndsBySafety p sample_journey.start status ⊎ (status ≡ 9)
   sample_fault fault h one o calm is (inl e) = inr (is ∙ ap (λ (f : Fault). status_of (Some f)) e)
   sample_fault fault h one o calm is (inr m) =
-      let f = fails contents limits words report old new Tells fault o (λ e. calm.1 (ap Some e)) m (Sample size) h in
+      let f = fails contents limits words report old new Reports fault o (λ e. calm.1 (ap Some e)) m (Sample size) h in
       inl (subst (EndsBySafety p sample_journey.start) (sym is) (sample_fails limits size p f.0 fault one (λ i e. calm.0 i (ap Some e)) m f.1))
 
-  sample_status : (fault : Option Fault) → job_of words ≡ Ok (Sample size) → IsProblem limits (made size) sample_journey p → Outcome contents limits words report old new Tells fault
+  sample_status : (fault : Option Fault) → job_of words ≡ Ok (Sample size) → IsProblem limits (made size) sample_journey p → Outcome contents limits words report old new Reports fault
       → IsUndisturbed fault → status ≡ status_of fault → EndsBySafety p sample_journey.start status ⊎ (status ≡ 9)
   sample_status None h one o calm is =
-      let w = (answered contents limits words report old new Tells o (Sample size) h).1 in
+      let w = (answered contents limits words report old new Reports o (Sample size) h).1 in
       let v = w.2 in
       let ends : EndsBySafety v.0 sample_journey.start 0 = asked_ends v.0 sample_journey.start sample_alpha v.3.0 v.3.1 v.3.2 in
       inl (subst (EndsBySafety p sample_journey.start) (sym is)
       (ends_in limits w.0 sample_journey (Plan sample_alpha) p 0 (over_made limits size w.0 p w.1 one) (v.0, v.2, ends)))
   sample_status (Some fault) h one o calm is = sample_fault fault h one o calm is (no_memory_or_not fault)
 
-module _ (contents : Option FileMap) (limits : Limits) (words : List (List ℕ)) (report : Report) (old new : Option (List ℕ)) (Tells : List ℕ → Type 0) (fault : Option Fault) (status : ℕ) where
-  journey_comes : Outcome contents limits words report old new Tells fault → IsUndisturbed fault → (files : FileMap) (j : JourneyModel) (a : AskModel) → contents ≡ Some files
+module _ (contents : Option FileMap) (limits : Limits) (words : List (List ℕ)) (report : Report) (old new : Option (List ℕ)) (Reports : List ℕ → Type 0) (fault : Option Fault) (status : ℕ) where
+  journey_comes : Outcome contents limits words report old new Reports fault → IsUndisturbed fault → (files : FileMap) (j : JourneyModel) (a : AskModel) → contents ≡ Some files
       → job_of words ≡ Ok (Ask j a) → Comes limits files j a fault
   journey_comes o calm files j a e h =
-      comes limits files words report old new Tells j a fault h (subst (λ (t : Option FileMap). Outcome t limits words report old new Tells fault) e o) calm
+      comes limits files words report old new Reports j a fault h (subst (λ (t : Option FileMap). Outcome t limits words report old new Reports fault) e o) calm
 
   -- where no count rises, the status is that of the problem
-  pub complete : Outcome contents limits words report old new Tells fault → status ≡ status_of fault → IsUndisturbed fault → IsComplete contents limits words status
+  pub complete : Outcome contents limits words report old new Reports fault → status ≡ status_of fault → IsUndisturbed fault → IsComplete contents limits words status
   complete o is calm = record {
     problem = λ files j a p e h one. problem_status limits files j a fault status is calm p one (journey_comes o calm files j a e h);
     faultless = λ files j a e h clean. faultless_status limits files j a fault status is calm clean (journey_comes o calm files j a e h);
-    sample = λ size p h one. sample_status contents limits words report old new Tells size p status fault h one o calm is;
+    sample = λ size p h one. sample_status contents limits words report old new Reports size p status fault h one o calm is;
   }

@@ -14,9 +14,9 @@ use Rattle.meat_engine.proofs.Outcomes.{refused_ending}
 pub one_job : (words : List (List ℕ)) (a b : JobModel) → job_of words ≡ Ok a → job_of words ≡ Ok b → a ≡ b
 one_job words a b h k = cc
 
-module _ (contents : Option FileMap) (limits : Limits) (words : List (List ℕ)) (report : Report) (old new : Option (List ℕ)) (Tells : List ℕ → Type 0) where
-  refused : (fault : Fault) → Outcome contents limits words report old new Tells (Some fault) → fault ≢ Write → IsRefused contents limits words report Tells fault
-  refused fault o n = (subst (λ (e : Ending). OutcomeBy e contents limits words report old new Tells (Some fault)) (refused_ending fault n) o).1
+module _ (contents : Option FileMap) (limits : Limits) (words : List (List ℕ)) (report : Report) (old new : Option (List ℕ)) (Reports : List ℕ → Type 0) where
+  refused : (fault : Fault) → Outcome contents limits words report old new Reports (Some fault) → fault ≢ Write → IsRefused contents limits words report Reports fault
+  refused fault o n = (subst (λ (e : Ending). OutcomeBy e contents limits words report old new Reports (Some fault)) (refused_ending fault n) o).1
 
   caused : (fault : Fault) → fault ≢ NoMemory → (wanted : JobModel) → job_of words ≡ Ok wanted → (known : Option NamedParts)
       → IsExplained contents limits words known fault → FailsJob contents limits wanted known fault
@@ -24,9 +24,9 @@ module _ (contents : Option FileMap) (limits : Limits) (words : List (List ℕ))
   caused fault m wanted h known (inr (inl (refusal, e, k))) = absurd (cc)
   caused fault m wanted h known (inr (inr (other, k, why))) = subst (λ (w : JobModel). FailsJob contents limits w known fault) (one_job words other wanted k h) why
 
-  pub fails : (fault : Fault) → Outcome contents limits words report old new Tells (Some fault) → fault ≢ Write → fault ≢ NoMemory
+  pub fails : (fault : Fault) → Outcome contents limits words report old new Reports (Some fault) → fault ≢ Write → fault ≢ NoMemory
       → (wanted : JobModel) → job_of words ≡ Ok wanted → (known : Option NamedParts) × FailsJob contents limits wanted known fault
   fails fault o n m wanted h = let r = (refused fault o n).1 in (r.0, caused fault m wanted h r.0 r.1)
 
-  pub answered : Outcome contents limits words report old new Tells None → (wanted : JobModel) → job_of words ≡ Ok wanted → (text : List ℕ) × AnswersJob contents limits wanted (findings_of report) text
+  pub answered : Outcome contents limits words report old new Reports None → (wanted : JobModel) → job_of words ≡ Ok wanted → (text : List ℕ) × AnswersJob contents limits wanted (findings_of report) text
   answered (text, (other, k, answers), written) wanted h = (text, subst (λ (w : JobModel). AnswersJob contents limits w (findings_of report) text) (one_job words other wanted k h) answers)

@@ -10,17 +10,17 @@ use Rattle.journey_problem.specs.Files.{OwnPaths}
 use Rattle.journey_problem.specs.Problems.{FailsBeforeSearch, InProblem}
 use Rattle.journey_report.specs.Findings.{Findings}
 use Rattle.journey_model.specs.Known.{parts_of}
-use Rattle.journey_answers.specs.Answers.{InQuery, TellsWorst, TellsExpanded, TellsPlanned, IsNoSafe}
-use Rattle.journey_answers.specs.Punctual.{TellsPunctual}
+use Rattle.journey_answers.specs.Answers.{InQuery, AnswersSafe, AnswersExpand, AnswersPlan, IsNoSafe}
+use Rattle.journey_answers.specs.Punctual.{AnswersPunctual}
 use Rattle.journey_problem.specs.Paths.{graph_path, certificate_path}
 use Rattle.journey_problem.specs.GraphFiles.{InGraphFile, FailsGraph}
 use Rattle.journey_answers.specs.Trips.{AnswersReplay, IsTripFault}
 use Rattle.journey_answers.specs.Scores.{IsEnclosed, IsUnsafeGraph}
 use Rattle.meat_engine.specs.Ends.{EndsByScore, EndsBySafety, EndsByGraphFile, EndsByCertificateFile, EndsByDepartures, EndsByLatest}
-use Rattle.journey_answers.specs.Certified.{TellsCertificate}
+use Rattle.journey_answers.specs.Certified.{AnswersCertify}
 use Rattle.journey_problem.specs.CertificateFiles.{InCertificateFile, FailsCertificate}
 use Rattle.journey_answers.specs.Checks.{IsHeld, IsBroken}
-use Rattle.journey_answers.specs.Departures.{query_until, TellsDepartures, TellsLatest, FailsDepartures, FailsLatest}
+use Rattle.journey_answers.specs.Departures.{query_until, AnswersDepartures, AnswersLatest, FailsDepartures, FailsLatest}
 
 -- no file is read beside those of the journey
 abbrev pub no_path : OwnPaths
@@ -41,16 +41,16 @@ own_paths (Latest until) = no_path
 
 -- the findings and the text answer what is asked about a problem, from a start on
 abbrev pub AnswersAsk : Option FileMap → Limits → ℕ → Problem → AskModel → Findings → List ℕ → Type 0
-AnswersAsk contents limits start p (Safe alpha) found text = InQuery p start alpha (TellsWorst p found text)
-AnswersAsk contents limits start p (Expand alpha) found text = InQuery p start alpha (TellsExpanded p found text)
-AnswersAsk contents limits start p (Plan alpha) found text = InQuery p start alpha (TellsPlanned p found text)
+AnswersAsk contents limits start p (Safe alpha) found text = InQuery p start alpha (AnswersSafe p found text)
+AnswersAsk contents limits start p (Expand alpha) found text = InQuery p start alpha (AnswersExpand p found text)
+AnswersAsk contents limits start p (Plan alpha) found text = InQuery p start alpha (AnswersPlan p found text)
 AnswersAsk contents limits start p (Replay graph late) found text = InGraphFile contents limits start graph p (AnswersReplay p late found text)
-AnswersAsk contents limits start p (Certify alpha) found text = InQuery p start alpha (TellsCertificate p found text)
+AnswersAsk contents limits start p (Certify alpha) found text = InQuery p start alpha (AnswersCertify p found text)
 AnswersAsk contents limits start p (CheckProof proof) found text = InCertificateFile contents limits start proof p (IsHeld p found text)
 AnswersAsk contents limits start p (CheckGraph graph) found text = InGraphFile contents limits start graph p (IsEnclosed p found text)
-AnswersAsk contents limits start p (Punctual alpha promise) found text = InQuery p start alpha (TellsPunctual p promise found text)
-AnswersAsk contents limits start p (Departures until last) found text = TellsDepartures p (query_until p start until) last found text
-AnswersAsk contents limits start p (Latest until) found text = TellsLatest p (query_until p start until) found text
+AnswersAsk contents limits start p (Punctual alpha promise) found text = InQuery p start alpha (AnswersPunctual p promise found text)
+AnswersAsk contents limits start p (Departures until last) found text = AnswersDepartures p (query_until p start until) last found text
+AnswersAsk contents limits start p (Latest until) found text = AnswersLatest p (query_until p start until) found text
 
 -- why a replay has no answer, unless there was no memory: the graph file has a fault; or the trip by its graph
 abbrev pub FailsReplay : Option FileMap → Limits → ℕ → List ℕ → List ℕ → Problem → Fault → Type 0

@@ -53,8 +53,8 @@ IsExplained contents limits words known fault =
 
 -- nothing but the line of the fault is written, the fault has a cause, and this holds of the line
 abbrev pub IsRefused : Option FileMap → Limits → List (List ℕ) → Report → (List ℕ → Type 0) → Fault → Type 0
-IsRefused contents limits words report Tells fault =
-    (findings_of report ≡ no_findings) × ((known : Option NamedParts) × IsExplained contents limits words known fault × Tells (line_of known fault))
+IsRefused contents limits words report Reports fault =
+    (findings_of report ≡ no_findings) × ((known : Option NamedParts) × IsExplained contents limits words known fault × Reports (line_of known fault))
 
 -- how a run ends: with the whole of its answer; with a front of it; or with nothing but a fault
 pub data Ending : Type 0 where
@@ -87,14 +87,14 @@ HasAnswer contents limits words report P = (text : List ℕ) × AnswersWords con
 -- the fault's cause and its line, and then nothing is written
 abbrev pub OutcomeBy : Ending → Option FileMap → Limits → List (List ℕ) → Report → Option (List ℕ) → Option (List ℕ) → (List ℕ → Type 0)
     → Option Fault → Type 0
-OutcomeBy Whole contents limits words report old new Tells fault = HasAnswer contents limits words report (Appends old new)
-OutcomeBy Torn contents limits words report old new Tells fault =
-    HasAnswer contents limits words report (AppendsFront old new) × ((known : Option NamedParts) → IfSome fault (λ f. Tells (line_of known f)))
-OutcomeBy Refused contents limits words report old new Tells fault = Keeps old new × IfSome fault (IsRefused contents limits words report Tells)
+OutcomeBy Whole contents limits words report old new Reports fault = HasAnswer contents limits words report (Appends old new)
+OutcomeBy Torn contents limits words report old new Reports fault =
+    HasAnswer contents limits words report (AppendsFront old new) × ((known : Option NamedParts) → IfSome fault (λ f. Reports (line_of known f)))
+OutcomeBy Refused contents limits words report old new Reports fault = Keeps old new × IfSome fault (IsRefused contents limits words report Reports)
 
 abbrev pub Outcome : Option FileMap → Limits → List (List ℕ) → Report → Option (List ℕ) → Option (List ℕ) → (List ℕ → Type 0)
     → Option Fault → Type 0
-Outcome contents limits words report old new Tells fault = OutcomeBy (ending_of fault) contents limits words report old new Tells fault
+Outcome contents limits words report old new Reports fault = OutcomeBy (ending_of fault) contents limits words report old new Reports fault
 
 -- a front of a line was received, the whole of it where the sink's count did not rise
 abbrev pub IsLineWritten : Option (List ℕ) → Option (List ℕ) → ℕ → ℕ → List ℕ → Type 0
@@ -112,5 +112,5 @@ IsWritten old new text fault = IsWrittenBy (ending_of fault) old new text
 -- the line of the fault was written, or that there is no memory for it
 abbrev pub IsRefusedWith : Option (List ℕ) → Option (List ℕ) → ℕ → ℕ → Option NamedParts → Fault → Option Fault → Type 0
 IsRefusedWith old new before now known wanted None = ⊥
-IsRefusedWith old new before now known wanted (Some told) =
-    ((told ≡ wanted) ⊎ ((told ≡ NoMemory) × IsFormatted wanted)) × IsLineWritten old new before now (line_of known told)
+IsRefusedWith old new before now known wanted (Some reported) =
+    ((reported ≡ wanted) ⊎ ((reported ≡ NoMemory) × IsFormatted wanted)) × IsLineWritten old new before now (line_of known reported)

@@ -24,8 +24,8 @@ sink_state written faults = record { written = written; faults = faults }
 abbrev pub WritesLine : SinkState → SinkState → List ℕ → Type 0
 WritesLine old new = IsLineWritten old.written new.written old.faults new.faults
 
--- a run of these words within these limits gives this report, over files that stood so before it and after it, with a sink
--- for the answer and one for the fault that stood so
+-- a run of these words within these limits gives this report, over files in these states before it and after it, with a sink
+-- for the answer and one for the fault in such states
 pub record IsRun (limits : Limits) (words : List (List ℕ)) (report : Report) (before after : FilesState) (out out_after err err_after : SinkState) : Type 0 where
   -- the status is that of the fault, and the fault is that of the run
   pub status : report.status.0 ≡ status_of report.fault

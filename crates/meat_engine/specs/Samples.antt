@@ -11,7 +11,7 @@ use Rattle.decision_graph.specs.Planned.{IsPlanned}
 use Rattle.feed_maker.specs.Made.{made, SameFolder}
 use Rattle.command_line.specs.Jobs.{JourneyModel, FeedFolder, Plan}
 use Rattle.journey_model.specs.declared.faults.Fault.{Fault}
-use Rattle.journey_model.specs.Faults.{unread_of}
+use Rattle.journey_model.specs.Faults.{unread_input}
 use Rattle.journey_model.specs.Sites.{NamedParts}
 use Rattle.journey_model.specs.declared.problem.Problem.{Problem}
 use Rattle.journey_problem.specs.Problems.{InProblem}
@@ -53,4 +53,4 @@ AnswersSample limits size found text = OverMade size (λ files. InProblem (Some 
 -- why a sample has no answer, unless there was no memory: its plan over the made files has none, and no file failed to be read
 abbrev pub FailsSample : Limits → ℕ → Option NamedParts → Fault → Type 0
 FailsSample limits size known fault =
-    (unread_of fault ≡ None) × OverMade size (λ files. FailsJourney (Some files) limits sample_journey (Plan sample_alpha) known fault)
+    (unread_input fault ≡ None) × OverMade size (λ files. FailsJourney (Some files) limits sample_journey (Plan sample_alpha) known fault)

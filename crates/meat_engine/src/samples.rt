@@ -2,7 +2,7 @@
 ghost use Rattle.std.specs.Prelude.{◌≡◌, ◌≢◌, ◌≤◌, None, IfOk, IfErr};
 ghost use Rattle.command_line.specs.Shown.{journey_shown};
 ghost use Rattle.command_line.specs.Values.{least_size, most_size};
-ghost use Rattle.journey_model.specs.Faults.{unread_of};
+ghost use Rattle.journey_model.specs.Faults.{unread_input};
 ghost use Rattle.journey_model.specs.declared.faults.Fault.{Fault};
 ghost use Rattle.journey_problem.specs.FaultsBeforeSearch.{IsBeforeSearch};
 ghost use Rattle.journey_problem.specs.Problems.{HasTimetable, IsProblem, IsProblemFault};
@@ -92,7 +92,7 @@ fn sample_problem(alloc: Global, size: SampleSize, limits: &Limits) -> Result<Pr
     ensures fault { IfErr result (λ f. f ≢ Fault.NoMemory
         → OverMade size.value (λ files. IsProblemFault limits.now files sample_journey f)) }
     ensures early { IfErr result (IsBeforeSearch sample_journey.timetable) }
-    ensures read { IfErr result (λ f. unread_of f ≡ None) }
+    ensures read { IfErr result (λ f. unread_input f ≡ None) }
 {
     let mut files = MadeFiles::new(alloc, size.value)?;
     problem_of(alloc, &mut files, &sample_journey(), limits)
@@ -103,7 +103,7 @@ pub(crate) fn sample(alloc: Global, size: SampleSize, limits: &Limits) -> Result
     ensures sampled { IfOk result (λ a.
         AnswersSample limits.now size.value (findings_of a.report) a.text.items) }
     ensures fault { IfErr result (IsRefusalBy (FailsSample limits.now size.value)) }
-    ensures read { IfErr result (λ r. unread_of r.fault ≡ None) }
+    ensures read { IfErr result (λ r. unread_input r.fault ≡ None) }
 {
     let problem = match sample_problem(alloc, size, limits) {
         Err(fault) => return Err(Refusal::plain(fault)),

@@ -70,11 +70,11 @@ fn named<'a>(problem: &'a Option<Problem>) -> Option<&'a Timetable>
 
 /// The report of a fault, whose line is written to `err`. Without memory for the line, that is the
 /// fault.
-fn tell_fault<E: Sink>(alloc: Global, err: &mut E, refusal: &Refusal) -> Report
+fn report_fault<E: Sink>(alloc: Global, err: &mut E, refusal: &Refusal) -> Report
     requires { IsTellable (known_of refusal.now) refusal.now.fault }
     ensures status { result.status.0 ≡ status_of result.fault }
     ensures findings { findings_of result ≡ no_findings }
-    ensures told { IsRefusedWith (E.written err.old) (E.written err.new)
+    ensures reported { IsRefusedWith (E.written err.old) (E.written err.new)
         (E.faults err.old) (E.faults err.new) (known_of refusal.now) refusal.now.fault result.fault }
 {
     let fault = refusal.fault;
@@ -99,19 +99,19 @@ fn refuse<E: Sink>(alloc: Global, err: &mut E, refusal: Refusal) -> Report
     requires { IsTellable (known_of refusal) refusal.fault }
     ensures status { result.status.0 ≡ status_of result.fault }
     ensures findings { findings_of result ≡ no_findings }
-    ensures told { IsRefusedWith (E.written err.old) (E.written err.new)
+    ensures reported { IsRefusedWith (E.written err.old) (E.written err.new)
         (E.faults err.old) (E.faults err.new) (known_of refusal) refusal.fault result.fault }
 {
-    tell_fault(alloc, err, &refusal)
+    report_fault(alloc, err, &refusal)
 }
 
 /// Writes an answer's text.
-fn tell<O: Sink, E: Sink>(answer: Answer, out: &mut O, err: &mut E) -> Report
+fn print_report<O: Sink, E: Sink>(answer: Answer, out: &mut O, err: &mut E) -> Report
     ensures status { result.status.0 ≡ status_of result.fault }
     ensures findings { findings_of result ≡ findings_of answer.report }
     ensures out { IsWritten (O.written out.old) (O.written out.new) answer.text.items result.fault }
     ensures quiet { result.fault ≡ None → Keeps (E.written err.old) (E.written err.new) }
-    ensures told { (known : Optional NamedParts) → result.fault ≡ Some Fault.Write
+    ensures reported { (known : Optional NamedParts) → result.fault ≡ Some Fault.Write
         → IsLineWritten (E.written err.old) (E.written err.new) (E.faults err.old) (E.faults err.new)
         (line_of known Fault.Write) }
     ensures write { result.fault ≡ Some Fault.Write → Rose (O.faults out.old) (O.faults out.new) }
@@ -158,7 +158,7 @@ pub fn run_limited<F: Files, O: Sink, E: Sink>(
     };
     match answer_of(alloc, files, &job, limits) {
         Err(refusal) => refuse(alloc, err, refusal),
-        Ok(answer) => tell(answer, out, err),
+        Ok(answer) => print_report(answer, out, err),
     }
 }
 

@@ -47,17 +47,17 @@ option_map-option_map (Some row) = refl
 
 module _ {V : Type 0} (n : NetworkModel) (target deadline : ℕ) (choice : ℕ → ℕ → Option Leg) (rows : ℕ → List (Row V))
     (by_rows : (place arrival : ℕ) → choice place arrival ≡ option_map (λ row. row.leg) (row_in_time arrival (rows place))) where
-  -- what is unfolded after a leg, over so many rides
+  -- what is unfolded after a leg, over this many rides
   abbrev after_leg : ℕ → Leg → ℕ → Tree
   after_leg rides leg arrival = unfold_after n target (by_place n choice) rides leg arrival
 
-  -- the ride of a leg, by what its kids are
+  -- the ride of a leg, by what its children are
   ride_of-kids : (enter exit : ℕ) (kids : Kids) (rides : ℕ) (leg : Leg) → leg.enter.0 ≡ enter → leg.exit.0 ≡ exit
       → kids_after (after_leg rides leg) (arr_of n exit) (outcomes n exit) ≡ kids → ride_of n (after_leg rides) leg ≡ Ride enter exit kids
   ride_of-kids enter exit kids rides leg enters exits same = grind (arith, common_steps, nat_tests)
 
   mutual
-    -- a chosen and safe tree of at most so many rides is what is unfolded
+    -- a chosen and safe tree of at most this many rides is what is unfolded
     pub unfold_after-chosen : (tree : Tree) (rides : ℕ) (leg : Leg) (place arrival : ℕ) → end_of n leg ≡ place → height tree ≤ rides
         → IsSafe n target (Some deadline) tree place arrival → IsChosen n target rows tree place arrival → after_leg rides leg arrival ≡ tree
     unfold_after-chosen (Done moment) zero leg place arrival ends low safe is = let at = ends

@@ -1,4 +1,4 @@
--- Who can board a leg: whoever arrives by its limit.
+-- Who can board a leg: a traveller who arrives by its limit.
 use Rattle.std.proofs.Common.{◌≡◌, ℕ, ◌-◌, ◌<◌, ◌≤◌, Some, None, arith}
 use Rattle.std.proofs.lemmas.Bool.Decides.{nat_tests}
 use Rattle.std.proofs.lemmas.Grind.{common_steps}
@@ -9,7 +9,7 @@ use Rattle.plan_model.specs.Ways.{limit_of}
 use Rattle.plan_model.specs.Strategy.{IsBoardable}
 use Rattle.plan_model.proofs.Boarding.{way_takes, earlier_by-is, limit_of-some}
 
--- whoever can board has arrived by the limit
+-- a traveller who can board has arrived by the limit
 pub limit_of-boards : (n : NetworkModel) (p x : ℕ) (leg : Leg) → IsBoardable n p x leg.enter.0 → (by : ℕ) × (limit_of n p leg ≡ Some by) × (x ≤ by)
 limit_of-boards n p x leg board =
     let by = dep_of n leg.enter.0 - board.seconds in
@@ -23,7 +23,7 @@ boards_by n p x by leg is board = grind (arith, common_steps, nat_tests)
 pub never_boards : (n : NetworkModel) (p x : ℕ) (leg : Leg) → limit_of n p leg ≡ None → IsBoardable n p x leg.enter.0 → ⊥
 never_boards n p x leg none board = grind (arith, common_steps, nat_tests)
 
--- whoever has arrived by the limit can board
+-- a traveller who has arrived by the limit can board
 pub boards-limit_of : (n : NetworkModel) (p x by : ℕ) (leg : Leg) → limit_of n p leg ≡ Some by → x ≤ by → IsBoardable n p x leg.enter.0
 boards-limit_of n p x by leg is in_time = grind (arith, common_steps, nat_tests)
 

@@ -59,7 +59,7 @@ fn value_after<V: Score>(
     }
 }
 
-// Whether all outcomes are safe; then their values are the first ones of `kids`.
+// Whether all outcomes are safe; then their values are the first ones of `children`.
 fn fill_kids<V: Score>(
     profiles: &[Profile<V>],
     row: &[Outcome],

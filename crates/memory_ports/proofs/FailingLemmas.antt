@@ -15,7 +15,7 @@ use Rattle.file_ports.specs.Named.{value_at}
 use Rattle.memory_ports.specs.Failing.{faults_in, fails_in, SameFailing}
 use Rattle.file_ports.proofs.NamedLemmas.{at_path, none_at, place_gives_none, set_gives, searched, Stands, found, path_is, put_over, put_last}
 
--- an entry whose path had none yet stands at the end
+-- an entry with a new path is at the end
 pub push_stands : {T : Type 0} (es : List (Named T)) (q : List ℕ) (w : Named T) → string_bytes w.path ≡ q → position (at_path q) es ≡ None
     → position (at_path q) (es ++ w ∷ []) ≡ Some (length es)
 push_stands es q w path h =

@@ -29,7 +29,7 @@ count_is (e ∷ es) p = count_step (bytes_eq (string_bytes e.path) p) e.value (v
 pub same_counts : (es now : List (Named Failing)) (p : List ℕ) → map shape now ≡ map shape es → faults_in now p ≡ faults_in es p
 same_counts es now p h = count_is now p ∙ ap (λ xs. count_among xs p) h ∙ sym (count_is es p)
 
--- the first so many name no call
+-- the first this many name no call
 abbrev pub AreSilent : List (Named Failing) → ℕ → Type 0
 AreSilent es n = (k : ℕ) (d : Named Failing) → k < n → (get_or es k d).value.calls.items ≡ []
 

@@ -3,7 +3,7 @@ ghost use Rattle.std.specs.Prelude.{◌≡◌, ◌≢◌, ◌<◌, ◌≤◌, �
 ghost use Rattle.std.specs.List.{list_any};
 ghost use Rattle.memory_ports.specs.Failing.{faults_in, fails_in, SameFailing as SameFailures};
 
-use file_ports::{Failed, Files, Named, Presence, SteadyFiles, place_of};
+use file_ports::{Failed, Files, Named, Presence, SteadyFiles, index_of};
 use plan_model::NoMemory;
 use std::alloc::Global;
 
@@ -23,7 +23,7 @@ fn names_call(calls: &[u32], call: u64) -> bool
 
 /// Whether this call on this path fails. Then the failure is counted.
 fn count_fault(failing: &mut Vec<Named<Failing>>, path: &str, call: u64) -> bool
-    ensures told { result ≡ fails_in failing.old.items path.now call }
+    ensures reported { result ≡ fails_in failing.old.items path.now call }
     ensures count { result ≡ true → faults_in failing.new.items path.now
         ≡ min (faults_in failing.old.items path.now + 1) (2 ^ 64 - 1) }
     ensures later { (p : List ℕ) → faults_in failing.old.items p ≤ faults_in failing.new.items p }
@@ -33,7 +33,7 @@ fn count_fault(failing: &mut Vec<Named<Failing>>, path: &str, call: u64) -> bool
         ≡ fails_in failing.old.items p k }
     ensures quiet { result ≡ false → failing.new.items ≡ failing.old.items }
 {
-    let Some(index) = place_of(failing, path) else {
+    let Some(index) = index_of(failing, path) else {
         return false;
     };
     let entry = &mut failing[index].value;
@@ -51,7 +51,7 @@ fn counter(alloc: Global, failing: &mut Vec<Named<Failing>>, path: &str) -> Resu
         ≡ Some i) }
     ensures same { SameFailures failing.old.items failing.new.items }
 {
-    if let Some(index) = place_of(failing, path) {
+    if let Some(index) = index_of(failing, path) {
         return Ok(index);
     }
     let index = failing.len();

@@ -9,7 +9,7 @@ use Rattle.plan_model.specs.Network.{IsValid, count, dep_of, run_of}
 abbrev pub rank : NetworkModel → ℕ → ℕ
 rank network i = dep_of network i * most_connections + i
 
--- a connection at its place among others that stand in the scan order
+-- a connection at its place among others that are in the scan order
 abbrev pub with_connection : NetworkModel → ℕ → List ConnectionId → List ConnectionId
 with_connection network i [] = record { 0 = i } ∷ []
 with_connection network i (id ∷ ids) = if nat_lt (rank network i) (rank network id.0) then record { 0 = i } ∷ id ∷ ids else id ∷ with_connection network i ids
@@ -19,11 +19,11 @@ abbrev pub in_order : NetworkModel → ℕ → List ConnectionId
 in_order network zero = []
 in_order network (suc m) = with_connection network m (in_order network m)
 
--- in the scan order, the connections that stand before the end that is left of their run
+-- in the scan order, the connections that come before the end that remains of their run
 unfoldable pub rest_of : NetworkModel → List ℕ → List ConnectionId
 rest_of network left = filter (λ id. nat_lt id.0 (slice_index left (run_of network id.0))) (in_order network (count network))
 
--- s connections are of the runs before r, and they stand first
+-- s connections are of the runs before r, and they come first
 pub record IsStart (network : NetworkModel) (r s : ℕ) : Type 0 where
   pub within : s ≤ count network
   pub before : (i : ℕ) → i < s → run_of network i < r
@@ -47,12 +47,12 @@ pub record AreStretches (network : NetworkModel) (starts left : List ℕ) : Type
 unfoldable pub key_of : NetworkModel → List ℕ → List ℕ → ℕ → ℕ
 key_of network starts left r = if nat_lt (slice_index starts r) (slice_index left r) then rank network (slice_index left r - 1) + 1 else 0
 
--- the node so many rounds above a node
+-- the node this many rounds above a node
 abbrev pub above : ℕ → ℕ → ℕ
 above zero k = k
 above (suc rounds) k = above rounds k / 2
 
--- the first node is the second one, or stands above it
+-- the first node is the second one, or is above it
 abbrev pub IsOver : ℕ → ℕ → Type 0
 IsOver k leaf = (rounds : ℕ) × (above rounds leaf ≡ k)
 

@@ -1,4 +1,4 @@
--- Tables and rows that rise, searched by halving.
+-- Tables and rows that rise, searched by binary search.
 use Rattle.std.proofs.Common.{◌≡◌, ℕ, ◌<◌, true, false, List, [], length, Some, None, AllPairs, arith, subst, refl, inl, inr, nat_lt, nat_le, slice_index_or}
 use Rattle.std.proofs.Common.{ne_eqb, lt-ltb, ltb-true, ltb-false}
 use Rattle.std.specs.List.{AllWithin}

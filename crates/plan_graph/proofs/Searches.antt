@@ -1,4 +1,4 @@
--- Searches by halving find what comes first in a list that rises.
+-- Binary searches find what comes first in a list that rises.
 use Rattle.std.proofs.Common.{◌≡◌, ℕ, ◌<◌, Bool, true, false, not, List, [], ◌∷◌, length, None, AllPairs, arith, sym, subst, refl, inl, inr, ◌∙◌, ap, ap₂, ◌==◌}
 use Rattle.std.proofs.Common.{◌&&◌, slice_index_or}
 use Rattle.std.specs.List.{AllWithin}
@@ -21,7 +21,7 @@ leg_precedes a b is = grind (arith, nat_tests)
 pub precedes_trans : (a b c : Leg) → Precedes a b → Precedes b c → Precedes a c
 precedes_trans a b c first second = grind arith
 
--- a leg does not stand before itself
+-- a leg does not come before itself
 pub precedes_itself : (a b : Leg) → Precedes a b → a ≡ b → ⊥
 precedes_itself a b (inl less) same = let e = ap (λ (l : Leg). l.enter.0) same in omega (arith, less, e)
 precedes_itself a b (inr both) same = let e = ap (λ (l : Leg). l.exit.0) same in omega (arith, both.1, e)
@@ -37,7 +37,7 @@ rides_parted own rides leg same rises i j d before within is = let rise = rw (�
 abbrev pub leg_of : ℕ → ℕ → Leg
 leg_of enter exit = record { enter = record { 0 = enter }; exit = record { 0 = exit } }
 
--- a leg is told by its entry and its exit
+-- a leg is known by its entry and its exit
 pub same_leg : (a b : Leg) → a.enter.0 ≡ b.enter.0 → a.exit.0 ≡ b.exit.0 → a ≡ b
 same_leg a b enter exit = ap₂ leg_of enter exit
 

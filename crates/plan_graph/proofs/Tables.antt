@@ -143,7 +143,7 @@ module _ (choice : ℕ → Option Leg) (scheduled : ℕ) where
         → MayPrecede n place (row_by x c.next) (row_by (scheduled + o.delay) next)
     before_row os x c o has later other next is = grind (arith, common_steps, nat_tests)
 
-    -- the table's rows stand as they may
+    -- the table's rows are in an order that is allowed
     pub before_for : (os : List Outcome) → AllPairs Sooner os
         → ((o : Outcome) → Contains os o → IsChosenAt n place choice scheduled os (scheduled + o.delay)) → AllPairs (MayPrecede n place) (rows_for choice scheduled os)
     before_for [] rising each = AllPairs-nil (MayPrecede n place)

@@ -26,7 +26,7 @@ use Rattle.plan_graph.proofs.Rides.{rows_after-own, ride_there}
 use Rattle.std.proofs.lemmas.Bool.{cases_eq}
 use Rattle.plan_graph.proofs.Searches.{same_leg}
 
--- what stands after the outcomes of a ride stands after one of them
+-- what comes after the outcomes of a ride comes after one of them
 stands_after : (leg : Leg) (f : ℕ → Tree) (scheduled : ℕ) (row : List Outcome) → StandsIn leg (kids_after f scheduled row) → (x : ℕ) × Stands leg (f x)
 stands_after leg f scheduled [] there = absurd there
 stands_after leg f scheduled (o ∷ row) (inl there) = (scheduled + o.delay, there)

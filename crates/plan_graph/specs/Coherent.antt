@@ -8,7 +8,7 @@ use Rattle.plan_graph.specs.declared.Ride.{Ride}
 use Rattle.plan_graph.specs.declared.ExpandedGraph.{ExpandedGraph}
 use Rattle.plan_graph.specs.PickedRows.{pick_row}
 
--- the row stands after some ride that ends at the place
+-- the row comes after some ride that ends at the place
 abbrev pub IsRowAt : NetworkModel → ExpandedGraph → ℕ → GraphRow → Type 0
 IsRowAt network graph place row = (r : Ride) × Contains graph.rides r × (end_of network r.leg ≡ place) × Contains r.after row
 

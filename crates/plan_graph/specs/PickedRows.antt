@@ -37,7 +37,7 @@ pick_after rides leg arrival = pick_row (rows_after rides leg) arrival
 abbrev pub pick_at : List PlaceTable → ℕ → ℕ → Option Leg
 pick_at tables place arrival = pick_row (rows_of_place tables place) arrival
 
--- one leg stands before another: by entry, and then by exit
+-- one leg comes before another: by entry, and then by exit
 abbrev pub Precedes : Leg → Leg → Type 0
 Precedes a b = (a.enter.0 < b.enter.0) ⊎ ((a.enter.0 ≡ b.enter.0) × (a.exit.0 < b.exit.0))
 

@@ -1,4 +1,4 @@
--- Which legs stand in the tree that a choice fixes.
+-- Which legs are in the tree that a choice fixes.
 use Rattle.std.specs.Prelude.{ℕ, List, Option, Contains}
 use Rattle.std.specs.List.Sorted.{IsStrictlySortedBy}
 use Rattle.plan_model.specs.declared.model.Leg.{Leg}
@@ -11,11 +11,11 @@ use Rattle.plan_graph.specs.declared.GraphRow.{GraphRow}
 use Rattle.plan_graph.specs.Ready.{IsLegOf, Stands, StandsIn}
 use Rattle.plan_graph.specs.WalkTables.{table_after, leg_cmp}
 
--- what is done after a leg, over at most so many rides
+-- what is done after a leg, over at most this many rides
 abbrev pub kids_of : NetworkModel → ℕ → (Leg → ℕ → Option Leg) → ℕ → Leg → Kids
 kids_of network target choice rides leg = kids_after (unfold_after network target choice rides leg) (arr_of network leg.exit.0) (outcomes_of network leg)
 
--- the leg's ride stands in a tree, and what is done after it is safe
+-- the leg's ride is in a tree, and what is done after it is safe
 pub record StandsSafely (network : NetworkModel) (target : ℕ) (deadline : Option ℕ) (choice : Leg → ℕ → Option Leg) (whole : Tree) (leg : Leg) : Type 0 where
   pub is_leg : IsLegOf network leg
   pub rides : ℕ

@@ -21,7 +21,7 @@ IsLegOf network leg = IsLeg network leg.enter.0 leg.exit.0
 abbrev pub IsSafeForSome : NetworkModel → Query → Tree → Type 0
 IsSafeForSome network query tree = (deadline : ℕ) × IsSafeFromStart network query.target.0 (Some deadline) tree query.source.0 query.start.0
 
--- the ride of the leg stands in the tree
+-- the ride of the leg is in the tree
 abbrev mutual
   pub Stands : Leg → Tree → Type 0
   Stands leg (Done moment) = ⊥
@@ -49,7 +49,7 @@ pub record IsReadyRow (network : NetworkModel) (place : ℕ) (row : GraphRow) : 
   pub is_limit : limit_of network place row.leg ≡ Some limit
   pub in_time : row.by.0 ≤ limit
 
--- a row may stand before another: moments rise, limits do not fall, and equal limits have equal legs
+-- a row may come before another: moments rise, limits do not fall, and equal limits have equal legs
 pub record MayPrecede (network : NetworkModel) (place : ℕ) (a b : GraphRow) : Type 0 where
   pub by : a.by.0 < b.by.0
   pub limits : (first second : ℕ) → limit_of network place a.leg ≡ Some first → limit_of network place b.leg ≡ Some second → first ≤ second

@@ -6,7 +6,7 @@ use Rattle.std.specs.Prelude.{◌≡◌, ℕ, ◌<◌, ◌⊎◌, List}
 use Rattle.plan_graph.specs.declared.Ride.{Ride}
 use Rattle.plan_graph.specs.PickedRows.{HasRisingRides}
 
--- one pair of numbers stands before another
+-- one pair of numbers comes before another
 lex_prop : (a b c d : ℕ) → IsProp ((a < b) ⊎ ((a ≡ b) × (c < d)))
 lex_prop a b c d (inl x) (inl y) = ap inl (le_prop x y)
 lex_prop a b c d (inl x) (inr y) = absurd (omega (arith, x, y.0))

@@ -23,7 +23,7 @@ pub record IsTaken (network : NetworkModel) (choice : Leg → ℕ → Option Leg
   pub is_leg : IsLegOf network next
   pub boards : IsBoardable network (end_of network leg) arrival next.enter.0
 
--- these rides, in order, are those that stand in the tree of the choice, each with a row for each outcome
+-- these rides, in order, are those that are in the tree of the choice, each with a row for each outcome
 pub record IsWalked (network : NetworkModel) (query : Query) (choice : Leg → ℕ → Option Leg) (start : Leg) (rides : List Ride) : Type 0 where
   pub unfolds : unfolding_of network query (pick_after rides) (Some start) ≡ unfolding_of network query choice (Some start)
   pub rising : AllPairs (λ a b. Precedes a.leg b.leg) rides

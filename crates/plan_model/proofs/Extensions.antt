@@ -47,8 +47,8 @@ module _ (n m : NetworkModel) (source : ℕ) (extends : IsExtension n m source) 
   pub added_back : (tree : Tree) (x : ℕ) → IsSafeFromStart m target by tree source (x + 1) → IsSafe n target by tree added x
   added_back tree x h =
       let now : x + 1 ≡ x + 1 + 0 = omega arith in
-      let told : IsSafeFromStart m target (deadline_later_by 0 by) tree source (x + 1 + 0) = rw (deadline-none by, ← now) h in
-      let from = start_back n m 0 0 extends.view valid target by tree source (x + 1) (omega arith) told in
+      let reported : IsSafeFromStart m target (deadline_later_by 0 by) tree source (x + 1 + 0) = rw (deadline-none by, ← now) h in
+      let from = start_back n m 0 0 extends.view valid target by tree source (x + 1) (omega arith) reported in
       let same : from.0 ≡ tree = sym (later_by-none from.0) ∙ from.1 in
       goes_on tree x (subst (λ (t : Tree). IsSafeFromStart n target by t source (x + 1)) same from.2)
 

@@ -1,4 +1,4 @@
--- What departs by a moment stands first in a scan order.
+-- What departs by a moment comes first in a scan order.
 use Rattle.std.proofs.Common.{◌≡◌, ℕ, ◌+◌, ◌<◌, ◌≤◌, List, ◌++◌, length, get_or, take, drop, arith, sym, ap, ◌∙◌, inl, inr, length-drop, take-append-drop}
 use Rattle.std.proofs.Common.{get_or-drop, get_or-take, length-take-le}
 use Rattle.std.proofs.lemmas.Bool.{cases_eq}

@@ -56,13 +56,13 @@ module _ (n m : NetworkModel) (shift first : ℕ) (view : IsView n m shift first
   ends_inside : (j : ℕ) → j < count m → to_of n j < length m.change
   ends_inside j h = omega (arith, (seen j h).to, (valid.connections j h).to_in)
 
-  -- what is safe after a leg, told by the view's words and by the network's
+  -- what is safe after a leg, in the terms of the view and in those of the network
   module _ (target : ℕ) (by : Option ℕ) (i j : ℕ) (leg : IsLeg m i j) (late : first ≤ dep_of m i) (kids : Kids) where
-    told_there : AreSafe m target by kids (outcomes n j) (to_of n j) (arr_of n j + shift) → AreSafe m target by kids (outcomes m j) (to_of m j) (arr_of m j)
-    told_there h = same_all m target by kids _ _ _ _ _ _ (same_outcomes j leg.exit) (seen j leg.exit).to (arrives i j leg late) h
+    reported_there : AreSafe m target by kids (outcomes n j) (to_of n j) (arr_of n j + shift) → AreSafe m target by kids (outcomes m j) (to_of m j) (arr_of m j)
+    reported_there h = same_all m target by kids _ _ _ _ _ _ (same_outcomes j leg.exit) (seen j leg.exit).to (arrives i j leg late) h
 
-    told_back : AreSafe m target by kids (outcomes m j) (to_of m j) (arr_of m j) → AreSafe m target by kids (outcomes n j) (to_of n j) (arr_of n j + shift)
-    told_back h = same_all m target by kids _ _ _ _ _ _ (sym (same_outcomes j leg.exit)) (sym (seen j leg.exit).to) (sym (arrives i j leg late)) h
+    reported_back : AreSafe m target by kids (outcomes m j) (to_of m j) (arr_of m j) → AreSafe m target by kids (outcomes n j) (to_of n j) (arr_of n j + shift)
+    reported_back h = same_all m target by kids _ _ _ _ _ _ (sym (same_outcomes j leg.exit)) (sym (seen j leg.exit).to) (sym (arrives i j leg late)) h
 
   module _ (target : ℕ) (by : Option ℕ) where
     abbrev later : Option ℕ
@@ -83,7 +83,7 @@ module _ (n m : NetworkModel) (shift first : ℕ) (view : IsView n m shift first
       safe_there (Ride i j kids) p x inside h =
           let leg = leg_there i j h.1 in
           let kids_safe = all_there kids (outcomes n j) (to_of n j) (arr_of n j) (ends_inside j leg.0.exit) h.3 in
-          (h.0, leg.0, board_there p x i j inside leg.0 leg.1 h.2, told_there target later i j leg.0 leg.1 (all_later_by shift kids) kids_safe)
+          (h.0, leg.0, board_there p x i j inside leg.0 leg.1 h.2, reported_there target later i j leg.0 leg.1 (all_later_by shift kids) kids_safe)
       safe_there (Stuck q y) p x inside h = absurd h
 
       all_there : (kids : Kids) (row : List Outcome) (p a : ℕ) → p < length m.change → AreSafe n target by kids row p a → AreSafe m target later (all_later_by shift kids) row p (a + shift)
@@ -114,8 +114,8 @@ module _ (n m : NetworkModel) (shift first : ℕ) (view : IsView n m shift first
           let open_leg = late_leg p x i j late h.2 in
           let arrival = arrives i j leg open_leg in
           let onward = forward m valid i j leg in
-          let told = told_back target later i j leg open_leg us h.3 in
-          let kids = all_back us (outcomes n j) (to_of n j) (arr_of n j) (ends_inside j leg.exit) (omega (arith, arrival, onward, open_leg)) told in
+          let reported = reported_back target later i j leg open_leg us h.3 in
+          let kids = all_back us (outcomes n j) (to_of n j) (arr_of n j) (ends_inside j leg.exit) (omega (arith, arrival, onward, open_leg)) reported in
           (Ride i j kids.0, ap (Ride i j) kids.1, (h.0, leg_back i j leg open_leg, board_back p x i j inside leg open_leg h.2, kids.2))
       safe_back (Stuck q y) p x inside late h = absurd h
 
@@ -138,7 +138,7 @@ module _ (n m : NetworkModel) (shift first : ℕ) (view : IsView n m shift first
         let leg = leg_there i j h.1 in
         let kids_safe = all_there kids (outcomes n j) (to_of n j) (arr_of n j) (ends_inside j leg.0.exit) h.3 in
         let board : IsBoardableAtStart m source (x + shift) i = (sym (seen i leg.0.enter).from ∙ h.2.0, omega (arith, h.2.1, departs i j leg.0 leg.1)) in
-        (h.0, leg.0, board, told_there target later i j leg.0 leg.1 (all_later_by shift kids) kids_safe)
+        (h.0, leg.0, board, reported_there target later i j leg.0 leg.1 (all_later_by shift kids) kids_safe)
     start_there (Stuck q y) source x h = absurd h
 
     abbrev pub ComesFrom : Tree → (source x : ℕ) → Type 0
@@ -151,8 +151,8 @@ module _ (n m : NetworkModel) (shift first : ℕ) (view : IsView n m shift first
         let open_leg : first ≤ dep_of m i = omega (arith, h.2.1) in
         let arrival = arrives i j leg open_leg in
         let onward = forward m valid i j leg in
-        let told = told_back target later i j leg open_leg us h.3 in
-        let kids = all_back us (outcomes n j) (to_of n j) (arr_of n j) (ends_inside j leg.exit) (omega (arith, arrival, onward, open_leg)) told in
+        let reported = reported_back target later i j leg open_leg us h.3 in
+        let kids = all_back us (outcomes n j) (to_of n j) (arr_of n j) (ends_inside j leg.exit) (omega (arith, arrival, onward, open_leg)) reported in
         let board : IsBoardableAtStart n source x i = ((seen i leg.enter).from ∙ h.2.0, omega (arith, h.2.1, departs i j leg open_leg)) in
         (Ride i j kids.0, ap (Ride i j) kids.1, (h.0, leg_back i j leg open_leg, board, kids.2))
     start_back (Stuck q y) source x late h = absurd h

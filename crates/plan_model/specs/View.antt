@@ -25,7 +25,7 @@ abbrev mutual
 abbrev pub deadline_later_by : ℕ → Option ℕ → Option ℕ
 deadline_later_by shift deadline = option_map (λ moment. moment + shift) deadline
 
--- a connection as it is seen from a first moment on: whoever could board it before cannot;
+-- a connection as it is seen from a first moment on: a traveller who could board it before cannot;
 -- its moments from then on are less by a shift, and all else is the same
 pub record IsSeen (shift first : ℕ) (seen of : Connection) : Type 0 where
   pub from : seen.from.0 ≡ of.from.0

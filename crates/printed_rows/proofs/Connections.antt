@@ -1,4 +1,4 @@
--- What a connection of a network tells can be printed.
+-- What a connection of a network has can be printed.
 use Rattle.std.proofs.Common.{◌≡◌, ℕ, ◌<◌, ◌≤◌, length, ap, arith}
 use Rattle.plan_model.specs.declared.model.Connection.{Connection}
 use Rattle.plan_model.specs.NetworkModel.{NetworkModel}

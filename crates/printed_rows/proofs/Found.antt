@@ -26,7 +26,7 @@ found_holds t (x ∷ xs) from k d is = elim (cases_Bool (t x)) [
       (suc rest.0, omega (arith, rest.1), omega (arith, rest.2), rest.3)
 ]
 
--- connections rise, so a run and step stand at one place
+-- connections rise, so a run and step are at one place
 abbrev is_at : ℕ → ℕ → Connection → Bool
 is_at run step c = (c.run.0 == run) && (c.step == step)
 

@@ -1,4 +1,4 @@
--- Printed fields: no space stands at their ends, and they tell their numbers.
+-- Printed fields: no space is at their ends, and they give their numbers.
 use Rattle.std.proofs.Common.{◌≡◌, ℕ, ◌+◌, ◌-◌, ◌*◌, ◌/◌, ◌%◌, ◌<◌, ◌≤◌, ◌^◌, Bool, true, List, [], ◌∷◌, length, Some, All, arith, sym, refl, ap, ◌∙◌, nat_lt}
 use Rattle.std.proofs.Common.{decimal, slice_index_or, bytes_eq, IsUtf8, le-leb}
 use Rattle.std.specs.List.{list_all}
@@ -22,7 +22,7 @@ use Rattle.text_index.proofs.Numbers.{place_found, false_if, with_utf8}
 abbrev is_plain : List ℕ → Bool
 is_plain text = list_all (nat_lt 32) text
 
--- so none stands at an end
+-- so none is at an end
 plain_ends : (text : List ℕ) → is_plain text ≡ true → IsTrimmed text
 plain_ends text plain = record {
   start = λ rest begins. false≢true (sym (ap is_plain begins) ∙ plain);
@@ -88,7 +88,7 @@ pub whole_back : (n : ℕ) → n ≤ 999999999 → whole_at (decimal n) ≡ Some
 whole_back n below =
     whole_by (decimal n) n (decimal_nonempty n (omega arith)) (length-decimal-le 9 n (omega arith) (omega arith) (omega arith)) (decimal_is n (omega arith)) below
 
--- a name tells its number
+-- a name gives its number
 pub name_back : (names : List (List ℕ)) (i : ℕ) → AreDistinct names → All IsUtf8 names → i < length names → number_of names (slice_index_or names i []) ≡ Some i
 name_back names i distinct texts within =
     with_utf8 (slice_index_or names i []) names (texts i [] within)

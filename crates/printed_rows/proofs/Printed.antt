@@ -30,7 +30,7 @@ records_in (row ∷ rows) zero enough = absurd (omega (arith, enough))
 records_in (row ∷ rows) (suc turns) enough =
     rw (read-write row (text_of_rows rows)) (ap (λ (rest : List (List (List ℕ))). read_back row ∷ rest) (records_in rows turns (omega (arith, enough))))
 
--- a record has a field, and no space stands at an end of one
+-- a record has a field, and no space is at an end of one
 abbrev pub IsKept : List (List ℕ) → Type 0
 IsKept row = map trimmed_text (read_back row) ≡ row
 

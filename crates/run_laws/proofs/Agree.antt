@@ -21,7 +21,7 @@ abbrev other_kids : Kids → Kids
 other_kids Nil = Nil
 other_kids (Kid weight tree others) = others
 
--- kids that are the same are so one by one
+-- children that are the same are so one by one
 kid_same : (f g : ℕ → Tree) (row : List Outcome) (scheduled : ℕ) → kids_after f scheduled row ≡ kids_after g scheduled row → (o : Outcome) → Contains row o
     → f (scheduled + o.delay) ≡ g (scheduled + o.delay)
 kid_same f g [] scheduled same o has = absurd (Contains-nil o has)
@@ -30,7 +30,7 @@ kid_same f g (head ∷ row) scheduled same o has = elim (Contains-cons_cases hea
   | inr more ↦ kid_same f g row scheduled (ap other_kids same) o more
 ]
 
--- what is in the kids is in the tree after an outcome
+-- what is in the children is in the tree after an outcome
 stands_after : (f : ℕ → Tree) (row : List Outcome) (scheduled : ℕ) (other : Leg) → StandsIn other (kids_after f scheduled row)
     → (o : Outcome) × Contains row o × Stands other (f (scheduled + o.delay))
 stands_after f [] scheduled other there = absurd there

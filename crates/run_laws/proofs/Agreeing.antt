@@ -30,8 +30,8 @@ use Rattle.journey_problem.specs.Files.{bytes_of}
 use Rattle.plan_model.specs.Results.{and_then}
 use Rattle.journey_problem.specs.GraphFiles.{graph_in, graph_as}
 use Rattle.journey_answers.specs.Trips.{trip_by}
-use Rattle.journey_answers.specs.Answers.{TellsPlanned, head_of}
-use Rattle.journey_answers.specs.Certified.{TellsCertificate}
+use Rattle.journey_answers.specs.Answers.{AnswersPlan, head_of}
+use Rattle.journey_answers.specs.Certified.{AnswersCertify}
 use Rattle.journey_answers.specs.Departures.{query_until}
 use Rattle.meat_engine.specs.Asks.{AnswersAsk, EndsAsk, FailsJourney, FailsScore}
 use Rattle.meat_engine.specs.Ends.{EndsByGraphFile, EndsByWalk}
@@ -94,12 +94,12 @@ walk_ends : (limits : Limits) (files : FileMap) (start : ℕ) (path late : List 
 walk_ends limits files start path late p status head graph reads (inl (h, g, at, ends)) =
     let same : (h, g) ≡ (head, graph) = one_ok (graph_in limits p start None (file_at files path)) (h, g) (head, graph) at reads in
     subst (λ (w : Head × PlanGraph). EndsByWalk (trip_by p w.0 w.1 late) status) same ends
-walk_ends limits files start path late p status head graph reads (inr (fault, at, told)) =
+walk_ends limits files start path late p status head graph reads (inr (fault, at, reported)) =
     absurd (never_both (graph_in limits p start None (file_at files path)) (head, graph) fault reads at)
 
 -- the fault that is read of a text is its first
-abbrev FaultsAreTold : Type 0
-FaultsAreTold =
+abbrev FaultsAreReported : Type 0
+FaultsAreReported =
     (n : NetworkModel) (names : NameLists) (source target start : ℕ) (text : List ℕ) (f : TextFault) → IsValid n
     → graph_of text n names source target start ≡ Err f ↔ IsFirstFaultOf n names source target start text f
 
@@ -123,7 +123,7 @@ module _ (limits : Limits) (files : FileMap) (old said : List ℕ) (r : RunModel
     err = r.before.err;
     err_after = r.after.err;
     run = run;
-    tells = calm.tells;
+    reports = calm.reports;
     had = calm.had;
     has = refl;
   }
@@ -154,12 +154,12 @@ module _ (limits : Limits) (files : FileMap) (old said : List ℕ) (r : RunModel
     answered none =
         let ends : EndsWell files limits r.words r.report old r.after.out.written = record { known = known_run; no_fault = none } in
         let (text, (wanted, is, answers), written) = answer_of files limits r.words r.report old r.after.out.written ends in
-        let (p, has, there, told) = subst (λ (w : JobModel). AnswersJob (Some files) limits w (findings_of r.report) text) (same_job r.words j a wanted is asks) answers in
-        record { text = text; written = written; p = p; is_problem = there; answers = told }
+        let (p, has, there, reported) = subst (λ (w : JobModel). AnswersJob (Some files) limits w (findings_of r.report) text) (same_job r.words j a wanted is asks) answers in
+        record { text = text; written = written; p = p; is_problem = there; answers = reported }
 
     -- its status, where its files have a problem
     ends_so : (p : Problem) → IsProblem limits files j p → OrStatus9 r (EndsAsk limits files j.start p a r.report.status.0)
-    ends_so p is = (run.complete calm.files_calm calm.out_calm).problem files j a p calm.tells asks is
+    ends_so p is = (run.complete calm.files_calm calm.out_calm).problem files j a p calm.reports asks is
 
   no_fault : r.report.status.0 ≡ 0 → r.report.fault ≡ None
   no_fault zero = no_fault_of r.report.fault (sym run.status ∙ zero)
@@ -234,7 +234,7 @@ module _ (limits : Limits) (r s : RunModel) (first : IsRunWithin limits r) (seco
       let w = of_first files j (Plan alpha) (Replay path late) both kept.no_fault in
       let in_file = there files j (Plan alpha) (Replay path late) both path kept w in
       let fits = small files j (Plan alpha) (Replay path late) both path kept w in
-      let (q, worst, asked, (graph, bounds, is, planned, told, reads)) = w.answers in
+      let (q, worst, asked, (graph, bounds, is, planned, reported, reads)) = w.answers in
       let again = read_again limits files j.start w.p path q bounds graph w.text asked.source asked.target asked.start_is reads in_file fits in
       record {
         problem = w.p;
@@ -273,9 +273,9 @@ module _ (limits : Limits) (r s : RunModel) (first : IsRunWithin limits r) (seco
   within files j alpha p query bounds proof v both well is query_is bounds_is proof_is least =
       let plans = first_over files j (Plan alpha) (Certify alpha) both p is (of_first files j (Plan alpha) (Certify alpha) both well.first) in
       let other = of_second files j (Plan alpha) (Certify alpha) both well.second in
-      let (q, worst, asked, (graph, span, found, planned, told, reads)) = plans in
+      let (q, worst, asked, (graph, span, found, planned, reported, reads)) = plans in
       let (t, w, also, certificate) = second_over files j (Plan alpha) (Certify alpha) both p is other in
-      let one = in_one_query p j.start alpha (TellsCertificate p (findings_of s.report) other.text) q t worst w asked also certificate in
+      let one = in_one_query p j.start alpha (AnswersCertify p (findings_of s.report) other.text) q t worst w asked also certificate in
       let same_query = one_some q query r.report.query (ap (λ (f : Findings). f.query) found) query_is in
       let same_bounds = one_some span bounds r.report.bounds (ap (λ (f : Findings). f.bounds) found) bounds_is in
       let same_proof = one_some one.proof proof s.report.proof (ap (λ (f : Findings). f.proof) one.found_is) proof_is in
@@ -286,7 +286,7 @@ module _ (limits : Limits) (r s : RunModel) (first : IsRunWithin limits r) (seco
       let other = of_second files j (Expand alpha) (Plan alpha) both well.second in
       let (q, worst, asked, (graph, span, found, expanded, text)) = first_over files j (Expand alpha) (Plan alpha) both p is (of_first files j (Expand alpha) (Plan alpha) both well.first) in
       let (t, w, also, plans) = second_over files j (Expand alpha) (Plan alpha) both p is other in
-      let (table, spans, found_too, planned, printed, reads) = in_one_query p j.start alpha (TellsPlanned p (findings_of s.report) other.text) q t worst w asked also plans in
+      let (table, spans, found_too, planned, printed, reads) = in_one_query p j.start alpha (AnswersPlan p (findings_of s.report) other.text) q t worst w asked also plans in
       let first_query : r.report.query ≡ Some q = ap (λ (f : Findings). f.query) found in
       let first_rides : r.report.expanded ≡ Some graph = ap (λ (f : Findings). f.expanded) found in
       let first_bounds : r.report.bounds ≡ Some span = ap (λ (f : Findings). f.bounds) found in
@@ -359,7 +359,7 @@ module _ (limits : Limits) (r s : RunModel) (first : IsRunWithin limits r) (seco
       of_last_row w.p.timetable.network w.p.source.0 (query_until w.p j.start until) j.start last rows latest (rw (sym same_rows) (are.table apart)) (rw (sym same_latest) greatest) before
 
   -- the fault of the graph file, by what its text is read as
-  module _ (told : FaultsAreTold) (files : FileMap) (j : JourneyModel) (path text : List ℕ) (p : Problem) (f : TextFault) where
+  module _ (reported : FaultsAreReported) (files : FileMap) (j : JourneyModel) (path text : List ℕ) (p : Problem) (f : TextFault) where
     abbrev IsFirst : Type 0
     IsFirst = IsFirstFaultOf p.timetable.network p.timetable.names p.source.0 p.target.0 j.start text f
 
@@ -368,7 +368,7 @@ module _ (limits : Limits) (r s : RunModel) (first : IsRunWithin limits r) (seco
         let few : nat_lt limits.bytes (length text) ≡ false = grind (arith, nat_tests) in
         let bytes : bytes_of limits.bytes input.Graph None (file_at files path) ≡ Ok text = rw (there, few) refl in
         let is = subst (λ (b : Result (List ℕ) Fault). and_then b (λ read. graph_as (graph_of read p.timetable.network p.timetable.names p.source.0 p.target.0 j.start)) ≡ Err (fault.GraphFile f)) bytes fails in
-        (told p.timetable.network p.timetable.names p.source.0 p.target.0 j.start text f p.timetable.valid).0 (as_text _ f is)
+        (reported p.timetable.network p.timetable.names p.source.0 p.target.0 j.start text f p.timetable.valid).0 (as_text _ f is)
 
     of_score : FailsScore (Some files) limits j.start path p (fault.GraphFile f) → file_at files path ≡ Some text → length text ≤ limits.bytes → IsFirst
     of_score (inl fails) there small = of_text there small fails.1
@@ -380,15 +380,15 @@ module _ (limits : Limits) (r s : RunModel) (first : IsRunWithin limits r) (seco
         of_score (subst (λ (x : Problem). FailsScore (Some files) limits j.start path x (fault.GraphFile f)) (one_problem limits files j q p also is) fails) there small
     of_journey known is (inr early) there small = absurd (early.0.stage)
 
-  first_fault : FaultsAreTold → FaultIsFirst limits r
-  first_fault told files old said j path text p f calm asks is there small fails =
+  first_fault : FaultsAreReported → FaultIsFirst limits r
+  first_fault reported files old said j path text p f calm asks is there small fails =
       let by : Option FileMap → Option Fault → Type 0 = λ contents e. Outcome contents limits r.words r.report r.before.out.written r.after.out.written (WritesLine r.before.err r.after.err) e in
-      let outcome = subst (by (Some files)) fails (subst (λ (c : Option FileMap). by c r.report.fault) calm.tells first.outcome) in
+      let outcome = subst (by (Some files)) fails (subst (λ (c : Option FileMap). by c r.report.fault) calm.reports first.outcome) in
       let (known, why) = job_fails (Some files) limits r.words r.report r.before.out.written r.after.out.written (WritesLine r.before.err r.after.err) (fault.GraphFile f) outcome (λ e. cc) (λ e. cc) (Ask j (CheckGraph path)) asks in
-      of_journey told files j path text p f known is why there small
+      of_journey reported files j path text p f known is why there small
 
-  pub agree : FaultsAreTold → Agree limits r s
-  agree told = record {
+  pub agree : FaultsAreReported → Agree limits r s
+  agree reported = record {
     alike = ends_alike;
     accepted = accepted;
     replayed = replayed;
@@ -401,5 +401,5 @@ module _ (limits : Limits) (r s : RunModel) (first : IsRunWithin limits r) (seco
     worst = worst_is_kept;
     later = later_is_no_worse;
     last_row = latest_is_of_last_row;
-    first_fault = first_fault told;
+    first_fault = first_fault reported;
   }

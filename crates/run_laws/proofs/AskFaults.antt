@@ -84,8 +84,8 @@ module _ (p : Problem) (files : FileMap) (limits : Limits) (start : ℕ) where
     abbrev bytes_read : Result (List ℕ) Fault
     bytes_read = read_bytes p files limits start path
 
-    abbrev Told : List ℕ → Result (Query × LowerBounds) ProofFault → Type 0
-    Told = Reads p files limits start path
+    abbrev Reported : List ℕ → Result (Query × LowerBounds) ProofFault → Type 0
+    Reported = Reads p files limits start path
 
     graph_fault : (fault : Fault) → NotRead fault → FailsGraph (Some files) limits start path p fault → graph_read ≡ Err fault
     graph_fault fault never fails = subst (λ (u : Option Input). graph_in limits p start u (file_at files path) ≡ Err fault) (none_unread fault never) fails.1
@@ -104,13 +104,13 @@ module _ (p : Problem) (files : FileMap) (limits : Limits) (start : ℕ) where
     one_replay_fault late a b m n (inr is) (inl also) = absurd (of_graph (IsTripFault p late a) b n also is)
     one_replay_fault late a b m n (inr is) (inr also) = in_graph p files limits start path (IsTripFault p late a) (IsTripFault p late b) (a ≡ b) (one_trip_fault late a b) is also
 
-    told_or_stopped : (late : List ℕ) (found : Findings) (text : List ℕ) (a : Fault) (head : Head) (graph : PlanGraph) → AnswersReplay p late found text head graph → IsTripFault p late a head graph → ⊥
-    told_or_stopped late found text a head graph told stopped = never_both (trip_by p head graph late) told.trace stopped.stop told.trip stopped.trip
+    reported_or_stopped : (late : List ℕ) (found : Findings) (text : List ℕ) (a : Fault) (head : Head) (graph : PlanGraph) → AnswersReplay p late found text head graph → IsTripFault p late a head graph → ⊥
+    reported_or_stopped late found text a head graph reported stopped = never_both (trip_by p head graph late) reported.trace stopped.stop reported.trip stopped.trip
 
     replayed : (late : List ℕ) (found : Findings) (text : List ℕ) (a : Fault) → NotRead a → InGraphFile (Some files) limits start path p (AnswersReplay p late found text)
         → FailsReplay (Some files) limits start path late p a → ⊥
-    replayed late found text a m told (inl is) = of_graph (AnswersReplay p late found text) a m is told
-    replayed late found text a m told (inr is) = in_graph p files limits start path (AnswersReplay p late found text) (IsTripFault p late a) ⊥ (told_or_stopped late found text a) told is
+    replayed late found text a m reported (inl is) = of_graph (AnswersReplay p late found text) a m is reported
+    replayed late found text a m reported (inr is) = in_graph p files limits start path (AnswersReplay p late found text) (IsTripFault p late a) ⊥ (reported_or_stopped late found text a) reported is
 
     one_unsafe : (a b : Fault) (head : Head) (graph : PlanGraph) → IsUnsafeGraph p a head graph → IsUnsafeGraph p b head graph → a ≡ b
     one_unsafe a b head graph (place, moment, is, unsafe) (other, later, also, more) =
@@ -125,11 +125,11 @@ module _ (p : Problem) (files : FileMap) (limits : Limits) (start : ℕ) where
     one_score_fault a b m n (inr is) (inr also) = in_graph p files limits start path (IsUnsafeGraph p a) (IsUnsafeGraph p b) (a ≡ b) (one_unsafe a b) is also
 
     scored_or_unsafe : (found : Findings) (text : List ℕ) (a : Fault) (head : Head) (graph : PlanGraph) → IsEnclosed p found text head graph → IsUnsafeGraph p a head graph → ⊥
-    scored_or_unsafe found text a head graph told (place, moment, is, unsafe) = unsafe.unsafe told.scored.safe
+    scored_or_unsafe found text a head graph reported (place, moment, is, unsafe) = unsafe.unsafe reported.scored.safe
 
     scored : (found : Findings) (text : List ℕ) (a : Fault) → NotRead a → InGraphFile (Some files) limits start path p (IsEnclosed p found text) → FailsScore (Some files) limits start path p a → ⊥
-    scored found text a m told (inl is) = of_graph (IsEnclosed p found text) a m is told
-    scored found text a m told (inr is) = in_graph p files limits start path (IsEnclosed p found text) (IsUnsafeGraph p a) ⊥ (scored_or_unsafe found text a) told is
+    scored found text a m reported (inl is) = of_graph (IsEnclosed p found text) a m is reported
+    scored found text a m reported (inr is) = in_graph p files limits start path (IsEnclosed p found text) (IsUnsafeGraph p a) ⊥ (scored_or_unsafe found text a) reported is
 
     -- ---- certificate files
 
@@ -152,17 +152,17 @@ module _ (p : Problem) (files : FileMap) (limits : Limits) (start : ℕ) where
     one_file_fault (Err first) a b is also = is ∙ sym also
 
     -- a text with a fault has no certificate
-    text_or_fault : (r : Result (List ℕ) Fault) (text : List ℕ) (q : Query) (proof : LowerBounds) (a : Fault) → r ≡ Ok text → Told text (Ok (q, proof)) → FailsFile p start r a → ⊥
-    text_or_fault (Ok other) text q proof a there told (first, is, late) =
+    text_or_fault : (r : Result (List ℕ) Fault) (text : List ℕ) (q : Query) (proof : LowerBounds) (a : Fault) → r ≡ Ok text → Reported text (Ok (q, proof)) → FailsFile p start r a → ⊥
+    text_or_fault (Ok other) text q proof a there reported (first, is, late) =
         let same : other ≡ text = cc in
         let never = never_memory p.timetable.network p.timetable.names p.source.0 p.target.0 start (table_of other) first late in
-        let both = read_once p.timetable.network p.timetable.names p.source.0 p.target.0 start other (Ok (q, proof)) (Err first) (subst (λ (t : List ℕ). Told t (Ok (q, proof))) (sym same) told) (inr late)
+        let both = read_once p.timetable.network p.timetable.names p.source.0 p.target.0 start other (Ok (q, proof)) (Err first) (subst (λ (t : List ℕ). Reported t (Ok (q, proof))) (sym same) reported) (inr late)
         (λ e. cc) (free other first never) in
         cc
-    text_or_fault (Err e) text q proof a there told fails = cc
+    text_or_fault (Err e) text q proof a there reported fails = cc
 
     of_proof : (P : Query → LowerBounds → Type 0) (a : Fault) → NotRead a → FailsCertificate (Some files) limits start path p a → InCertificateFile (Some files) limits start path p P → ⊥
-    of_proof P a m fails (q, proof, is, holds) = text_or_fault bytes_read is.text q proof a is.reads is.tells (proof_fault a m fails)
+    of_proof P a m fails (q, proof, is, holds) = text_or_fault bytes_read is.text q proof a is.reads is.reports (proof_fault a m fails)
 
     one_broken : (a b : Fault) (q : Query) (proof : LowerBounds) → IsBroken p a q proof → IsBroken p b q proof → a ≡ b
     one_broken a b q proof (c, is, last) (d, also, other) =
@@ -180,8 +180,8 @@ module _ (p : Problem) (files : FileMap) (limits : Limits) (start : ℕ) where
     held_or_broken found text a q proof held (c, is, last) = last.fault (held.accepted c.0 last.there last.board)
 
     checked : (found : Findings) (text : List ℕ) (a : Fault) → NotRead a → InCertificateFile (Some files) limits start path p (IsHeld p found text) → FailsCheck (Some files) limits start path p a → ⊥
-    checked found text a m told (inl is) = of_proof (IsHeld p found text) a m is told
-    checked found text a m told (inr is) = in_proof p files limits start path (IsHeld p found text) (IsBroken p a) ⊥ (held_or_broken found text a) told is
+    checked found text a m reported (inl is) = of_proof (IsHeld p found text) a m is reported
+    checked found text a m reported (inr is) = in_proof p files limits start path (IsHeld p found text) (IsBroken p a) ⊥ (held_or_broken found text a) reported is
 
   -- ---- whatever is asked
 
@@ -202,13 +202,13 @@ module _ (p : Problem) (files : FileMap) (limits : Limits) (start : ℕ) where
 
   -- what has an answer has no fault
   pub answered_or_not : (ask : AskModel) (found : Findings) (text : List ℕ) (a : Fault) → NotRead a → AnswersAsk (Some files) limits start p ask found text → FailsAsk (Some files) limits start p ask a → ⊥
-  answered_or_not (Safe alpha) found text a m (q, w, is, tells) fails = not_none p start alpha q w is fails.1
-  answered_or_not (Expand alpha) found text a m (q, w, is, tells) fails = not_none p start alpha q w is fails.1
-  answered_or_not (Plan alpha) found text a m (q, w, is, tells) fails = not_none p start alpha q w is fails.1
-  answered_or_not (Replays graph late) found text a m told fails = replayed graph late found text a m told fails
-  answered_or_not (Certify alpha) found text a m (q, w, is, tells) fails = not_none p start alpha q w is fails.1
-  answered_or_not (CheckProof proof) found text a m told fails = checked proof found text a m told fails
-  answered_or_not (CheckGraph graph) found text a m told fails = scored graph found text a m told fails
-  answered_or_not (Punctual alpha promise) found text a m (q, w, is, tells) fails = not_none p start alpha q w is fails.1
-  answered_or_not (Departures until last) found text a m (rows, is, are, safe, told) fails = fails.1 safe.0 safe.1
-  answered_or_not (Latest until) found text a m (moment, is, greatest, told) fails = fails.1 moment.0 greatest.0 greatest.1.0 greatest.1.1
+  answered_or_not (Safe alpha) found text a m (q, w, is, reports) fails = not_none p start alpha q w is fails.1
+  answered_or_not (Expand alpha) found text a m (q, w, is, reports) fails = not_none p start alpha q w is fails.1
+  answered_or_not (Plan alpha) found text a m (q, w, is, reports) fails = not_none p start alpha q w is fails.1
+  answered_or_not (Replays graph late) found text a m reported fails = replayed graph late found text a m reported fails
+  answered_or_not (Certify alpha) found text a m (q, w, is, reports) fails = not_none p start alpha q w is fails.1
+  answered_or_not (CheckProof proof) found text a m reported fails = checked proof found text a m reported fails
+  answered_or_not (CheckGraph graph) found text a m reported fails = scored graph found text a m reported fails
+  answered_or_not (Punctual alpha promise) found text a m (q, w, is, reports) fails = not_none p start alpha q w is fails.1
+  answered_or_not (Departures until last) found text a m (rows, is, are, safe, reported) fails = fails.1 safe.0 safe.1
+  answered_or_not (Latest until) found text a m (moment, is, greatest, reported) fails = fails.1 moment.0 greatest.0 greatest.1.0 greatest.1.1

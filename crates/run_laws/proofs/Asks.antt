@@ -48,8 +48,8 @@ module _ (found others : Findings) (text other : List ℕ) where
   one_ask files limits start p (Departures until last) = one_departures_answer p (query_until p start until) last found others text other
   one_ask files limits start p (Latest until) = one_latest_answer p found others text other (query_until p start until)
 
-  one_sample_told : (size : ℕ) (p : Problem) (q : Query) (w : Moment) → AnswersSampled size p found text q w → AnswersSampled size p others other q w → One
-  one_sample_told size p q w (graph, bounds, is, plan, text_is) (graphs, spans, is_other, plan_other, text_other) =
+  one_sample_reported : (size : ℕ) (p : Problem) (q : Query) (w : Moment) → AnswersSampled size p found text q w → AnswersSampled size p others other q w → One
+  one_sample_reported size p q w (graph, bounds, is, plan, text_is) (graphs, spans, is_other, plan_other, text_other) =
       let both = one_planned p.timetable.network q graph graphs bounds spans plan plan_other in
       record {
         found = is ∙ ap₂ (λ (g : PlanGraph) (b : Interval). sample_findings q w g b (count p.timetable.network)) both.0 both.1 ∙ sym is_other;
@@ -57,23 +57,23 @@ module _ (found others : Findings) (text other : List ℕ) where
       }
 
   one_sample : (size : ℕ) (p : Problem) → IsSampled size p found text → IsSampled size p others other → One
-  one_sample size p (q, w, is, tells) (r, v, also, told) =
-      one_sample_told size p q w tells (in_one_query p sample_journey.start sample_alpha (AnswersSampled size p others other) q r w v is also told)
+  one_sample size p (q, w, is, reports) (r, v, also, reported) =
+      one_sample_reported size p q w reports (in_one_query p sample_journey.start sample_alpha (AnswersSampled size p others other) q r w v is also reported)
 
   module _ (one_problem : HasOneProblem) where
     one_job : (files : FileMap) (limits : Limits) (job : JobModel) → AnswersJob (Some files) limits job found text → AnswersJob (Some files) limits job others other → One
-    one_job files limits (Ask j a) (p, has, is, answers) (q, has_other, also, told) =
+    one_job files limits (Ask j a) (p, has, is, answers) (q, has_other, also, reported) =
         one_ask files limits j.start p a answers
-        (subst (λ (r : Problem). AnswersAsk (Some files) limits j.start r a others other) (one_problem limits files j q p also is) told)
-    one_job files limits (Sample size) (folder, same, (p, has, is, answers)) (other_folder, same_other, (q, has_other, also, told)) =
+        (subst (λ (r : Problem). AnswersAsk (Some files) limits j.start r a others other) (one_problem limits files j q p also is) reported)
+    one_job files limits (Sample size) (folder, same, (p, has, is, answers)) (other_folder, same_other, (q, has_other, also, reported)) =
         let here = same_feed_problem limits other_folder folder (λ path. same_other path ∙ sym (same path)) _ _ sample_journey q also in
-        one_sample size p answers (subst (λ (r : Problem). IsSampled size r others other) (one_problem limits folder sample_journey q p here is) told)
+        one_sample size p answers (subst (λ (r : Problem). IsSampled size r others other) (one_problem limits folder sample_journey q p here is) reported)
 
     pub one_words : (files : FileMap) (limits : Limits) (words : List (List ℕ)) → AnswersWords (Some files) limits words found text → AnswersWords (Some files) limits words others other → One
-    one_words files limits words (wanted, is, answers) (wants, also, told) =
+    one_words files limits words (wanted, is, answers) (wants, also, reported) =
         let both : Ok wants ≡ Ok wanted = sym also ∙ is in
         let same : wants ≡ wanted = cc in
-        one_job files limits wanted answers (subst (λ (w : JobModel). AnswersJob (Some files) limits w others other) same told)
+        one_job files limits wanted answers (subst (λ (w : JobModel). AnswersJob (Some files) limits w others other) same reported)
 
 -- what is written after the same bytes is the same
 pub one_written : (old text other : List ℕ) (new now : Option (List ℕ)) → text ≡ other → Appends (Some old) new text → Appends (Some old) now other → new ≡ now
@@ -87,7 +87,7 @@ pub outcome_of : (files : FileMap) (limits : Limits) (words : List (List ℕ)) (
 outcome_of files limits words report old new run =
     let by : Option FileMap → Option (List ℕ) → Option (List ℕ) → Type 0 = λ contents had has.
     Outcome contents limits words report had has (WritesLine run.err run.err_after) report.fault in
-    let over = subst (λ (c : Option FileMap). by c run.out.written run.out_after.written) run.tells run.run.outcome in
+    let over = subst (λ (c : Option FileMap). by c run.out.written run.out_after.written) run.reports run.run.outcome in
     let from = subst (λ (w : Option (List ℕ)). by (Some files) w run.out_after.written) run.had over in
     subst (λ (w : Option (List ℕ)). by (Some files) (Some old) w) run.has from
 
@@ -101,6 +101,6 @@ answer_of files limits words report old new ends =
 pub one_run : HasOneProblem → HasOneRun
 one_run one_problem files limits words report second old new now ends other =
     let (text, answers, written) = answer_of files limits words report old new ends in
-    let (texts, told, writes) = answer_of files limits words second old now other in
-    let one = one_words (findings_of report) (findings_of second) text texts one_problem files limits words answers told in
+    let (texts, reported, writes) = answer_of files limits words second old now other in
+    let one = one_words (findings_of report) (findings_of second) text texts one_problem files limits words answers reported in
     (one.found, one_written old text texts new now one.text_is written writes)

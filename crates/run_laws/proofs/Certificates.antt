@@ -15,7 +15,7 @@ use Rattle.journey_report.specs.AnswerTexts.{holds_text}
 use Rattle.journey_answers.specs.Checks.{IsHeld}
 use Rattle.journey_problem.specs.CertificateFiles.{InCertificateFile}
 use Rattle.journey_answers.specs.Answers.{InQuery}
-use Rattle.journey_answers.specs.Certified.{TellsCertificate}
+use Rattle.journey_answers.specs.Certified.{AnswersCertify}
 use Rattle.run_laws.specs.OneAnswer.{IsOneAnswer}
 use Rattle.run_laws.proofs.Queries.{in_one_query}
 use Rattle.run_laws.proofs.OneFile.{in_proof}
@@ -28,25 +28,25 @@ module _ (p : Problem) (found others : Findings) (text other : List ℕ) where
   abbrev One : Type 0
   One = IsOneAnswer found others text other
 
-  one_certified : (q : Query) (w : Moment) → TellsCertificate p found text q w → TellsCertificate p others other q w → One
-  one_certified q w tells told =
-      let same : tells.proof.values ≡ told.proof.values = one_tight p.timetable.network p.timetable.valid q tells.proof.values told.proof.values tells.tight told.tight in
+  one_certified : (q : Query) (w : Moment) → AnswersCertify p found text q w → AnswersCertify p others other q w → One
+  one_certified q w reports reported =
+      let same : reports.proof.values ≡ reported.proof.values = one_tight p.timetable.network p.timetable.valid q reports.proof.values reported.proof.values reports.tight reported.tight in
       record {
-        found = tells.found_is ∙ ap (λ (values : List (Option ℕ)). certify_findings q w (bounds_with values)) same ∙ sym told.found_is;
-        text_is = tells.text_is ∙ ap (certificate_text p.timetable.network p.timetable.names q) same ∙ sym told.text_is;
+        found = reports.found_is ∙ ap (λ (values : List (Option ℕ)). certify_findings q w (bounds_with values)) same ∙ sym reported.found_is;
+        text_is = reports.text_is ∙ ap (certificate_text p.timetable.network p.timetable.names q) same ∙ sym reported.text_is;
       }
 
-  pub one_certificate_answer : (start alpha : ℕ) → InQuery p start alpha (TellsCertificate p found text)
-      → InQuery p start alpha (TellsCertificate p others other) → One
-  one_certificate_answer start alpha (q, w, is, tells) (r, v, also, told) =
-      one_certified q w tells (in_one_query p start alpha (TellsCertificate p others other) q r w v is also told)
+  pub one_certificate_answer : (start alpha : ℕ) → InQuery p start alpha (AnswersCertify p found text)
+      → InQuery p start alpha (AnswersCertify p others other) → One
+  one_certificate_answer start alpha (q, w, is, reports) (r, v, also, reported) =
+      one_certified q w reports (in_one_query p start alpha (AnswersCertify p others other) q r w v is also reported)
 
   one_held : (q : Query) (proof : LowerBounds) → IsHeld p found text q proof → IsHeld p others other q proof → One
-  one_held q proof tells told =
-      let same = IsLeast-unique p.timetable.network q proof.values (IsBoardableAtStart p.timetable.network q.source.0 q.start.0) q.source.0 q.start.0 tells.least told.least tells.least_is told.least_is in
+  one_held q proof reports reported =
+      let same = IsLeast-unique p.timetable.network q proof.values (IsBoardableAtStart p.timetable.network q.source.0 q.start.0) q.source.0 q.start.0 reports.least reported.least reports.least_is reported.least_is in
       record {
-        found = tells.found_is ∙ ap (check_findings q proof) same ∙ sym told.found_is;
-        text_is = tells.text_is ∙ ap (holds_text (place_name p.timetable.names p.source.0) (place_name p.timetable.names p.target.0) q) same ∙ sym told.text_is;
+        found = reports.found_is ∙ ap (check_findings q proof) same ∙ sym reported.found_is;
+        text_is = reports.text_is ∙ ap (holds_text (place_name p.timetable.names p.source.0) (place_name p.timetable.names p.target.0) q) same ∙ sym reported.text_is;
       }
 
   pub one_check_answer : (files : FileMap) (limits : Limits) (start : ℕ) (path : List ℕ) → InCertificateFile (Some files) limits start path p (IsHeld p found text)

@@ -25,7 +25,7 @@ use Rattle.journey_report.specs.Findings.{Findings}
 use Rattle.journey_problem.specs.Files.{bytes_of}
 use Rattle.journey_problem.specs.CertificateFiles.{FailsFile, IsCertificateText}
 use Rattle.journey_answers.specs.Answers.{InQuery}
-use Rattle.journey_answers.specs.Certified.{TellsCertificate}
+use Rattle.journey_answers.specs.Certified.{AnswersCertify}
 use Rattle.meat_engine.specs.Ends.{EndsByCertificateFile, EndsByVerdict}
 
 -- the bytes of a file that is there and short enough
@@ -38,7 +38,7 @@ same_text : (a b : List ℕ) (r : Result (List ℕ) Fault) → r ≡ Ok a → r 
 same_text a b r x y = cc
 
 pub printed_certificate : (limits : Limits) (files : FileMap) (start alpha : ℕ) (p : Problem) (found : Findings) (text path : List ℕ) (status : ℕ)
-    → InQuery p start alpha (TellsCertificate p found text) → file_at files path ≡ Some text → length text ≤ limits.bytes → EndsByCertificateFile limits files start path p status → status ≡ 0
+    → InQuery p start alpha (AnswersCertify p found text) → file_at files path ≡ Some text → length text ≤ limits.bytes → EndsByCertificateFile limits files start path p status → status ≡ 0
 printed_certificate limits files start alpha p found text path status (q, worst, asked, certified) there small (inl (query, proof, is, verdict)) =
     by_verdict verdict
   where
@@ -48,11 +48,11 @@ printed_certificate limits files start alpha p found text path status (q, worst,
     one : is.text ≡ text
     one = same_text is.text text (bytes_of limits.bytes input.Proof None (file_at files path)) is.reads bytes
 
-    told : IsCertificateText p start text query proof
-    told = subst (λ (t : List ℕ). IsCertificateText p start t query proof) one is.tells
+    reported : IsCertificateText p start text query proof
+    reported = subst (λ (t : List ℕ). IsCertificateText p start t query proof) one is.reports
 
     back : (query ≡ q) × (proof.values ≡ certified.proof.values)
-    back = certified.reads_back (Ok (query, proof)) (rw (asked.source, asked.target, asked.start_is) told)
+    back = certified.reads_back (Ok (query, proof)) (rw (asked.source, asked.target, asked.start_is) reported)
 
     accepted : IsAccepted p.timetable.network query proof.values
     accepted = rw (back.0, back.1) certified.best.accepted

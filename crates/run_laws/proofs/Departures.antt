@@ -19,7 +19,7 @@ use Rattle.journey_model.specs.declared.problem.Problem.{Problem}
 use Rattle.journey_report.specs.Findings.{Findings, departures_findings}
 use Rattle.journey_report.specs.DepartureTexts.{departures_text}
 use Rattle.journey_answers.specs.ByRules.{IsRuled, AreByRules, added_query}
-use Rattle.journey_answers.specs.Departures.{AreDepartures, TellsDepartures}
+use Rattle.journey_answers.specs.Departures.{AreDepartures, AnswersDepartures}
 use Rattle.run_laws.proofs.OneOrder.{one_order}
 use Rattle.run_laws.specs.OneAnswer.{IsOneAnswer}
 
@@ -58,7 +58,7 @@ module _ (p : Problem) (q : Query) (last : ℕ) where
     | inr differ ↦ one_by_rules xs ys (is.by_rules differ) (other.by_rules differ)
   ]
 
-  pub one_departures_answer : (found others : Findings) (text other : List ℕ) → TellsDepartures p q last found text → TellsDepartures p q last others other
+  pub one_departures_answer : (found others : Findings) (text other : List ℕ) → AnswersDepartures p q last found text → AnswersDepartures p q last others other
       → IsOneAnswer found others text other
   one_departures_answer found others text other (rows, is, departures, safe, text_is) (more, is_other, departures_other, safe_other, text_other) =
       let same = one_departures rows more departures departures_other in

@@ -117,7 +117,7 @@ module _ (limits : Limits) (files : FileMap) where
   job_answered : (job : JobModel) (found : Findings) (text : List ℕ) (known : Option NamedParts) (a : Fault) → IsCalm a → AnswersJob (Some files) limits job found text
       → FailsJob (Some files) limits job known a → ⊥
   job_answered (Ask j ask) found text known a m answers fails = journey_answered j ask found text known a m answers fails
-  job_answered (Sample size) found text known a m (folder, same, (p, has, is, (q, w, asked, tells))) (read, (made, alike, fails)) =
+  job_answered (Sample size) found text known a m (folder, same, (p, has, is, (q, w, asked, reports))) (read, (made, alike, fails)) =
       sampled (made_fault limits folder made known a (λ path. alike path ∙ sym (same path)) fails)
     where
       sampled : FailsJourney (Some folder) limits sample_journey (Plan sample_alpha) known a → ⊥
@@ -157,20 +157,20 @@ module _ (limits : Limits) (files : FileMap) where
       err : Appends (Some said) line (line_of known fault)
 
     module _ (report : Report) (new line : Option (List ℕ)) (run : IsCalmRun files limits words report old said new line) where
-      abbrev Tells : List ℕ → Type 0
-      Tells = WritesLine run.known.err run.known.err_after
+      abbrev Reports : List ℕ → Type 0
+      Reports = WritesLine run.known.err run.known.err_after
 
-      outcome : (fault : Option Fault) → report.fault ≡ fault → Outcome (Some files) limits words report (Some old) new Tells fault
+      outcome : (fault : Option Fault) → report.fault ≡ fault → Outcome (Some files) limits words report (Some old) new Reports fault
       outcome fault is =
-          subst (λ (f : Option Fault). Outcome (Some files) limits words report (Some old) new Tells f) is (outcome_of files limits words report old new run.known)
+          subst (λ (f : Option Fault). Outcome (Some files) limits words report (Some old) new Reports f) is (outcome_of files limits words report old new run.known)
 
       keeps_err : report.fault ≡ None → Keeps (Some said) line
       keeps_err none =
           subst (λ (w : Option (List ℕ)). Keeps (Some said) w) run.has_said (subst (λ (w : Option (List ℕ)). Keeps w run.known.err_after.written) run.had_said (run.known.run.quiet none))
 
-      tells_err : (text : List ℕ) → Tells text → Appends (Some said) line text
-      tells_err text tells =
-          subst (λ (w : Option (List ℕ)). Appends (Some said) w text) run.has_said (subst (λ (w : Option (List ℕ)). Appends w run.known.err_after.written text) run.had_said (tells.1 run.err_calm))
+      reports_err : (text : List ℕ) → Reports text → Appends (Some said) line text
+      reports_err text reports =
+          subst (λ (w : Option (List ℕ)). Appends (Some said) w text) run.has_said (subst (λ (w : Option (List ℕ)). Appends w run.known.err_after.written text) run.had_said (reports.1 run.err_calm))
 
       calm_fault : (fault : Fault) → report.fault ≡ Some fault → IsCalm fault
       calm_fault fault is = record {
@@ -186,8 +186,8 @@ module _ (limits : Limits) (files : FileMap) where
           let (text, answers, out) = outcome None is in
           inl (record { none = is; text = text; answers = answers; out = out; err = keeps_err is })
       settled (Some fault) is =
-          let both = subst (λ (e : Ending). OutcomeBy e (Some files) limits words report (Some old) new Tells (Some fault)) (refused_ending fault (not_write fault is)) (outcome (Some fault) is) in
-          let refused : IsRefused (Some files) limits words report Tells fault = both.1 in
+          let both = subst (λ (e : Ending). OutcomeBy e (Some files) limits words report (Some old) new Reports (Some fault)) (refused_ending fault (not_write fault is)) (outcome (Some fault) is) in
+          let refused : IsRefused (Some files) limits words report Reports fault = both.1 in
           inr (record {
             fault = fault;
             some = is;
@@ -196,7 +196,7 @@ module _ (limits : Limits) (files : FileMap) where
             known = refused.1.0;
             why = refused.1.1;
             out = both.0;
-            err = tells_err (line_of refused.1.0 fault) refused.1.2;
+            err = reports_err (line_of refused.1.0 fault) refused.1.2;
           })
 
 pub one_kept : (old : List ℕ) (new now : Option (List ℕ)) → Keeps (Some old) new → Keeps (Some old) now → new ≡ now

@@ -17,7 +17,7 @@ use Rattle.journey_report.specs.DepartureTexts.{latest_text}
 use Rattle.journey_answers.specs.Trips.{AnswersReplay}
 use Rattle.journey_answers.specs.Scores.{IsEnclosed}
 use Rattle.journey_problem.specs.GraphFiles.{InGraphFile}
-use Rattle.journey_answers.specs.Departures.{SafeOf, TellsLatest}
+use Rattle.journey_answers.specs.Departures.{SafeOf, AnswersLatest}
 use Rattle.run_laws.specs.OneAnswer.{IsOneAnswer}
 use Rattle.run_laws.proofs.OneFile.{in_graph}
 
@@ -37,7 +37,7 @@ module _ (p : Problem) (found others : Findings) (text other : List ℕ) where
   abbrev One : Type 0
   One = IsOneAnswer found others text other
 
-  pub one_latest_answer : (q : Query) → TellsLatest p q found text → TellsLatest p q others other → One
+  pub one_latest_answer : (q : Query) → AnswersLatest p q found text → AnswersLatest p q others other → One
   one_latest_answer q (moment, is, greatest, text_is) (moments, is_other, greatest_other, text_other) =
       let same = one_greatest (SafeOf p q) q.start.0 moment moments greatest greatest_other in
       record {
@@ -46,20 +46,20 @@ module _ (p : Problem) (found others : Findings) (text other : List ℕ) where
       }
 
   one_trip : (late : List ℕ) (head : Head) (graph : PlanGraph) → AnswersReplay p late found text head graph → AnswersReplay p late others other head graph → One
-  one_trip late head graph tells told =
-      let both : Ok tells.trace ≡ Ok told.trace = sym tells.trip ∙ told.trip in
-      let same : tells.trace ≡ told.trace = cc in
+  one_trip late head graph reports reported =
+      let both : Ok reports.trace ≡ Ok reported.trace = sym reports.trip ∙ reported.trip in
+      let same : reports.trace ≡ reported.trace = cc in
       record {
-        found = tells.found_is ∙ ap (replay_findings head.query graph) same ∙ sym told.found_is;
-        text_is = tells.text_is ∙ ap (trace_text p.timetable.network p.timetable.names p.target.0) same ∙ sym told.text_is;
+        found = reports.found_is ∙ ap (replay_findings head.query graph) same ∙ sym reported.found_is;
+        text_is = reports.text_is ∙ ap (trace_text p.timetable.network p.timetable.names p.target.0) same ∙ sym reported.text_is;
       }
 
   one_enclosed : (head : Head) (graph : PlanGraph) → IsEnclosed p found text head graph → IsEnclosed p others other head graph → One
-  one_enclosed head graph tells told =
-      let same : tells.bounds ≡ told.bounds = tells.scored.means ∙ sym told.scored.means in
+  one_enclosed head graph reports reported =
+      let same : reports.bounds ≡ reported.bounds = reports.scored.means ∙ sym reported.scored.means in
       record {
-        found = tells.found_is ∙ ap (score_findings head.query graph) same ∙ sym told.found_is;
-        text_is = tells.text_is ∙ ap (encloses_text (place_name p.timetable.names p.source.0) (place_name p.timetable.names p.target.0) head.query) same ∙ sym told.text_is;
+        found = reports.found_is ∙ ap (score_findings head.query graph) same ∙ sym reported.found_is;
+        text_is = reports.text_is ∙ ap (encloses_text (place_name p.timetable.names p.source.0) (place_name p.timetable.names p.target.0) head.query) same ∙ sym reported.text_is;
       }
 
   module _ (files : FileMap) (limits : Limits) (start : ℕ) (path : List ℕ) where

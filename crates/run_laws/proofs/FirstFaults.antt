@@ -4,7 +4,7 @@ use Rattle.file_ports.specs.Ports.{FileMap, file_at}
 use Rattle.csv_rows.specs.declared.limits.Limits.{Limits}
 use Rattle.csv_rows.specs.declared.feed_tables.Table.{Table}
 use Rattle.csv_rows.specs.declared.feed_tables.FeedFault.{FeedFault}
-use Rattle.csv_rows.specs.FeedTables.{unread_of as unread_table_of}
+use Rattle.csv_rows.specs.FeedTables.{unread_table}
 use Rattle.gtfs_tables.specs.Feeds.{FeedParts, tables_in}
 use Rattle.service_days.specs.Calendars.{calendars_in}
 use Rattle.change_times.specs.Changes.{transfers_in}
@@ -12,7 +12,7 @@ use Rattle.command_line.specs.Jobs.{TimetableModel, CutFile, FeedFolder, Journey
 use Rattle.journey_model.specs.declared.faults.Input.{Input}
 use Rattle.journey_model.specs.declared.faults.Fault.{Fault}
 use Rattle.journey_model.specs.declared.faults.Fault.TheVariants.{Read, NoMemory}
-use Rattle.journey_model.specs.Faults.{unread_of}
+use Rattle.journey_model.specs.Faults.{unread_input}
 use Rattle.journey_problem.specs.InputTables.{delay_fault}
 use Rattle.journey_problem.specs.CutProblems.{cut_problem_fault}
 use Rattle.journey_problem.specs.FeedProblems.{GtfsFolder, feed_as, feed_stop_fault, window_fault_of, IsFolderFault, IsLaterTableFault, IsWindowFault, IsFaultAfterFolder, IsFeedProblemFault}
@@ -39,11 +39,11 @@ not_ok (Err f) e ok is = absurd (cc)
 
 module _ (limits : Limits) (files : FileMap) where
   -- where no file is unread
-  quiet : (first : Option Input → Option Fault) (fault : Fault) → NotRead fault → first (unread_of fault) ≡ Some fault → first None ≡ Some fault
+  quiet : (first : Option Input → Option Fault) (fault : Fault) → NotRead fault → first (unread_input fault) ≡ Some fault → first None ≡ Some fault
   quiet first fault never is = subst (λ (u : Option Input). first u ≡ Some fault) (none_unread fault never) is
 
   module _ (folder : List ℕ) where
-    one_later : (f : FeedParts) (a b : FeedFault) → unread_table_of a ≡ None → unread_table_of b ≡ None → IsLaterTableFault limits files folder f a → IsLaterTableFault limits files folder f b → a ≡ b
+    one_later : (f : FeedParts) (a b : FeedFault) → unread_table a ≡ None → unread_table b ≡ None → IsLaterTableFault limits files folder f a → IsLaterTableFault limits files folder f b → a ≡ b
     one_later f a b u v (inl is) (inl also) =
         one_err (calendars_in files folder limits None) a b (subst (λ (t : Option Table). calendars_in files folder limits t ≡ Err a) u is)
         (subst (λ (t : Option Table). calendars_in files folder limits t ≡ Err b) v also)
@@ -53,10 +53,10 @@ module _ (limits : Limits) (files : FileMap) where
         one_err (transfers_in files folder limits None f) a b (subst (λ (t : Option Table). transfers_in files folder limits t f ≡ Err a) u is)
         (subst (λ (t : Option Table). transfers_in files folder limits t f ≡ Err b) v also)
 
-    of_tables : (fault : FeedFault) → unread_table_of fault ≡ None → tables_in files folder limits (unread_table_of fault) ≡ Err fault → tables_in files folder limits None ≡ Err fault
+    of_tables : (fault : FeedFault) → unread_table fault ≡ None → tables_in files folder limits (unread_table fault) ≡ Err fault → tables_in files folder limits None ≡ Err fault
     of_tables fault u is = subst (λ (t : Option Table). tables_in files folder limits t ≡ Err fault) u is
 
-    one_table_fault : (a b : FeedFault) → unread_table_of a ≡ None → unread_table_of b ≡ None → IsFolderFault limits files folder a → IsFolderFault limits files folder b → a ≡ b
+    one_table_fault : (a b : FeedFault) → unread_table a ≡ None → unread_table b ≡ None → IsFolderFault limits files folder a → IsFolderFault limits files folder b → a ≡ b
     one_table_fault a b u v (inl is) (inl also) = one_err (tables_in files folder limits None) a b (of_tables a u is) (of_tables b v also)
     one_table_fault a b u v (inl is) (inr (f, feed, later)) = absurd (not_feed (tables_in files folder limits None) f a feed (of_tables a u is))
     one_table_fault a b u v (inr (f, feed, later)) (inl also) = absurd (not_feed (tables_in files folder limits None) f b feed (of_tables b v also))

@@ -45,7 +45,7 @@ module _ (p : Problem) (files : FileMap) (limits : Limits) (start : ℕ) (path :
       → InCertificateFile (Some files) limits start path p P → InCertificateFile (Some files) limits start path p Q → R
   in_proof P Q R both (q, proof, is, holds) (r, more, also, others) =
       let text : also.text ≡ is.text = one_ok read_bytes also.text is.text also.reads is.reads in
-      let told : Reads is.text (Ok (r, more)) = subst (λ (t : List ℕ). Reads t (Ok (r, more))) text also.tells in
-      let one = read_once p.timetable.network p.timetable.names p.source.0 p.target.0 start is.text (Ok (r, more)) (Ok (q, proof)) told is.tells (λ e. cc) (λ e. cc) in
+      let reported : Reads is.text (Ok (r, more)) = subst (λ (t : List ℕ). Reads t (Ok (r, more))) text also.reports in
+      let one = read_once p.timetable.network p.timetable.names p.source.0 p.target.0 start is.text (Ok (r, more)) (Ok (q, proof)) reported is.reports (λ e. cc) (λ e. cc) in
       let same : (r, more) ≡ (q, proof) = cc in
       both q proof holds (subst (λ (w : Query × LowerBounds). Q w.0 w.1) same others)

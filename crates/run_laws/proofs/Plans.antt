@@ -14,7 +14,7 @@ use Rattle.decision_graph.specs.Planned.{IsPlanned}
 use Rattle.run_laws.specs.Wholes.{HasEveryRow, IsOneStrategy}
 use Rattle.run_laws.proofs.Agree.{start_same}
 use Rattle.run_laws.proofs.OneStrategy.{IsTheMean, the_best, one_best}
-use Rattle.run_laws.proofs.RideTables.{one_told}
+use Rattle.run_laws.proofs.RideTables.{one_reported}
 use Rattle.run_laws.proofs.PlaceTables.{one_tidy}
 
 module _ (n : NetworkModel) (q : Query) where
@@ -29,13 +29,13 @@ module _ (n : NetworkModel) (q : Query) where
       let both = one_best n q (unfold_plan a n q) (unfold_plan b n q) s t (of_plan a s plan) (of_plan b t other) in
       (one_tidy n q a b plan.tidy other.tidy (q.deadline.0, plan.best.safe) both.0, both.1)
 
-  told : (graph : ExpandedGraph) (bounds : Interval) → IsExpanded n q graph bounds → HasEveryRow n q graph
-  told graph bounds is = record { ready = is.ready; busy = is.busy; whole = is.whole; arrivals = is.arrivals }
+  reported : (graph : ExpandedGraph) (bounds : Interval) → IsExpanded n q graph bounds → HasEveryRow n q graph
+  reported graph bounds is = record { ready = is.ready; busy = is.busy; whole = is.whole; arrivals = is.arrivals }
 
   pub one_expanded : (a b : ExpandedGraph) (s t : Interval) → IsExpanded n q a s → IsExpanded n q b t → (a ≡ b) × (s ≡ t)
   one_expanded a b s t plan other =
       let both = one_best n q (unfold_expanded a n q) (unfold_expanded b n q) s t (of_expanded a s plan) (of_expanded b t other) in
-      (one_told n q a b (told a s plan) (told b t other) both.0, both.1)
+      (one_reported n q a b (reported a s plan) (reported b t other) both.0, both.1)
 
   by_start : {P Q : Leg → Type 0} {R : Type 0} (s t : Option Leg) → (q.source.0 ≢ q.target.0 → s ≡ t) → ((leg : Leg) → P leg → q.source.0 ≢ q.target.0) → ((leg : Leg) → Q leg → q.source.0 ≢ q.target.0)
       → (R → q.source.0 ≡ q.target.0) → MatchOption s (q.source.0 ≡ q.target.0) P → MatchOption t R Q → s ≡ t

@@ -15,7 +15,7 @@ use Rattle.journey_model.specs.declared.problem.Problem.{Problem}
 use Rattle.journey_report.specs.Findings.{Findings}
 use Rattle.journey_problem.specs.GraphFiles.{graph_in, InGraphFile}
 use Rattle.journey_answers.specs.Scores.{IsEnclosed}
-use Rattle.journey_answers.specs.Answers.{InQuery, TellsPlanned, head_of}
+use Rattle.journey_answers.specs.Answers.{InQuery, AnswersPlan, head_of}
 use Rattle.journey_answers.proofs.Bounds.{bounds_of_graph}
 use Rattle.meat_engine.specs.Ends.{EndsByScore, EndsByGraphFile}
 use Rattle.run_laws.specs.Printed.{ArrivesByFile, KeepsUpperBound}
@@ -56,12 +56,12 @@ module _ (limits : Limits) (files : FileMap) (start : ℕ) (p : Problem) (path :
   accepted q bounds graph status read safe (inl (head, other, is, inr (late, unsafe))) =
       let pair = ok_is (head, other) (head_of q bounds, graph) read_file is read in
       absurd (unsafe (subst (λ (w : Head × PlanGraph). IsSafeFor p.timetable.network w.0.query (unfold_plan w.1 p.timetable.network w.0.query)) (sym pair) safe))
-  accepted q bounds graph status read safe (inr (fault, is, told)) =
+  accepted q bounds graph status read safe (inr (fault, is, reported)) =
       absurd (ok_no_err (head_of q bounds, graph) fault read_file is read)
 
 pub printed_plan : (limits : Limits) (files : FileMap) (start alpha : ℕ) (p : Problem) (found : Findings) (text path : List ℕ) (status : ℕ)
-    → InQuery p start alpha (TellsPlanned p found text) → file_at files path ≡ Some text → length text ≤ limits.bytes → EndsByScore limits files start path p status → status ≡ 0
-printed_plan limits files start alpha p found text path status (q, worst, asked, (graph, bounds, is, planned, told, reads)) there small ends =
+    → InQuery p start alpha (AnswersPlan p found text) → file_at files path ≡ Some text → length text ≤ limits.bytes → EndsByScore limits files start path p status → status ≡ 0
+printed_plan limits files start alpha p found text path status (q, worst, asked, (graph, bounds, is, planned, reported, reads)) there small ends =
     accepted limits files start p path q bounds graph status
     (read_again limits files start p path q bounds graph text asked.source asked.target asked.start_is reads there small) planned.best.safe ends
 
@@ -75,9 +75,9 @@ is_own (Err (stop.Stuck place moment)) = refl
 is_own (Err stop.NoMemory) = tt
 
 pub never_stuck : (limits : Limits) (files : FileMap) (start alpha : ℕ) (p : Problem) (found : Findings) (text path late : List ℕ)
-    → InQuery p start alpha (TellsPlanned p found text) → file_at files path ≡ Some text → length text ≤ limits.bytes
+    → InQuery p start alpha (AnswersPlan p found text) → file_at files path ≡ Some text → length text ≤ limits.bytes
     → (head : Head) (other : PlanGraph) → graph_in limits p start None (file_at files path) ≡ Ok (head, other) → IsSafeAnswer head.query.deadline.0 (trip_by p head other late)
-never_stuck limits files start alpha p found text path late (q, worst, asked, (graph, bounds, is, planned, told, reads)) there small head other read =
+never_stuck limits files start alpha p found text path late (q, worst, asked, (graph, bounds, is, planned, reported, reads)) there small head other read =
     let again = read_again limits files start p path q bounds graph text asked.source asked.target asked.start_is reads there small in
     let pair = ok_is (head, other) (head_of q bounds, graph) (graph_in limits p start None (file_at files path)) read again in
     let trip = walk p.timetable.network (unfold_plan graph p.timetable.network q) late [] in
@@ -86,9 +86,9 @@ never_stuck limits files start alpha p found text path late (q, worst, asked, (g
 
 -- and whatever delays come, there is a trip by it
 pub always_arrives : (limits : Limits) (files : FileMap) (start alpha : ℕ) (p : Problem) (found : Findings) (text path : List ℕ) (late : ℕ → ℕ)
-    → InQuery p start alpha (TellsPlanned p found text) → file_at files path ≡ Some text → length text ≤ limits.bytes → ArePossible p.timetable.network late
+    → InQuery p start alpha (AnswersPlan p found text) → file_at files path ≡ Some text → length text ≤ limits.bytes → ArePossible p.timetable.network late
     → ArrivesByFile limits files start path p late
-always_arrives limits files start alpha p found text path late (q, worst, asked, (graph, bounds, is, planned, told, reads)) there small possible =
+always_arrives limits files start alpha p found text path late (q, worst, asked, (graph, bounds, is, planned, reported, reads)) there small possible =
     let again = read_again limits files start p path q bounds graph text asked.source asked.target asked.start_is reads there small in
     let own = arrives p.timetable.network q (unfold_plan graph p.timetable.network q) late planned.best.safe possible in
     record {
@@ -112,20 +112,20 @@ always_arrives limits files start alpha p found text path late (q, worst, asked,
         let pair = ok_is (head, other) (head_of q bounds, graph) read at again in
         let e = subst (λ (w : Head × PlanGraph). trip_by p w.0 w.1 own.delays ≡ Err stop) pair trip in
         absurd (no_fault (trip_by p (head_of q bounds) graph own.delays) own.trace stop own.trip e)
-    ends_well again own status (inr (fault, at, told)) = absurd (ok_no_err (head_of q bounds, graph) fault read at again)
+    ends_well again own status (inr (fault, at, reported)) = absurd (ok_no_err (head_of q bounds, graph) fault read at again)
 
 -- the bounds that are found of it
 pub keeps_upper : (limits : Limits) (files : FileMap) (start alpha : ℕ) (p : Problem) (found other : Findings) (text path line : List ℕ)
-    → InQuery p start alpha (TellsPlanned p found text) → file_at files path ≡ Some text → length text ≤ limits.bytes
+    → InQuery p start alpha (AnswersPlan p found text) → file_at files path ≡ Some text → length text ≤ limits.bytes
     → InGraphFile (Some files) limits start path p (IsEnclosed p other line) → KeepsUpperBound found other
-keeps_upper limits files start alpha p found other text path line (q, worst, asked, (graph, bounds, is, planned, told, reads)) there small (head, read, in_file, enclosed) =
+keeps_upper limits files start alpha p found other text path line (q, worst, asked, (graph, bounds, is, planned, reported, reads)) there small (head, read, in_file, enclosed) =
     let again = read_again limits files start p path q bounds graph text asked.source asked.target asked.start_is reads there small in
     let pair = ok_is (head, read) (head_of q bounds, graph) (graph_in limits p start None (file_at files path)) in_file.reads again in
     let own : IsEnclosed p other line (head_of q bounds) graph = subst (λ (w : Head × PlanGraph). IsEnclosed p other line w.0 w.1) pair enclosed in
     let both = bounds_of_graph p.timetable.network q (unfold_plan graph p.timetable.network q) bounds planned.best in
     let low = ap (λ (b : Interval). b.lo) own.scored.means in
     record {
-      told = bounds;
+      reported = bounds;
       found = own.bounds;
       planned_is = ap (λ (f : Findings). f.bounds) is;
       checked_is = ap (λ (f : Findings). f.bounds) own.found_is;

@@ -16,7 +16,7 @@ use Rattle.journey_model.specs.declared.problem.Problem.{Problem}
 use Rattle.journey_report.specs.Findings.{Findings, punctual_findings}
 use Rattle.journey_report.specs.AnswerTexts.{punctual_row}
 use Rattle.journey_answers.specs.Answers.{InQuery, head_of}
-use Rattle.journey_answers.specs.Punctual.{TellsPunctual}
+use Rattle.journey_answers.specs.Punctual.{AnswersPunctual}
 use Rattle.run_laws.proofs.OneStrategy.{IsThe, only_one}
 use Rattle.run_laws.proofs.PlaceTables.{one_tidy}
 use Rattle.run_laws.specs.OneAnswer.{IsOneAnswer}
@@ -38,8 +38,8 @@ one_seen n q promise a b s t is other =
     (is.later ∙ ap (later_graph (shift_for promise)) both.0 ∙ sym other.later, both.1)
 
 module _ (p : Problem) (found others : Findings) (text other : List ℕ) (promise : ℕ) where
-  one_told : (q : Query) (w : Moment) → TellsPunctual p promise found text q w → TellsPunctual p promise others other q w → IsOneAnswer found others text other
-  one_told q w (graph, chance, bounds, is, least, seen, scored, own) (graphs, chances, spans, is_other, least_other, seen_other, scored_other, own_other) =
+  one_reported : (q : Query) (w : Moment) → AnswersPunctual p promise found text q w → AnswersPunctual p promise others other q w → IsOneAnswer found others text other
+  one_reported q w (graph, chance, bounds, is, least, seen, scored, own) (graphs, chances, spans, is_other, least_other, seen_other, scored_other, own_other) =
       let both = one_seen p.timetable.network q promise graph graphs chance chances seen seen_other in
       let same : bounds ≡ spans = scored.means ∙ ap (λ (g : PlanGraph). span_of p.timetable.network (unfold_plan g p.timetable.network q)) both.0 ∙ sym scored_other.means in
       let text_of : PlanGraph → Interval → List ℕ = λ g b. plan_text p.timetable.network p.timetable.names (head_of q b) g in
@@ -48,6 +48,6 @@ module _ (p : Problem) (found others : Findings) (text other : List ℕ) (promis
         text_is = own.rows ∙ ap₂ (λ (c : Interval) (rest : List ℕ). punctual_row promise c ++ rest) both.1 (ap₂ text_of both.0 same) ∙ sym own_other.rows;
       }
 
-  pub one_punctual_answer : (start alpha : ℕ) → InQuery p start alpha (TellsPunctual p promise found text) → InQuery p start alpha (TellsPunctual p promise others other)
+  pub one_punctual_answer : (start alpha : ℕ) → InQuery p start alpha (AnswersPunctual p promise found text) → InQuery p start alpha (AnswersPunctual p promise others other)
       → IsOneAnswer found others text other
-  one_punctual_answer start alpha (q, w, is, tells) (r, v, also, told) = one_told q w tells (in_one_query p start alpha (TellsPunctual p promise others other) q r w v is also told)
+  one_punctual_answer start alpha (q, w, is, reports) (r, v, also, reported) = one_reported q w reports (in_one_query p start alpha (AnswersPunctual p promise others other) q r w v is also reported)

@@ -46,7 +46,7 @@ moments rows = map (λ row. row.by.0) rows
 abbrev before : Ride → Ride → Type 0
 before a b = Precedes a.leg b.leg
 
--- one leg does not stand before and after another
+-- one leg does not come before and after another
 one_way : (a b : Ride) → before a b → before b a → ⊥
 one_way a b first second = grind arith
 
@@ -92,63 +92,63 @@ module _ (n : NetworkModel) (q : Query) where
   same_moments r s arrivals others is =
       arrivals ∙ sym (subst (λ (leg : Leg). HasArrivals n target (ride_with leg s.after)) is others)
 
-  module _ (a b : ExpandedGraph) (start : Leg) (starts : a.start ≡ Some start) (starts_other : b.start ≡ Some start) (told : HasEveryRow n q a) (told_other : HasEveryRow n q b)
+  module _ (a b : ExpandedGraph) (start : Leg) (starts : a.start ≡ Some start) (starts_other : b.start ≡ Some start) (reported : HasEveryRow n q a) (reported_other : HasEveryRow n q b)
       (differ : q.source.0 ≢ target) (same : unfold_expanded a n q ≡ unfold_expanded b n q) where
     agree : (leg : Leg) → Stands leg (unfold_expanded a n q) → end_of n leg ≢ target → (o : Outcome) → Contains (outcomes_of n leg) o
         → pick_after a.rides leg (arrival_of n leg o.delay) ≡ pick_after b.rides leg (arrival_of n leg o.delay)
     agree leg stands =
-        let safe = told.ready.safe in
+        let safe = reported.ready.safe in
         agree_from n target (pick_after a.rides) (pick_after b.rides) (Some safe.0) start q.source.0 q.start.0 differ
         (ap (FromStart a.rides) (sym starts) ∙ same ∙ ap (FromStart b.rides) starts_other)
         (rw starts at safe.1) leg (rw starts at stands)
 
     row_there : (r s : Ride) → Contains a.rides r → Contains b.rides s → s.leg ≡ r.leg → HasAll r.after s.after
     row_there r s has there leg row own =
-        let its = All-contains (IsReadyRide n target) a.rides r told.ready.rides has in
-        let others = All-contains (IsReadyRide n target) b.rides s told_other.ready.rides there in
-        let arrivals = All-contains (HasArrivals n target) a.rides r told.arrivals has in
-        let arrivals_other = All-contains (HasArrivals n target) b.rides s told_other.arrivals there in
+        let its = All-contains (IsReadyRide n target) a.rides r reported.ready.rides has in
+        let others = All-contains (IsReadyRide n target) b.rides s reported_other.ready.rides there in
+        let arrivals = All-contains (HasArrivals n target) a.rides r reported.arrivals has in
+        let arrivals_other = All-contains (HasArrivals n target) b.rides s reported_other.arrivals there in
         let by = by_outcome r arrivals row own in
         let x = row.by.0 in
         let moment = subst (λ (list : List ℕ). Contains list x) (same_moments r s arrivals arrivals_other leg) (Contains-map (λ (w : GraphRow). w.by.0) r.after row own) in
         let found = Contains-from_map (λ (w : GraphRow). w.by.0) s.after x moment in
         let both : pick_after a.rides r.leg x ≡ pick_after b.rides r.leg x =
         subst (λ (m : ℕ). pick_after a.rides r.leg m ≡ pick_after b.rides r.leg m) by.at
-        (agree r.leg (All-contains (λ t. Stands t.leg (unfold_expanded a n q)) a.rides r told.busy.stands has) by.away by.o by.has) in
+        (agree r.leg (All-contains (λ t. Stands t.leg (unfold_expanded a n q)) a.rides r reported.busy.stands has) by.away by.o by.has) in
         let first : pick_after a.rides r.leg x ≡ Some row.leg =
-        ap (λ (rows : List GraphRow). pick_row rows x) (rows_after-own a.rides told.ready.rising r has) ∙ own_pick r.after (rows_rise r its) row own in
+        ap (λ (rows : List GraphRow). pick_row rows x) (rows_after-own a.rides reported.ready.rising r has) ∙ own_pick r.after (rows_rise r its) row own in
         let second : pick_after b.rides r.leg x ≡ Some found.0.leg =
-        ap (λ (l : Leg). pick_after b.rides l x) (sym leg) ∙ ap (λ (rows : List GraphRow). pick_row rows x) (rows_after-own b.rides told_other.ready.rising s there)
+        ap (λ (l : Leg). pick_after b.rides l x) (sym leg) ∙ ap (λ (rows : List GraphRow). pick_row rows x) (rows_after-own b.rides reported_other.ready.rising s there)
         ∙ ap (pick_row s.after) (sym found.2) ∙ own_pick s.after (rows_rise s others) found.0 found.1 in
         let next = one_found (pick_after b.rides r.leg x) found.0.leg row.leg second (sym both ∙ first) in
         subst (λ (w : GraphRow). Contains s.after w) (row_same found.0 row found.2 next) found.1
 
   one_ride : (a b : ExpandedGraph) (start : Leg) → a.start ≡ Some start → b.start ≡ Some start → HasEveryRow n q a → HasEveryRow n q b → q.source.0 ≢ target
       → unfold_expanded a n q ≡ unfold_expanded b n q → HasAll a.rides b.rides
-  one_ride a b start starts others told tolds differ same r has =
-      let stands = subst (λ (t : Tree). Stands r.leg t) same (All-contains (λ t. Stands t.leg (unfold_expanded a n q)) a.rides r told.busy.stands has) in
-      let (s, there, leg) = tolds.whole r.leg stands in
-      let its = All-contains (IsReadyRide n target) a.rides r told.ready.rides has in
-      let other = All-contains (IsReadyRide n target) b.rides s tolds.ready.rides there in
+  one_ride a b start starts others reported all_reported differ same r has =
+      let stands = subst (λ (t : Tree). Stands r.leg t) same (All-contains (λ t. Stands t.leg (unfold_expanded a n q)) a.rides r reported.busy.stands has) in
+      let (s, there, leg) = all_reported.whole r.leg stands in
+      let its = All-contains (IsReadyRide n target) a.rides r reported.ready.rides has in
+      let other = All-contains (IsReadyRide n target) b.rides s all_reported.ready.rides there in
       let rows : r.after ≡ s.after = one_rising Sooner (λ x y less more. omega (arith, less, more)) r.after s.after (rows_rise r its) (rows_rise s other)
-      (row_there a b start starts others told tolds differ same r s has there leg)
-      (row_there b a start others starts tolds told differ (sym same) s r there has (sym leg)) in
+      (row_there a b start starts others reported all_reported differ same r s has there leg)
+      (row_there b a start others starts all_reported reported differ (sym same) s r there has (sym leg)) in
       subst (λ (t : Ride). Contains b.rides t) (ap₂ ride_with leg (sym rows)) there
 
   by_start : (a b : ExpandedGraph) (s t : Option Leg) → a.start ≡ s → b.start ≡ t → HasEveryRow n q a → HasEveryRow n q b → unfold_expanded a n q ≡ unfold_expanded b n q
       → MatchOption s (q.source.0 ≡ q.target.0) (λ leg. (q.source.0 ≢ q.target.0) × IsLegOf n leg)
       → MatchOption t (q.source.0 ≡ q.target.0) (λ leg. (q.source.0 ≢ q.target.0) × IsLegOf n leg) → a ≡ b
-  by_start a b None None is other told tolds same none nothing =
+  by_start a b None None is other reported all_reported same none nothing =
       ap₂ graph_of (is ∙ sym other)
-      (no_rides a.rides (unfold_expanded a n q) q.start.0 (at_target (pick_after a.rides) a.start none) told.busy.stands
-      ∙ sym (no_rides b.rides (unfold_expanded b n q) q.start.0 (at_target (pick_after b.rides) b.start none) tolds.busy.stands))
-  by_start a b None (Some t) is other told tolds same none fit = absurd (fit.0 none)
-  by_start a b (Some s) None is other told tolds same fit none = absurd (fit.0 none)
-  by_start a b (Some s) (Some t) is other told tolds same fit fits =
+      (no_rides a.rides (unfold_expanded a n q) q.start.0 (at_target (pick_after a.rides) a.start none) reported.busy.stands
+      ∙ sym (no_rides b.rides (unfold_expanded b n q) q.start.0 (at_target (pick_after b.rides) b.start none) all_reported.busy.stands))
+  by_start a b None (Some t) is other reported all_reported same none fit = absurd (fit.0 none)
+  by_start a b (Some s) None is other reported all_reported same fit none = absurd (fit.0 none)
+  by_start a b (Some s) (Some t) is other reported all_reported same fit fits =
       let starts : a.start ≡ b.start = start_same n target (pick_after a.rides) (pick_after b.rides) a.start b.start q.source.0 q.start.0 fit.0 same in
       let there = sym starts ∙ is in
-      ap₂ graph_of starts (one_rising before one_way a.rides b.rides told.ready.rising tolds.ready.rising
-      (one_ride a b s is there told tolds fit.0 same) (one_ride b a s there is tolds told fit.0 (sym same)))
+      ap₂ graph_of starts (one_rising before one_way a.rides b.rides reported.ready.rising all_reported.ready.rising
+      (one_ride a b s is there reported all_reported fit.0 same) (one_ride b a s there is all_reported reported fit.0 (sym same)))
 
-  pub one_told : (a b : ExpandedGraph) → HasEveryRow n q a → HasEveryRow n q b → unfold_expanded a n q ≡ unfold_expanded b n q → a ≡ b
-  one_told a b told tolds same = by_start a b a.start b.start refl refl told tolds same told.ready.starts tolds.ready.starts
+  pub one_reported : (a b : ExpandedGraph) → HasEveryRow n q a → HasEveryRow n q b → unfold_expanded a n q ≡ unfold_expanded b n q → a ≡ b
+  one_reported a b reported all_reported same = by_start a b a.start b.start refl refl reported all_reported same reported.ready.starts all_reported.ready.starts

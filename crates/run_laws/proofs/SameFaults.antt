@@ -6,14 +6,14 @@ use Rattle.csv_rows.specs.declared.limits.Limits.{Limits}
 use Rattle.csv_rows.specs.declared.feed_tables.FeedFault.{FeedFault}
 use Rattle.csv_rows.specs.declared.feed_tables.Table.{Table}
 use Rattle.csv_rows.specs.declared.feed_tables.Table.TheVariants.{Calendar, CalendarDates, Transfers}
-use Rattle.csv_rows.specs.FeedTables.{path_of, unread_of as unread_table_of}
+use Rattle.csv_rows.specs.FeedTables.{path_of, unread_table}
 use Rattle.table_files.specs.Loading.{load_of}
 use Rattle.gtfs_tables.specs.Feeds.{FeedParts, tables_in, tables_from, IsFeedOf}
 use Rattle.service_days.specs.Calendars.{calendars_in, calendars_from, calendar_from, dates_from}
 use Rattle.change_times.specs.Changes.{transfers_in, transfers_from}
 use Rattle.command_line.specs.Jobs.{JourneyModel}
 use Rattle.journey_model.specs.declared.faults.Fault.{Fault}
-use Rattle.journey_model.specs.Faults.{unread_of}
+use Rattle.journey_model.specs.Faults.{unread_input}
 use Rattle.journey_problem.specs.InputTables.{delay_fault}
 use Rattle.journey_problem.specs.FeedProblems.{GtfsFolder, IsFolderFault, IsLaterTableFault, IsFaultAfterFolder, IsFeedProblemFault}
 use Rattle.journey_problem.proofs.SameFiles.{same_folder}
@@ -32,15 +32,15 @@ module _ (limits : Limits) (files other : FileMap) (same : (path : List ℕ) →
   same_transfers folder unread feed = ap (λ (f : Option (List ℕ)). transfers_from feed (load_of unread limits Transfers f)) (same (path_of folder Transfers))
 
   same_later_fault : (folder : List ℕ) (f : FeedParts) (fault : FeedFault) → IsLaterTableFault limits files folder f fault → IsLaterTableFault limits other folder f fault
-  same_later_fault folder f fault (inl is) = inl (sym (same_calendars folder (unread_table_of fault)) ∙ is)
-  same_later_fault folder f fault (inr (ok, is)) = inr (subst (λ r. IsOk r) (same_calendars folder None) ok, sym (same_transfers folder (unread_table_of fault) f) ∙ is)
+  same_later_fault folder f fault (inl is) = inl (sym (same_calendars folder (unread_table fault)) ∙ is)
+  same_later_fault folder f fault (inr (ok, is)) = inr (subst (λ r. IsOk r) (same_calendars folder None) ok, sym (same_transfers folder (unread_table fault) f) ∙ is)
 
   same_folder_fault : (folder : List ℕ) (fault : FeedFault) → IsFolderFault limits files folder fault → IsFolderFault limits other folder fault
-  same_folder_fault folder fault (inl is) = inl (sym (same_tables folder (unread_table_of fault)) ∙ is)
+  same_folder_fault folder fault (inl is) = inl (sym (same_tables folder (unread_table fault)) ∙ is)
   same_folder_fault folder fault (inr (f, feed, later)) = inr (f, subst (λ r. IsFeedOf r f) (same_tables folder None) feed, same_later_fault folder f fault later)
 
   same_fault_after : (horizon : ℕ) (j : JourneyModel) (h : GtfsFolder) (fault : Fault) → IsFaultAfterFolder limits files horizon j h fault → IsFaultAfterFolder limits other horizon j h fault
-  same_fault_after horizon j h fault (inl is) = inl (ap (λ (f : Option (List ℕ)). delay_fault limits f (unread_of fault)) (sym (same j.delays)) ∙ is)
+  same_fault_after horizon j h fault (inl is) = inl (ap (λ (f : Option (List ℕ)). delay_fault limits f (unread_input fault)) (sym (same j.delays)) ∙ is)
   same_fault_after horizon j h fault (inr (none, window)) = inr (ap (λ (f : Option (List ℕ)). delay_fault limits f None) (sym (same j.delays)) ∙ none, window)
 
   pub same_feed_fault : (folder : List ℕ) (horizon : ℕ) (j : JourneyModel) (fault : Fault) → IsFeedProblemFault limits files folder horizon j fault → IsFeedProblemFault limits other folder horizon j fault

@@ -8,7 +8,7 @@ use Rattle.plan_graph.specs.declared.PlanGraph.{PlanGraph}
 use Rattle.graph_text.specs.GraphTexts.{expanded_text, plan_text}
 use Rattle.journey_model.specs.declared.problem.Problem.{Problem}
 use Rattle.journey_report.specs.Findings.{Findings, expand_findings, plan_findings}
-use Rattle.journey_answers.specs.Answers.{InQuery, TellsWorst, TellsExpanded, TellsPlanned, head_of}
+use Rattle.journey_answers.specs.Answers.{InQuery, AnswersSafe, AnswersExpand, AnswersPlan, head_of}
 use Rattle.run_laws.proofs.Plans.{one_planned, one_expanded}
 use Rattle.run_laws.specs.OneAnswer.{IsOneAnswer}
 use Rattle.run_laws.proofs.Queries.{in_one_query}
@@ -17,19 +17,19 @@ module _ (p : Problem) (found others : Findings) (text other : List ℕ) where
   abbrev One : Type 0
   One = IsOneAnswer found others text other
 
-  one_worst_told : (q : Query) (w : Moment) → TellsWorst p found text q w → TellsWorst p others other q w → One
-  one_worst_told q w tells told = record { found = tells.0 ∙ sym told.0; text_is = tells.1 ∙ sym told.1 }
+  one_worst_reported : (q : Query) (w : Moment) → AnswersSafe p found text q w → AnswersSafe p others other q w → One
+  one_worst_reported q w reports reported = record { found = reports.0 ∙ sym reported.0; text_is = reports.1 ∙ sym reported.1 }
 
-  one_plan_told : (q : Query) (w : Moment) → TellsPlanned p found text q w → TellsPlanned p others other q w → One
-  one_plan_told q w (graph, bounds, is, plan, text_is, reads) (graphs, spans, is_other, plan_other, text_other, reads_other) =
+  one_plan_reported : (q : Query) (w : Moment) → AnswersPlan p found text q w → AnswersPlan p others other q w → One
+  one_plan_reported q w (graph, bounds, is, plan, text_is, reads) (graphs, spans, is_other, plan_other, text_other, reads_other) =
       let both = one_planned p.timetable.network q graph graphs bounds spans plan plan_other in
       record {
         found = is ∙ ap₂ (plan_findings q w) both.0 both.1 ∙ sym is_other;
         text_is = text_is ∙ ap₂ (λ (b : Interval) (g : PlanGraph). plan_text p.timetable.network p.timetable.names (head_of q b) g) both.1 both.0 ∙ sym text_other;
       }
 
-  one_expanded_told : (q : Query) (w : Moment) → TellsExpanded p found text q w → TellsExpanded p others other q w → One
-  one_expanded_told q w (graph, bounds, is, plan, text_is) (graphs, spans, is_other, plan_other, text_other) =
+  one_expanded_reported : (q : Query) (w : Moment) → AnswersExpand p found text q w → AnswersExpand p others other q w → One
+  one_expanded_reported q w (graph, bounds, is, plan, text_is) (graphs, spans, is_other, plan_other, text_other) =
       let both = one_expanded p.timetable.network q graph graphs bounds spans plan plan_other in
       record {
         found = is ∙ ap₂ (expand_findings q w) both.0 both.1 ∙ sym is_other;
@@ -37,11 +37,11 @@ module _ (p : Problem) (found others : Findings) (text other : List ℕ) where
       }
 
   module _ (start alpha : ℕ) where
-    pub one_safe_answer : InQuery p start alpha (TellsWorst p found text) → InQuery p start alpha (TellsWorst p others other) → One
-    one_safe_answer (q, w, is, tells) (r, v, also, told) = one_worst_told q w tells (in_one_query p start alpha (TellsWorst p others other) q r w v is also told)
+    pub one_safe_answer : InQuery p start alpha (AnswersSafe p found text) → InQuery p start alpha (AnswersSafe p others other) → One
+    one_safe_answer (q, w, is, reports) (r, v, also, reported) = one_worst_reported q w reports (in_one_query p start alpha (AnswersSafe p others other) q r w v is also reported)
 
-    pub one_plan_answer : InQuery p start alpha (TellsPlanned p found text) → InQuery p start alpha (TellsPlanned p others other) → One
-    one_plan_answer (q, w, is, tells) (r, v, also, told) = one_plan_told q w tells (in_one_query p start alpha (TellsPlanned p others other) q r w v is also told)
+    pub one_plan_answer : InQuery p start alpha (AnswersPlan p found text) → InQuery p start alpha (AnswersPlan p others other) → One
+    one_plan_answer (q, w, is, reports) (r, v, also, reported) = one_plan_reported q w reports (in_one_query p start alpha (AnswersPlan p others other) q r w v is also reported)
 
-    pub one_expanded_answer : InQuery p start alpha (TellsExpanded p found text) → InQuery p start alpha (TellsExpanded p others other) → One
-    one_expanded_answer (q, w, is, tells) (r, v, also, told) = one_expanded_told q w tells (in_one_query p start alpha (TellsExpanded p others other) q r w v is also told)
+    pub one_expanded_answer : InQuery p start alpha (AnswersExpand p found text) → InQuery p start alpha (AnswersExpand p others other) → One
+    one_expanded_answer (q, w, is, reports) (r, v, also, reported) = one_expanded_reported q w reports (in_one_query p start alpha (AnswersExpand p others other) q r w v is also reported)

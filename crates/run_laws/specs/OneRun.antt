@@ -17,7 +17,7 @@ pub record KnownRun (files : FileMap) (limits : Limits) (words : List (List ℕ)
   pub err : SinkState
   pub err_after : SinkState
   pub run : IsRun limits words report before after out out_after err err_after
-  pub tells : before.files ≡ Some files
+  pub reports : before.files ≡ Some files
   pub had : out.written ≡ Some old
   pub has : out_after.written ≡ new
 

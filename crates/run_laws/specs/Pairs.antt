@@ -61,7 +61,7 @@ IsRunWithin limits r = IsRun limits r.words r.report r.before.files r.after.file
 
 -- the files hold these bytes, the streams had received these, and nothing failed in the run
 pub record IsUntroubled (files : FileMap) (old said : List ℕ) (r : RunModel) : Type 0 where
-  pub tells : r.before.files.files ≡ Some files
+  pub reports : r.before.files.files ≡ Some files
   pub had : r.before.out.written ≡ Some old
   pub had_said : r.before.err.written ≡ Some said
   pub files_calm : ¬ Rose r.before.files.faults r.after.files.faults

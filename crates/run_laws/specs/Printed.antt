@@ -23,9 +23,9 @@ pub record ArrivesByFile (limits : Limits) (files : FileMap) (start : ℕ) (path
 
 -- what a check finds has the upper bound of what was planned, and no lesser lower one
 pub record KeepsUpperBound (planned checked : Findings) : Type 0 where
-  pub told : Interval
+  pub reported : Interval
   pub found : Interval
-  pub planned_is : planned.bounds ≡ Some told
+  pub planned_is : planned.bounds ≡ Some reported
   pub checked_is : checked.bounds ≡ Some found
-  pub upper : found.hi ≡ told.hi
-  pub lower : told.lo ≤ found.lo
+  pub upper : found.hi ≡ reported.hi
+  pub lower : reported.lo ≤ found.lo

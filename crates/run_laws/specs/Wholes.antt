@@ -9,7 +9,7 @@ use Rattle.plan_graph.specs.Unfold.{unfold_expanded, unfold_plan}
 use Rattle.plan_graph.specs.Ready.{IsReady, IsBusy}
 use Rattle.leg_extract.specs.Extracted.{HasArrivals, HasEachRide}
 
--- its rides are those that stand in its tree, each with a row for each outcome
+-- its rides are those that are in its tree, each with a row for each outcome
 pub record HasEveryRow (network : NetworkModel) (query : Query) (graph : ExpandedGraph) : Type 0 where
   pub ready : IsReady network query graph
   pub busy : IsBusy network query graph

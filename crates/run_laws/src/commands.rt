@@ -4,7 +4,7 @@ ghost use Rattle.csv_rows.specs.declared.limits.Limits.{Limits as Most};
 ghost use Rattle.file_ports.specs.Ports.{FileMap, file_at};
 ghost use Rattle.journey_model.specs.declared.problem.Problem.{Problem as Parts};
 ghost use Rattle.journey_report.specs.Findings.{Findings};
-ghost use Rattle.journey_answers.specs.Answers.{InQuery, TellsPlanned};
+ghost use Rattle.journey_answers.specs.Answers.{InQuery, AnswersPlan};
 ghost use Rattle.meat_engine.specs.Ends.{EndsByScore};
 ghost use Rattle.graph_text.specs.declared.Head.{Head as HeadParts};
 ghost use Rattle.plan_graph.specs.declared.PlanGraph.{PlanGraph as Graph};
@@ -23,7 +23,7 @@ ghost use Rattle.decision_graph.specs.Planned.{IsPlanned};
 ghost use Rattle.journey_answers.specs.Departures.{query_until};
 ghost use Rattle.lower_proof.specs.Certificates.{IsLeastAtStart};
 ghost use Rattle.lower_proof.specs.Promises.{IsBestCertificate};
-ghost use Rattle.journey_answers.specs.Certified.{TellsCertificate};
+ghost use Rattle.journey_answers.specs.Certified.{AnswersCertify};
 ghost use Rattle.meat_engine.specs.Ends.{EndsByCertificateFile, EndsByDepartures, EndsByLatest};
 ghost use Rattle.run_laws.specs.Printed.{ArrivesByFile, KeepsUpperBound};
 
@@ -31,14 +31,14 @@ ghost use Rattle.run_laws.specs.Printed.{ArrivesByFile, KeepsUpperBound};
 pub fn a_printed_plan_is_accepted()
     ensures { (limits : Most) (files : FileMap) (start alpha : ℕ) (p : Parts) (found : Findings) (text path : Bytes ℕ)
         (status : ℕ) →
-        InQuery p start alpha (TellsPlanned p found text) → file_at files path ≡ Some text → length text ≤ limits.bytes →
+        InQuery p start alpha (AnswersPlan p found text) → file_at files path ≡ Some text → length text ≤ limits.bytes →
         EndsByScore limits files start path p status → status ≡ 0 }
 {}
 
 /// And `replay` by this graph is never stuck, whatever delays come, and arrives by the deadline.
 pub fn a_printed_plan_is_never_stuck()
     ensures { (limits : Most) (files : FileMap) (start alpha : ℕ) (p : Parts) (found : Findings) (text path late : Bytes ℕ) →
-        InQuery p start alpha (TellsPlanned p found text) → file_at files path ≡ Some text → length text ≤ limits.bytes →
+        InQuery p start alpha (AnswersPlan p found text) → file_at files path ≡ Some text → length text ≤ limits.bytes →
         (head : HeadParts) (graph : Graph) → graph_in limits p start None (file_at files path) ≡ Ok (head, graph) →
         IsSafeAnswer head.query.deadline.0 (trip_by p head graph late) }
 {}
@@ -48,7 +48,7 @@ pub fn a_printed_plan_is_never_stuck()
 pub fn a_printed_plan_arrives()
     ensures { (limits : Most) (files : FileMap) (start alpha : ℕ) (p : Parts) (found : Findings) (text path : Bytes ℕ)
         (late : ℕ → ℕ) →
-        InQuery p start alpha (TellsPlanned p found text) → file_at files path ≡ Some text → length text ≤ limits.bytes →
+        InQuery p start alpha (AnswersPlan p found text) → file_at files path ≡ Some text → length text ≤ limits.bytes →
         ArePossible p.timetable.network late → ArrivesByFile limits files start path p late }
 {}
 
@@ -56,7 +56,7 @@ pub fn a_printed_plan_arrives()
 pub fn a_printed_plan_keeps_its_upper_bound()
     ensures { (limits : Most) (files : FileMap) (start alpha : ℕ) (p : Parts) (found other : Findings)
         (text path line : Bytes ℕ) →
-        InQuery p start alpha (TellsPlanned p found text) → file_at files path ≡ Some text → length text ≤ limits.bytes →
+        InQuery p start alpha (AnswersPlan p found text) → file_at files path ≡ Some text → length text ≤ limits.bytes →
         InGraphFile (Some files) limits start path p (IsEnclosed p other line) → KeepsUpperBound found other }
 {}
 
@@ -64,7 +64,7 @@ pub fn a_printed_plan_keeps_its_upper_bound()
 pub fn a_printed_certificate_is_accepted()
     ensures { (limits : Most) (files : FileMap) (start alpha : ℕ) (p : Parts) (found : Findings) (text path : Bytes ℕ)
         (status : ℕ) →
-        InQuery p start alpha (TellsCertificate p found text) → file_at files path ≡ Some text → length text ≤ limits.bytes →
+        InQuery p start alpha (AnswersCertify p found text) → file_at files path ≡ Some text → length text ≤ limits.bytes →
         EndsByCertificateFile limits files start path p status → status ≡ 0 }
 {}
 

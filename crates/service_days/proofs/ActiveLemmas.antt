@@ -4,7 +4,7 @@ use Rattle.std.proofs.lemmas.Option.{slice_get-get_or, slice_get_past}
 use Rattle.csv_rows.specs.declared.columns.Column.TheVariants.{ServiceId}
 use Rattle.csv_rows.specs.declared.feed_tables.Table.TheVariants.{Calendar}
 use Rattle.csv_rows.specs.First.{any_below}
-use Rattle.csv_rows.specs.Tables.{row_count, place_in, field}
+use Rattle.csv_rows.specs.Tables.{row_count, number_in, field}
 use Rattle.csv_rows.proofs.IdLemmas.{one_row, no_row, place-here}
 use Rattle.csv_rows.proofs.ListLemmas.{length-list_below, get-list_below}
 use Rattle.service_days.specs.declared.exceptions.Exception.{Exception}
@@ -16,7 +16,7 @@ use Rattle.service_days.specs.Services.{runs_within, period_runs, runs_of_servic
 use Rattle.service_days.specs.Calendars.{is_active_service, AreDistinctRows}
 
 -- the period of a service is that of its row
-runs_of : (t : List (List (List ℕ))) → AreDistinctRows t → (service : List ℕ) (day : ℤ) (o : Option ℕ) → place_in service (service_ids t) ≡ o
+runs_of : (t : List (List (List ℕ))) → AreDistinctRows t → (service : List ℕ) (day : ℤ) (o : Option ℕ) → number_in service (service_ids t) ≡ o
     → period_runs (periods_of t) day o ≡ any_below (runs_in_row t service day) (row_count t)
 runs_of t d service day None h =
     sym (no_row (field t ServiceId) (row_count t) service (λ i. runs_in_period (period_of t i) day) h)
@@ -32,12 +32,12 @@ pub runs_is : (calendar dates : List (List (List ℕ))) (ids : List (List ℕ)) 
     → AreNumbered dates (row_count dates) (service_ids calendar) ids exceptions
     → (service : List ℕ) (day : ℤ) → runs_of_service ids (periods_of calendar) exceptions service day ≡ is_active_service calendar dates service day
 runs_is calendar dates ids exceptions d n service day =
-    let o = place_in service ids in
+    let o = number_in service ids in
     let periods = periods_of calendar in
     let m = row_count calendar in
     let past : (k : ℕ) → length (service_ids calendar) ≤ k → period_runs periods day (Some k) ≡ false
     = λ k l. ap (λ p. runs_within p day) (slice_get_past periods k (omega (arith, l, length-list_below (field calendar ServiceId) m, length-list_below (period_of calendar) m))) in
-    let held = n.kept service (period_runs periods day) refl past ∙ runs_of calendar d service day (place_in service (service_ids calendar)) refl in
+    let held = n.kept service (period_runs periods day) refl past ∙ runs_of calendar d service day (number_in service (service_ids calendar)) refl in
     ap (λ b. not b && (has_at exceptions day true o || period_runs periods day o)) (n.is service day false)
     ∙ ap (λ b. not (is_excepted dates (row_count dates) service day false) && (b || period_runs periods day o)) (n.is service day true)
     ∙ ap (λ b. not (is_excepted dates (row_count dates) service day false) && (is_excepted dates (row_count dates) service day true || b)) held

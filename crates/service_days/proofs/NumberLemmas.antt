@@ -6,7 +6,7 @@ use mathlib.Core.Bool.{beq}
 use Rattle.plan_model.specs.NameLists.{Adds, IsTrimmed}
 use Rattle.std.proofs.lemmas.List.Elements.{All-push}
 use Rattle.csv_rows.specs.First.{any_below}
-use Rattle.csv_rows.specs.Tables.{place_in}
+use Rattle.csv_rows.specs.Tables.{number_in}
 use Rattle.std.proofs.lemmas.Slice.Eq.{bytes_eq-Decides}
 use Rattle.std.proofs.lemmas.Bool.{false_from_ne_true, or_from}
 use Rattle.std.proofs.lemmas.Option.{none-some}
@@ -24,7 +24,7 @@ asks_or asks n None false h g = refl
 
 -- what is false of no number and of the next one is the same after a name is added
 pub asks-adds : (old new : List (List ℕ)) (x : List ℕ) (added : Bool) (asks : Option ℕ → Bool) (name : List ℕ) → Adds old new x added → asks None ≡ false → asks (Some (length old)) ≡ false
-    → asks (place_in name new) ≡ asks (place_in name old)
+    → asks (number_in name new) ≡ asks (number_in name old)
 asks-adds old new x added asks name a h g = grind (arith, cases_Bool added, place-push, asks_or)
 
 pub length-adds : (old new : List (List ℕ)) (x : List ℕ) (added : Bool) → Adds old new x added → (length old ≤ length new) × (length new ≤ length old + 1)
@@ -38,15 +38,15 @@ trimmed-adds old new x false a h trimmed = subst (All IsTrimmed) (sym a.0) h
 or_swap : (a b : Bool) → (a || b) ≡ (b || a)
 or_swap a b = grind (arith, cases_Bool a, cases_Bool b)
 
-bytes_self : (x y : List ℕ) (ids : List (List ℕ)) (m : ℕ) → place_in x ids ≡ Some m → place_in y ids ≡ None → bytes_eq x y ≡ false
+bytes_self : (x y : List ℕ) (ids : List (List ℕ)) (m : ℕ) → number_in x ids ≡ Some m → number_in y ids ≡ None → bytes_eq x y ≡ false
 bytes_self x y ids m h g =
     false_from_ne_true (bytes_eq x y) (λ t.
-    let e : x ≡ y = (bytes_eq-Decides x y).0 t in none-some m (sym (sym h ∙ ap (λ z. place_in z ids) e ∙ g)))
+    let e : x ≡ y = (bytes_eq-Decides x y).0 t in none-some m (sym (sym h ∙ ap (λ z. number_in z ids) e ∙ g)))
 
 -- the exceptions of a service after one more
-excepts : (ids : List (List ℕ)) (before after : List Exception) (x : List ℕ) (m : ℕ) (d : ℤ) (a : Bool) → place_in x ids ≡ Some m
+excepts : (ids : List (List ℕ)) (before after : List Exception) (x : List ℕ) (m : ℕ) (d : ℤ) (a : Bool) → number_in x ids ≡ Some m
     → ((e : Exception) → has after e ≡ (same (record { service = m; day = d; adds = a }) e || has before e))
-    → (name : List ℕ) (day : ℤ) (adds : Bool) (o : Option ℕ) → place_in name ids ≡ o
+    → (name : List ℕ) (day : ℤ) (adds : Bool) (o : Option ℕ) → number_in name ids ≡ o
     → has_at after day adds o ≡ ((bytes_eq x name && (int_eq d day && beq a adds)) || has_at before day adds o)
 excepts ids before after x m d a here h name day adds None g =
     sym (ap (λ b. (b && (int_eq d day && beq a adds)) || false) (bytes_self x name ids m here g))
@@ -66,7 +66,7 @@ numbered_next t i first old ids before after n room a =
     record {
       is = λ name day adds.
           rw add-one
-          (excepts ids before after d.service a.number d.day d.adds a.place a.exceptions name day adds (place_in name ids) refl
+          (excepts ids before after d.service a.number d.day d.adds a.place a.exceptions name day adds (number_in name ids) refl
           ∙ ap (λ b. is_for d name day adds || b) (asks-adds old ids d.service a.new (has_at before day adds) name a.added refl (free day adds) ∙ n.is name day adds)
           ∙ or_swap (is_for d name day adds) (is_excepted t i name day adds));
       fresh = λ e l.
@@ -82,7 +82,7 @@ pub numbered_none : (t : List (List (List ℕ))) (ids : List (List ℕ)) (except
 unfolding any_below
 numbered_none t ids exceptions e =
     subst (λ (xs : List Exception). AreNumbered t 0 ids ids xs) (sym e)
-    (record { is = λ name day adds. none_at (place_in name ids) day adds; fresh = λ e l. refl; kept = λ name asks h g. refl })
+    (record { is = λ name day adds. none_at (number_in name ids) day adds; fresh = λ e l. refl; kept = λ name asks h g. refl })
   where
     none_at : (o : Option ℕ) (day : ℤ) (adds : Bool) → has_at [] day adds o ≡ false
     none_at None day adds = refl

@@ -8,7 +8,7 @@ use Rattle.csv_rows.specs.declared.feed_tables.FeedFault.{FeedFault}
 use Rattle.csv_rows.specs.declared.feed_tables.FeedFault.TheVariants as fault
 use Rattle.table_files.specs.declared.loading.Loaded.{Loaded}
 use Rattle.csv_rows.specs.declared.limits.Limits.{Limits}
-use Rattle.csv_rows.specs.FeedTables.{unread_of, IsFaultOf}
+use Rattle.csv_rows.specs.FeedTables.{unread_table, IsFaultOf}
 use Rattle.table_files.specs.Loading.{load_in, loaded_rows}
 use Rattle.service_days.specs.declared.periods.Period.{Period}
 use Rattle.service_days.specs.declared.exceptions.Exception.{Exception}
@@ -52,23 +52,23 @@ module _ (missing missing' : Bool) (ids ids' : List (List ℕ)) (periods : List 
 
 -- the fault of the calendar comes first
 pub calendar_first : (files : Option FileMap) (folder : List ℕ) (limits : Limits) (f : FeedFault)
-    → IfSome files (λ m. f ≢ fault.NoMemory → calendar_from (load_in m folder limits (unread_of f) table.Calendar) ≡ Err f)
-    → IfSome files (λ m. f ≢ fault.NoMemory → calendars_in m folder limits (unread_of f) ≡ Err f)
+    → IfSome files (λ m. f ≢ fault.NoMemory → calendar_from (load_in m folder limits (unread_table f) table.Calendar) ≡ Err f)
+    → IfSome files (λ m. f ≢ fault.NoMemory → calendars_in m folder limits (unread_table f) ≡ Err f)
 unfolding calendars_in
 calendar_first None folder limits f h = tt
 calendar_first (Some m) folder limits f h = λ free.
-    ap (λ r. calendars_from r (dates_from (load_in m folder limits (unread_of f) table.CalendarDates))) (h free)
+    ap (λ r. calendars_from r (dates_from (load_in m folder limits (unread_table f) table.CalendarDates))) (h free)
 
 -- and then that of the exceptions
 pub dates_first : (files : Option FileMap) (folder : List ℕ) (limits : Limits) (f : FeedFault) (missing : Bool) (ids : List (List ℕ)) (periods : List Period)
     → IfSome files (λ m. IsCalendar (calendar_from (load_in m folder limits None table.Calendar)) missing ids periods)
     → IsFaultOf table.CalendarDates f
-    → IfSome files (λ m. f ≢ fault.NoMemory → dates_from (load_in m folder limits (unread_of f) table.CalendarDates) ≡ Err f)
-    → IfSome files (λ m. f ≢ fault.NoMemory → calendars_in m folder limits (unread_of f) ≡ Err f)
+    → IfSome files (λ m. f ≢ fault.NoMemory → dates_from (load_in m folder limits (unread_table f) table.CalendarDates) ≡ Err f)
+    → IfSome files (λ m. f ≢ fault.NoMemory → calendars_in m folder limits (unread_table f) ≡ Err f)
 unfolding calendars_in
 dates_first None folder limits f missing ids periods c own h = tt
 dates_first (Some m) folder limits f missing ids periods c own h = λ free.
-    let load = load_in m folder limits (unread_of f) in
+    let load = load_in m folder limits (unread_table f) in
     dates_stop (calendar_from (load table.Calendar)) (dates_from (load table.CalendarDates)) missing ids periods f
     (subst (λ r. IsCalendar (calendar_from r) missing ids periods) (sym (load_in-other m folder limits f table.CalendarDates table.Calendar own refl)) c) (h free)
 

@@ -14,7 +14,7 @@ use Rattle.csv_rows.specs.declared.feed_tables.FeedFault.TheVariants.{BadField}
 use Rattle.csv_rows.specs.First.{first_below, any_below}
 use Rattle.csv_rows.specs.Names.{name_in}
 use Rattle.csv_rows.specs.RowFaults.{first_lack}
-use Rattle.csv_rows.specs.Tables.{row_count, place_of, field_at}
+use Rattle.csv_rows.specs.Tables.{row_count, index_of, field_at}
 use Rattle.service_days.specs.declared.dates.DateColumns.{DateColumns}
 use Rattle.service_days.specs.CalendarForms.{adds_in}
 
@@ -34,7 +34,7 @@ date_from line service date kind =
 
 -- the indexes of the columns
 abbrev pub date_columns : List (List (List ℕ)) → DateColumns
-date_columns t = record { service = place_of ServiceId t; date = place_of Date t; kind = place_of ExceptionType t }
+date_columns t = record { service = index_of ServiceId t; date = index_of Date t; kind = index_of ExceptionType t }
 
 -- the exception of row i
 abbrev pub date_in : List (List (List ℕ)) → DateColumns → ℕ → Result ServiceDate FeedFault

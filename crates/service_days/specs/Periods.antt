@@ -15,7 +15,7 @@ use Rattle.csv_rows.specs.First.{first_below}
 use Rattle.csv_rows.specs.Lists.{list_below}
 use Rattle.csv_rows.specs.Names.{name_in}
 use Rattle.csv_rows.specs.RowFaults.{first_lack, repeated_id}
-use Rattle.csv_rows.specs.Tables.{row_count, place_of, field_at, field}
+use Rattle.csv_rows.specs.Tables.{row_count, index_of, field_at, field}
 use Rattle.service_days.specs.declared.periods.Week.{Week}
 use Rattle.service_days.specs.declared.periods.Period.{Period}
 use Rattle.service_days.specs.declared.periods.PeriodColumns.{PeriodColumns}
@@ -60,16 +60,16 @@ period_from line service week first last =
 -- the indexes of the columns
 abbrev pub period_columns : List (List (List ℕ)) → PeriodColumns
 period_columns t = record {
-  service = place_of ServiceId t;
-  monday = place_of Monday t;
-  tuesday = place_of Tuesday t;
-  wednesday = place_of Wednesday t;
-  thursday = place_of Thursday t;
-  friday = place_of Friday t;
-  saturday = place_of Saturday t;
-  sunday = place_of Sunday t;
-  first = place_of StartDate t;
-  last = place_of EndDate t;
+  service = index_of ServiceId t;
+  monday = index_of Monday t;
+  tuesday = index_of Tuesday t;
+  wednesday = index_of Wednesday t;
+  thursday = index_of Thursday t;
+  friday = index_of Friday t;
+  saturday = index_of Saturday t;
+  sunday = index_of Sunday t;
+  first = index_of StartDate t;
+  last = index_of EndDate t;
 }
 
 -- the flags and the period of row i

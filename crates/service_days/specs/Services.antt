@@ -1,6 +1,6 @@
 -- On which days services run, by their numbers.
 use Rattle.std.specs.Prelude.{ℕ, ℤ, not, ◌&&◌, ◌||◌, Bool, true, false, List, slice_get, Option, Some, None}
-use Rattle.csv_rows.specs.Tables.{place_in}
+use Rattle.csv_rows.specs.Tables.{number_in}
 use Rattle.service_days.specs.declared.periods.Period.{Period}
 use Rattle.service_days.specs.declared.exceptions.Exception.{Exception}
 use Rattle.service_days.specs.Periods.{runs_in_period}
@@ -22,7 +22,7 @@ runs_at periods exceptions day service =
 
 -- whether a service runs on a day
 abbrev pub runs_of_service : List (List ℕ) → List Period → List Exception → List ℕ → ℤ → Bool
-runs_of_service ids periods exceptions service day = runs_at periods exceptions day (place_in service ids)
+runs_of_service ids periods exceptions service day = runs_at periods exceptions day (number_in service ids)
 
 -- services by their numbers, with their periods and exceptions
 pub record ServiceParts : Type 0 where

@@ -2,7 +2,7 @@
 ghost use Rattle.std.specs.Prelude.{◌≡◌, ◌<◌, Ok, IfOk};
 ghost use Rattle.std.specs.Result.{result_err};
 ghost use Rattle.csv_rows.specs.declared.feed_tables.Table.TheVariants.{CalendarDates as DatesTable};
-ghost use Rattle.csv_rows.specs.RowFaults.{TellsFirst};
+ghost use Rattle.csv_rows.specs.RowFaults.{ReportsFirst};
 ghost use Rattle.csv_rows.specs.Tables.{row_count};
 ghost use Rattle.service_days.specs.Dates.{date_columns, date_in};
 
@@ -31,9 +31,9 @@ pub(crate) fn date_columns(rows: &Rows) -> DateColumns
     ensures { result ≡ date_columns rows.now }
 {
     DateColumns {
-        service: rows.place_of(Column::ServiceId),
-        date: rows.place_of(Column::Date),
-        kind: rows.place_of(Column::ExceptionType),
+        service: rows.index_of(Column::ServiceId),
+        date: rows.index_of(Column::Date),
+        kind: rows.index_of(Column::ExceptionType),
     }
 }
 
@@ -46,7 +46,7 @@ pub(crate) fn read_exception(
     requires { row < row_count rows.now }
     ensures exception { IfOk result (λ e. date_in rows.now columns row
         ≡ Ok (record { service = e.service.now; day = e.day; adds = e.adds })) }
-    ensures tells { TellsFirst DatesTable (result_err (date_in rows.now columns row)) result }
+    ensures reports { ReportsFirst DatesTable (result_err (date_in rows.now columns row)) result }
 {
     let line = rows.line(row);
     let Some(service) = read_name(rows.field_at(row, columns.service)) else {

@@ -2,7 +2,7 @@
 ghost use Rattle.std.specs.Prelude.{◌≡◌, ◌<◌, ◌+◌, ◌-◌, ◌^◌, ◌||◌, IfOk, OnOk, length, All};
 ghost use Rattle.csv_rows.specs.declared.feed_tables.Table.TheVariants.{CalendarDates as DatesTable};
 ghost use Rattle.csv_rows.specs.First.{first_below};
-ghost use Rattle.csv_rows.specs.RowFaults.{TellsFirst};
+ghost use Rattle.csv_rows.specs.RowFaults.{ReportsFirst};
 ghost use Rattle.csv_rows.specs.Tables.{row_count};
 ghost use Rattle.plan_model.specs.NameLists.{IsTrimmed};
 ghost use Rattle.service_days.specs.declared.exceptions.Exception.{Exception};
@@ -84,7 +84,7 @@ fn read_rows<'a>(
     ensures numbered { IfOk result (λ exceptions.
         AreNumbered rows.now (row_count rows.now) services.old services.new exceptions.keys) }
     ensures trimmed { OnOk result (All IsTrimmed services.new) }
-    ensures tells { TellsFirst DatesTable (first_below (bad_date rows.now) (row_count rows.now)) result }
+    ensures reports { ReportsFirst DatesTable (first_below (bad_date rows.now) (row_count rows.now)) result }
 {
     let columns = date_columns(rows);
     let mut exceptions = HashSet::with_hasher(alloc, rows.key());
@@ -100,7 +100,7 @@ fn number_rows(alloc: Global, rows: &Rows, ids: &Ids) -> Result<Numbered, FeedFa
     requires { length ids.now + row_count rows.now < 2 ^ 32 - 1 }
     ensures numbered { IfOk result (λ n.
         AreNumbered rows.now (row_count rows.now) ids.now n.ids n.exceptions.keys) }
-    ensures tells { TellsFirst DatesTable (first_below (bad_date rows.now) (row_count rows.now)) result }
+    ensures reports { ReportsFirst DatesTable (first_below (bad_date rows.now) (row_count rows.now)) result }
 {
     let _count = ids.len();
     let mut services = TextIndex::of(alloc, ids.key(), ids.texts())?;
@@ -115,7 +115,7 @@ pub(crate) fn read_exceptions(alloc: Global, rows: &Rows, ids: Ids) -> Result<Nu
     requires { length ids + row_count rows.now < 2 ^ 32 - 1 }
     ensures numbered { IfOk result (λ n.
         AreNumbered rows.now (row_count rows.now) ids n.ids n.exceptions.keys) }
-    ensures tells { TellsFirst DatesTable (dates_fault rows.now) result }
+    ensures reports { ReportsFirst DatesTable (dates_fault rows.now) result }
 {
     check_columns(
         rows,

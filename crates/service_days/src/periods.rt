@@ -3,8 +3,8 @@ ghost use Rattle.std.specs.Prelude.{◌≡◌, ◌<◌, ◌≤◌, ◌^◌, leng
 ghost use Rattle.std.specs.Result.{result_err};
 ghost use Rattle.csv_rows.specs.declared.feed_tables.Table.TheVariants.{Calendar as CalendarTable};
 ghost use Rattle.csv_rows.specs.First.{first_below};
-ghost use Rattle.csv_rows.specs.FeedTables.{unread_of, IsFaultOf};
-ghost use Rattle.csv_rows.specs.RowFaults.{TellsFirst};
+ghost use Rattle.csv_rows.specs.FeedTables.{unread_table, IsFaultOf};
+ghost use Rattle.csv_rows.specs.RowFaults.{ReportsFirst};
 ghost use Rattle.csv_rows.specs.Tables.{row_count};
 ghost use Rattle.service_days.specs.Calendars.{AreDistinctRows};
 ghost use Rattle.service_days.specs.Periods.{flag_of, runs_in_period, period_columns, week_in, period_in, bad_period, service_ids, periods_of, calendar_fault};
@@ -107,16 +107,16 @@ fn period_columns(rows: &Rows) -> PeriodColumns
     ensures { result ≡ period_columns rows.now }
 {
     PeriodColumns {
-        service: rows.place_of(Column::ServiceId),
-        monday: rows.place_of(Column::Monday),
-        tuesday: rows.place_of(Column::Tuesday),
-        wednesday: rows.place_of(Column::Wednesday),
-        thursday: rows.place_of(Column::Thursday),
-        friday: rows.place_of(Column::Friday),
-        saturday: rows.place_of(Column::Saturday),
-        sunday: rows.place_of(Column::Sunday),
-        first: rows.place_of(Column::StartDate),
-        last: rows.place_of(Column::EndDate),
+        service: rows.index_of(Column::ServiceId),
+        monday: rows.index_of(Column::Monday),
+        tuesday: rows.index_of(Column::Tuesday),
+        wednesday: rows.index_of(Column::Wednesday),
+        thursday: rows.index_of(Column::Thursday),
+        friday: rows.index_of(Column::Friday),
+        saturday: rows.index_of(Column::Saturday),
+        sunday: rows.index_of(Column::Sunday),
+        first: rows.index_of(Column::StartDate),
+        last: rows.index_of(Column::EndDate),
     }
 }
 
@@ -125,7 +125,7 @@ fn read_week(rows: &Rows, columns: PeriodColumns, row: usize) -> Result<Week, Fe
     requires { row < row_count rows.now }
     ensures week { IfOk result (λ w. week_in rows.now columns row ≡ Ok w) }
     ensures fault { IfErr result (λ f. week_in rows.now columns row ≡ Err f) }
-    ensures content { IfErr result (λ f. unread_of f ≡ None) }
+    ensures content { IfErr result (λ f. unread_table f ≡ None) }
     ensures own { IfErr result (IsFaultOf CalendarTable) }
 {
     let line = rows.line(row);
@@ -165,7 +165,7 @@ fn read_week(rows: &Rows, columns: PeriodColumns, row: usize) -> Result<Week, Fe
 fn read_period(rows: &Rows, columns: PeriodColumns, row: usize) -> Result<Period, FeedFault>
     requires { row < row_count rows.now }
     ensures period { IfOk result (λ p. period_in rows.now columns row ≡ Ok p) }
-    ensures tells { TellsFirst CalendarTable (result_err (period_in rows.now columns row)) result }
+    ensures reports { ReportsFirst CalendarTable (result_err (period_in rows.now columns row)) result }
 {
     let line = rows.line(row);
     let Some(_) = read_name(rows.field_at(row, columns.service)) else {
@@ -184,7 +184,7 @@ fn read_period(rows: &Rows, columns: PeriodColumns, row: usize) -> Result<Period
 /// The period of each row, or the first field that is not of its form.
 fn read_periods(alloc: Global, rows: &Rows) -> Result<Vec<Period>, FeedFault>
     ensures periods { IfOk result (λ periods. periods.items ≡ periods_of rows.now) }
-    ensures tells { TellsFirst CalendarTable
+    ensures reports { ReportsFirst CalendarTable
         (first_below (bad_period rows.now) (row_count rows.now)) result }
 {
     let columns = period_columns(rows);
@@ -203,7 +203,7 @@ pub(crate) fn read_calendar(alloc: Global, rows: &Rows) -> Result<Calendar, Feed
     ensures periods { IfOk result (λ calendar. calendar.periods.items ≡ periods_of rows.now) }
     ensures few { IfOk result (λ calendar. length calendar.ids ≤ 2 ^ 20) }
     ensures distinct { OnOk result (AreDistinctRows rows.now) }
-    ensures tells { TellsFirst CalendarTable (calendar_fault rows.now) result }
+    ensures reports { ReportsFirst CalendarTable (calendar_fault rows.now) result }
 {
     check_columns(rows, Table::Calendar, &REQUIRED)?;
     let periods = read_periods(alloc, rows)?;

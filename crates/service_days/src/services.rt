@@ -1,6 +1,6 @@
 //! Services and the days on which they run.
 ghost use Rattle.std.specs.Prelude.{◌≡◌, ◌≢◌, ℕ, ℤ, None, Some, Err, IfOk, IfErr, IfSome, IsOkAnd, ◌<◌, ◌+ℤ◌, pos, filter};
-ghost use Rattle.csv_rows.specs.FeedTables.{unread_of};
+ghost use Rattle.csv_rows.specs.FeedTables.{unread_table};
 ghost use Rattle.table_files.specs.Loading.{HasFeedCauses};
 ghost use Rattle.service_days.specs.Services.{period_runs, runs, runs_at};
 ghost use Rattle.service_days.specs.Days.{day_count, days_between};
@@ -70,7 +70,7 @@ impl Services {
             IsOkAnd (calendars_in m folder.now limits.now None) (RunsBy (runs s)))) }
         ensures sound { IfOk result (λ s. RunsBySome (runs s)) }
         ensures fault { IfSome (F.state files.old).files (λ m. IfErr result (λ f. f ≢ FeedFault.NoMemory
-            → calendars_in m folder.now limits.now (unread_of f) ≡ Err f)) }
+            → calendars_in m folder.now limits.now (unread_table f) ≡ Err f)) }
         ensures own { IfErr result IsCalendarFault }
         ensures causes { HasFeedCauses folder.now (F.state files.old) (F.state files.new) result }
     {

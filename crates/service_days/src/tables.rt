@@ -1,9 +1,9 @@
 //! The calendars of a feed, each loaded and read.
 ghost use Rattle.std.specs.Prelude.{◌≡◌, ◌≢◌, ◌≤◌, ◌^◌, ℕ, [], length, None, Some, Ok, Err, IfOk, IfErr, IfSome, OnOk};
 ghost use Rattle.csv_rows.specs.declared.feed_tables.Table.TheVariants.{Calendar as CalendarTable, CalendarDates as DatesTable};
-ghost use Rattle.csv_rows.specs.FeedTables.{unread_of, IsFaultOf};
+ghost use Rattle.csv_rows.specs.FeedTables.{unread_table, IsFaultOf};
 ghost use Rattle.table_files.specs.Loading.{HasAtMost, HasFeedCauses, load_in, loaded_rows};
-ghost use Rattle.csv_rows.specs.RowFaults.{TellsFirst};
+ghost use Rattle.csv_rows.specs.RowFaults.{ReportsFirst};
 ghost use Rattle.csv_rows.specs.Tables.{row_count};
 ghost use Rattle.service_days.specs.Periods.{service_ids, periods_of};
 ghost use Rattle.service_days.specs.Numbered.{AreNumbered};
@@ -72,7 +72,7 @@ fn calendar_of(alloc: Global, loaded: &Loaded, key: HashKey) -> Result<Calendar,
     ensures periods { IfOk result (λ c. c.periods.items ≡ periods_of (loaded_rows loaded.now)) }
     ensures distinct { OnOk result (AreDistinctRows (loaded_rows loaded.now)) }
     ensures few { IfOk result (λ c. length c.ids ≤ 2 ^ 20) }
-    ensures tells { TellsFirst CalendarTable (fault_of_calendar loaded.now) result }
+    ensures reports { ReportsFirst CalendarTable (fault_of_calendar loaded.now) result }
 {
     match loaded {
         Loaded::Found(rows) => read_calendar(alloc, rows),
@@ -87,7 +87,7 @@ fn exceptions_of(alloc: Global, loaded: &Loaded, ids: Ids) -> Result<Numbered, F
     requires ids { length ids ≤ 2 ^ 20 }
     ensures numbered { IfOk result (λ n. AreNumbered (loaded_rows loaded.now)
         (row_count (loaded_rows loaded.now)) ids n.ids n.exceptions.keys) }
-    ensures tells { TellsFirst DatesTable (fault_of_dates loaded.now) result }
+    ensures reports { ReportsFirst DatesTable (fault_of_dates loaded.now) result }
 {
     match loaded {
         Loaded::Found(rows) => read_exceptions(alloc, rows, ids),
@@ -108,7 +108,7 @@ pub(crate) fn load_calendar<F: Files>(
         c.missing c.calendar.ids c.calendar.periods.items)) }
     ensures sound { IfOk result (λ c. IsOfCalendar c.missing c.calendar.ids c.calendar.periods.items) }
     ensures fault { IfSome (F.state files.old).files (λ m. IfErr result (λ f. f ≢ FeedFault.NoMemory
-        → calendar_from (load_in m folder.now limits.now (unread_of f) CalendarTable) ≡ Err f)) }
+        → calendar_from (load_in m folder.now limits.now (unread_table f) CalendarTable) ≡ Err f)) }
     ensures few { IfOk result (λ c. length c.calendar.ids ≤ 2 ^ 20) }
     ensures own { IfErr result (IsFaultOf CalendarTable) }
     ensures causes { HasFeedCauses folder.now (F.state files.old) (F.state files.new) result }
@@ -134,7 +134,7 @@ pub(crate) fn load_dates<F: Files>(
     ensures sound { IfOk result (λ d.
         AreOfDates ids d.missing d.numbered.ids d.numbered.exceptions.keys) }
     ensures fault { IfSome (F.state files.old).files (λ m. IfErr result (λ f. f ≢ FeedFault.NoMemory
-        → dates_from (load_in m folder.now limits.now (unread_of f) DatesTable) ≡ Err f)) }
+        → dates_from (load_in m folder.now limits.now (unread_table f) DatesTable) ≡ Err f)) }
     ensures own { IfErr result (IsFaultOf DatesTable) }
     ensures causes { HasFeedCauses folder.now (F.state files.old) (F.state files.new) result }
 {

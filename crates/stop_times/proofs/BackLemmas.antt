@@ -9,7 +9,7 @@ use Rattle.csv_rows.specs.declared.feed_tables.FeedFault.TheVariants.{DuplicateK
 use Rattle.csv_rows.specs.declared.keys.Key.{Key}
 use Rattle.csv_rows.specs.First.{first_below, any_below}
 use Rattle.csv_rows.specs.Keys.{key_at, AreSorted, IsBefore, has_twin, twin_at}
-use Rattle.csv_rows.proofs.FirstLemmas.{first-is, first-told}
+use Rattle.csv_rows.proofs.FirstLemmas.{first-is, first-reported}
 use Rattle.csv_rows.proofs.KeyLemmas.{AreApart, no_twins, asked_before}
 use Rattle.stop_times.specs.declared.rows.TimedRow.{TimedRow}
 use Rattle.stop_times.specs.StopTimes.{trip_of, sequence_of, is_kept, stop_arrival, departure_of, just_before, goes_back, repeated_time, backward_time}
@@ -25,14 +25,14 @@ pub repeats_first : (rows : List TimedRow) (keys : List Key) (found : Option ℕ
     → first_below (repeated_time rows) (length rows) ≡ option_map (λ row. DuplicateKey StopTimes (row + 2)) found
 unfolding repeated_time twin_at
 repeats_first rows keys found s h =
-    first-told (λ i. DuplicateKey StopTimes (i + 2)) (has_twin (trip_of rows) (sequence_of rows)) (length rows)
+    first-reported (λ i. DuplicateKey StopTimes (i + 2)) (has_twin (trip_of rows) (sequence_of rows)) (length rows)
     ∙ ap (option_map (λ row. DuplicateKey StopTimes (row + 2))) (h (trip_of rows) (sequence_of rows) (length rows) s)
 
 late : List TimedRow → ℕ → ℕ → Bool
 late rows i j = nat_lt (stop_arrival rows i) (departure_of rows j)
 
-told : Bool → ℕ → Option FeedFault
-told b i = if b then Some (BackwardTime (i + 2)) else None
+reported : Bool → ℕ → Option FeedFault
+reported b i = if b then Some (BackwardTime (i + 2)) else None
 
 kept_back : Bool → Bool → Bool → Bool
 kept_back kept own other = kept && (own || other)
@@ -40,8 +40,8 @@ kept_back kept own other = kept && (own || other)
 back_by : (rows : List TimedRow) (i : ℕ) (o : Option Key) → is_kept rows i ≡ true → (q : Bool)
     → any_below (λ j. just_before rows j i && late rows i j) (length rows) ≡ q → (nat_lt (departure_of rows i) (stop_arrival rows i) || q) ≡ goes_back_after rows o i
     → backward_time rows i ≡ backward_after rows o i
-unfolding backward_time late told kept_back
-back_by rows i o kept q e h = grind (arith, common_steps, told, kept_back)
+unfolding backward_time late reported kept_back
+back_by rows i o kept q e h = grind (arith, common_steps, reported, kept_back)
 
 module _ (rows : List TimedRow) (keys : List Key) (s : AreKeysOf true rows keys) (none : first_below (repeated_time rows) (length rows) ≡ None) where
   pub back_is : (k : ℕ) → k < length keys → (o : Option Key) → IsBefore keys k o → backward_time rows (key_at keys k).row ≡ backward_after rows o (key_at keys k).row
@@ -55,15 +55,15 @@ module _ (rows : List TimedRow) (keys : List Key) (s : AreKeysOf true rows keys)
 
 -- a row that is not kept goes back nowhere
 pub quiet : (rows : List TimedRow) (i : ℕ) → is_taken true rows i ≡ false → backward_time rows i ≡ None
-unfolding backward_time told kept_back
+unfolding backward_time reported kept_back
 quiet rows i out =
-    ap (λ b. told (kept_back b (nat_lt (departure_of rows i) (stop_arrival rows i)) (any_below (λ j. just_before rows j i && nat_lt (stop_arrival rows i) (departure_of rows j)) (length rows))) i) out
+    ap (λ b. reported (kept_back b (nat_lt (departure_of rows i) (stop_arrival rows i)) (any_below (λ j. just_before rows j i && nat_lt (stop_arrival rows i) (departure_of rows j)) (length rows))) i) out
 
-told_is : (b : Bool) (i : ℕ) (f : FeedFault) → told b i ≡ Some f → f ≡ BackwardTime (i + 2)
-unfolding told
-told_is b i f h = grind (arith, cases_Bool b)
+reported_is : (b : Bool) (i : ℕ) (f : FeedFault) → reported b i ≡ Some f → f ≡ BackwardTime (i + 2)
+unfolding reported
+reported_is b i f h = grind (arith, cases_Bool b)
 
 -- the first fault is a time that goes back
 pub backward_is : (rows : List TimedRow) (f : FeedFault) → first_below (backward_time rows) (length rows) ≡ Some f → (line : ℕ) × (f ≡ BackwardTime line)
-unfolding backward_time told
-backward_is rows f h = let w = first-is (backward_time rows) (length rows) f h in (w.place + 2, told_is (goes_back rows w.place) w.place f w.here)
+unfolding backward_time reported
+backward_is rows f h = let w = first-is (backward_time rows) (length rows) f h in (w.place + 2, reported_is (goes_back rows w.place) w.place f w.here)

@@ -1,4 +1,4 @@
--- Two kept rows of a trip that stand beside each other: the first departs no later than the second arrives.
+-- Two kept rows of a trip that are beside each other: the first departs no later than the second arrives.
 use Rattle.std.proofs.Common.{◌≡◌, ℕ, zero, suc, ◌+◌, ◌<◌, ◌≤◌, ◌==◌, nat_lt, Bool, true, false, ◌&&◌, List, length, slice_index_or, Some, None, if◌then◌else◌}
 use Rattle.std.proofs.Common.{sym, ap, ◌∙◌, arith, ⊎_elim, is_some, eqb-true, eq-eqb, ltb-true, ltb-false}
 use Rattle.std.proofs.lemmas.Bool.Decides.{nat_tests}
@@ -64,7 +64,7 @@ module _ (rows : List TimedRow) (none : first_below (backward_time rows) (length
   between : ℕ → ℕ → ℕ → Bool
   between j i x = stands j x && stands x i
 
-  -- a row that stands between two rows of a trip is of that trip
+  -- a row that is between two rows of a trip is of that trip
   none_between : (p x : ℕ) → p + 1 < length visits → x < length rows → between (s.line p) (s.line (p + 1)) x ≡ true → ⊥
   unfolding between stands
   none_between p x h inside b =

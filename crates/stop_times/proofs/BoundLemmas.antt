@@ -11,7 +11,7 @@ module _ (visits : List StopRow) (bounds : List ℕ) (now : List (List StopRow))
   pub next : trip + 1 < length bounds
   next = omega (arith, h, ap length is, length-list_below (rows_between visits bounds) (length bounds - 1))
 
-  -- what stands at the two bounds of a trip
+  -- what is at the two bounds of a trip
   pub within : IsBounded visits bounds → (start end : ℕ) → start ≡ slice_index_or bounds trip start → end ≡ slice_index_or bounds (trip + 1) end
       → (start ≡ slice_index bounds trip) × (end ≡ slice_index bounds (trip + 1)) × (start ≤ end) × (end ≤ length visits)
   within b start end e f = search (rules, get_or_default, next)

@@ -27,7 +27,7 @@ one_more false y x ys c = c
 passing : (b : Bool) (y x : Key) (ys : List Key) → b ≡ true → y ≡ x → Contains (cond b (y ∷ ys) ys) x
 passing b y x ys t e = grind (arith, cases_Bool b)
 
--- what passes stands in the filter
+-- what passes is in the filter
 in_filter : (p : Key → Bool) (keys : List Key) (x : Key) (k : ℕ) → k < length keys → get_or keys k x ≡ x → p x ≡ true → Contains (filter p keys) x
 in_filter p [] x k h e t = absurd (omega arith)
 in_filter p (y ∷ ys) x zero h e t = passing (p y) y x (filter p ys) (ap p e ∙ t) e

@@ -35,7 +35,7 @@ in_form trips stops places t none i h = grind (arith, common_steps, timed_count,
 at_stop : (n : ℕ) (places : List ℕ) (o : Option StopRow) (v : StopRow) → o ≡ Some v → IfSome o (IsAtStop n places) → IsAtStop n places v
 at_stop n places o v e h = let P : Option StopRow → Type 0 = λ x. IfSome x (IsAtStop n places) in subst P e h
 
--- they stand at places of the stops, and no time goes back
+-- they are at places of the stops, and no time goes back
 pub record AreInOrder (stops : ℕ) (places : List ℕ) (visits : List StopRow) : Type 0 where
   pub few : length visits ≤ end_of_steps
   pub visit : (k : ℕ) → k < length visits → IsAtStop stops places (slice_index_or visits k no_visit)

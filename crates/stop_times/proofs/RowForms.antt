@@ -1,4 +1,4 @@
--- What the form of a row of stop times tells.
+-- What follows from the form of a row of stop times.
 use Rattle.std.proofs.Common.{rules, ◌≡◌, ℕ, ◌+◌, ◌<◌, ◌≤◌, ◌-◌, ◌==◌, nat_eq, nat_le, ◌&&◌, Bool, List, [], length, take, drop, slice_index, slice_index_or}
 use Rattle.std.proofs.Common.{Option, Some, None, IfSome, refl, subst, arith, Result, Ok, Err}
 use Rattle.std.proofs.lemmas.Grind.{common_steps}
@@ -17,17 +17,17 @@ use Rattle.csv_rows.specs.declared.feed_tables.FeedFault.{FeedFault}
 use Rattle.csv_rows.specs.declared.feed_tables.FeedFault.TheVariants.{BadField, UnknownKey}
 use Rattle.csv_rows.specs.Names.{name_in, text_in}
 use Rattle.csv_rows.specs.Records.{field_of}
-use Rattle.csv_rows.specs.Tables.{place_in}
+use Rattle.csv_rows.specs.Tables.{number_in}
 use Rattle.stop_times.specs.declared.rows.StopRow.{StopRow}
 use Rattle.stop_times.specs.declared.rows.TimedRow.{TimedRow}
 use Rattle.stop_times.specs.StopTimeForms.{allows_in, time_in}
-use Rattle.stop_times.specs.StopTimes.{time_columns, number_in, times_of, visit_of, timed_from, timed_at, no_row}
+use Rattle.stop_times.specs.StopTimes.{time_columns, stop_number_in, times_of, visit_of, timed_from, timed_at, no_row}
 use Rattle.clock_text.proofs.DigitLemmas.{whole_bound}
 use Rattle.csv_rows.proofs.RowLemmas.{optional-each, place_inside}
 use Rattle.stop_times.specs.StopTimeBounds.{end_of_times}
 use Rattle.plan_model.proofs.Results.{require-each}
 
--- a kept row stands at the place of a stop, at times of at most 167 hours
+-- a kept row is at the place of a stop, at times of at most 167 hours
 pub record IsAtStop (stops : ℕ) (places : List ℕ) (v : StopRow) : Type 0 where
   pub stop : ℕ
   pub inside : stop < stops
@@ -75,9 +75,9 @@ from_in_form : (trips stops : List (List ℕ)) (places : List ℕ) (line : ℕ) 
 from_in_form trips stops places line trip stop sequence arrival departure pickup drop_off =
     let P : TimedRow → Type 0 = InForm (length stops) places in
     require-each P (name_in trip) (BadField StopTimes line TripId) _ (λ trip' e0.
-    require-each P (place_in trip' trips) (UnknownKey StopTimes line TripId) _ (λ number e1.
+    require-each P (number_in trip' trips) (UnknownKey StopTimes line TripId) _ (λ number e1.
     require-each P (text_in stop) (BadField StopTimes line StopId) _ (λ stop' e2.
-    require-each P (number_in stops stop') (UnknownKey StopTimes line StopId) _ (λ stop_number e3.
+    require-each P (stop_number_in stops stop') (UnknownKey StopTimes line StopId) _ (λ stop_number e3.
     require-each P (whole_of 999999999 sequence) (BadField StopTimes line StopSequence) _ (λ sequence' e4.
     require-each P (time_in arrival) (BadField StopTimes line ArrivalTime) _ (λ arrival' e5.
     require-each P (time_in departure) (BadField StopTimes line DepartureTime) _ (λ departure' e6.
@@ -86,7 +86,7 @@ from_in_form trips stops places line trip stop sequence arrival departure pickup
     subst P (same_ok _ r q) (record {
       sequence = whole_bound 999999999 sequence' sequence e4;
       visit = visit_form (length stops) places stop_number arrival' departure' board exit
-          (optional-each (λ k. k < length stops) (length stop' == 0) (place_in stop' stops) (place_inside stop' stops) stop_number e3)
+          (optional-each (λ k. k < length stops) (length stop' == 0) (number_in stop' stops) (place_inside stop' stops) stop_number e3)
           (optional-each (λ k. k < end_of_times) (length arrival == 0) (time_at arrival) (time_below arrival) arrival' e5)
           (optional-each (λ k. k < end_of_times) (length departure == 0) (time_at departure) (time_below departure) departure' e6);
     }))))))))))

@@ -23,7 +23,7 @@ use Rattle.stop_times.specs.StopTimes.{time_columns, timed_of, timed_in, timed_a
 use Rattle.csv_rows.proofs.ListLemmas.{length-list_below}
 use Rattle.csv_rows.proofs.RowLemmas.{or_first, or_then}
 
--- the row by where the columns stand
+-- the row by the indexes of its columns
 pub timed_is : (trips stops : List (List ℕ)) (places : List ℕ) (t : List (List (List ℕ))) (c : TimeColumns) (i : ℕ) (r : Result TimedRow FeedFault)
     → c ≡ time_columns t → timed_in trips stops places t c i ≡ r → timed_at trips stops places t i ≡ r
 unfolding timed_at
@@ -77,7 +77,7 @@ pub times_sound : (trips stops : List (List ℕ)) (places : List ℕ) (most : �
     → stop_times_fault trips stops places t ≡ None → stop_times_from (loaded_from StopTimes most t) trips stops places ≡ Ok t
 times_sound trips stops places most t some few h = grind (arith, common_steps, nat_tests, sound_by)
 
--- where the rows may be so many, the fault of the table is counted no more
+-- where the rows may be this many, the fault of the table is counted no more
 pub counted_few : (most n : ℕ) (o : Option FeedFault) → n ≤ most → counted_fault most n o ≡ o
 counted_few most n o h = grind (arith, common_steps, nat_tests)
 

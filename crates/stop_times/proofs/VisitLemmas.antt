@@ -98,7 +98,7 @@ pub span_is : (keys : List Key) → IsRising keys → (trip low high : ℕ) → 
     → IsSpanOf keys trip low high
 span_is keys rising trip low high order inside before rest here other = search (rules, here, less_group)
 
--- one more bound leaves the spans before, and tells the next
+-- one more bound leaves the spans before, and gives the next
 pub spans_next : (keys : List Key) (old new : List ℕ) (start end n : ℕ) → length old ≡ n + 1 → new ≡ old ++ end ∷ [] → slice_index old n ≡ start
     → ((t : ℕ) → t < n → IsSpanOf keys t (slice_index old t) (slice_index old (t + 1))) → IsSpanOf keys n start end
     → (t : ℕ) → t < n + 1 → IsSpanOf keys t (slice_index new t) (slice_index new (t + 1))

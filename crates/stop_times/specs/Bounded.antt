@@ -1,9 +1,9 @@
--- Rows that stand one trip after the other, between bounds.
+-- Rows one trip after the other, between bounds.
 use Rattle.std.specs.Prelude.{ℕ, ◌+◌, ◌-◌, ◌<◌, ◌≤◌, List, length, slice_index, slice_range}
 use Rattle.csv_rows.specs.Lists.{list_below}
 use Rattle.stop_times.specs.declared.rows.StopRow.{StopRow}
 
--- the rows of a trip stand from its bound to the next one
+-- the rows of a trip are from its bound to the next one
 abbrev pub rows_between : List StopRow → List ℕ → ℕ → List StopRow
 rows_between visits bounds trip = slice_range visits (slice_index bounds trip) (slice_index bounds (trip + 1))
 

@@ -21,7 +21,7 @@ records_after s (Some text) = map (λ row. map trimmed_text row) (records_from d
 abbrev pub records_left : Inside → List (List (List ℕ))
 records_left r = if r.is_done then [] else records_after (reader_state r.reader) (source r.reader)
 
--- the reader stands between two records, and takes the next one as it is
+-- the reader is between two records, and takes the next one as it is
 pub record IsReading (reader : Reader (Bor (List ℕ))) : Type 0 where
   pub trim : reader_trim reader ≡ trim.None
   pub ready : Ready reader

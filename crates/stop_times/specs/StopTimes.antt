@@ -13,7 +13,7 @@ use Rattle.csv_rows.specs.First.{first_below, any_below}
 use Rattle.csv_rows.specs.Keys.{has_twin, just_precedes}
 use Rattle.csv_rows.specs.Names.{name_in, text_in}
 use Rattle.csv_rows.specs.Records.{field_of}
-use Rattle.csv_rows.specs.Tables.{header, row_count, place_in}
+use Rattle.csv_rows.specs.Tables.{header, row_count, number_in}
 use Rattle.stop_times.specs.declared.rows.KnownTrip.{KnownTrip}
 use Rattle.stop_times.specs.declared.rows.StopRow.{StopRow}
 use Rattle.stop_times.specs.declared.rows.TimedRow.{TimedRow}
@@ -23,8 +23,8 @@ use Rattle.stop_times.specs.StopTimeForms.{allows_in, time_in}
 use Rattle.csv_rows.specs.Lists.{list_below}
 
 -- the number of a stop, or none where the text is empty
-abbrev pub number_in : List (List ℕ) → List ℕ → Option (Option ℕ)
-number_in stops text = if length text == 0 then Some None else option_map Some (place_in text stops)
+abbrev pub stop_number_in : List (List ℕ) → List ℕ → Option (Option ℕ)
+stop_number_in stops text = if length text == 0 then Some None else option_map Some (number_in text stops)
 
 -- a row with one time has it for both
 abbrev pub times_of : Option ℕ → Option ℕ → Option (ℕ × ℕ)
@@ -42,7 +42,7 @@ visit_of places (Some stop) (Some times) board exit =
 
 -- this field names the trip of this number
 abbrev pub IsTripOf : (trips : List (List ℕ)) (id : List ℕ) → ℕ → Type 0
-IsTripOf trips id trip = (name_in id ≡ Some id) × (place_in id trips ≡ Some trip)
+IsTripOf trips id trip = (name_in id ≡ Some id) × (number_in id trips ≡ Some trip)
 
 -- the trip that is known is one of these, and this is its id
 abbrev pub IsKnownIn : (trips : List (List ℕ)) → KnownTrip → Type 0
@@ -50,15 +50,15 @@ IsKnownIn trips known = IfSome known.trip (λ trip. IsTripOf trips known.id.item
 
 -- what is read from there on with the number of the trip that this field names, or its fault
 abbrev pub row_from_trip : (trips : List (List ℕ)) (line : ℕ) (id : List ℕ) → (ℕ → Result TimedRow FeedFault) → Result TimedRow FeedFault
-row_from_trip trips line id rest = require (name_in id) (BadField StopTimes line TripId) (λ id'. require (place_in id' trips) (UnknownKey StopTimes line TripId) rest)
+row_from_trip trips line id rest = require (name_in id) (BadField StopTimes line TripId) (λ id'. require (number_in id' trips) (UnknownKey StopTimes line TripId) rest)
 
 -- this field names the stop of this number, or is empty and names none
 abbrev pub IsStopOf : (stops : List (List ℕ)) (id : List ℕ) → Option ℕ → Type 0
-IsStopOf stops id stop = (text_in id ≡ Some id) × (number_in stops id ≡ Some stop)
+IsStopOf stops id stop = (text_in id ≡ Some id) × (stop_number_in stops id ≡ Some stop)
 
 -- what is read from there on with the number of the stop that this field names, or its fault
 abbrev pub row_from_stop : (stops : List (List ℕ)) (line : ℕ) (id : List ℕ) → (Option ℕ → Result TimedRow FeedFault) → Result TimedRow FeedFault
-row_from_stop stops line id rest = require (text_in id) (BadField StopTimes line StopId) (λ id'. require (number_in stops id') (UnknownKey StopTimes line StopId) rest)
+row_from_stop stops line id rest = require (text_in id) (BadField StopTimes line StopId) (λ id'. require (stop_number_in stops id') (UnknownKey StopTimes line StopId) rest)
 
 -- the row of these fields, or the first that is not of its form or names nothing
 abbrev pub timed_from : (trips stops : List (List ℕ)) (places : List ℕ) (line : ℕ) (trip stop sequence arrival departure pickup drop_off : List ℕ)
@@ -73,16 +73,16 @@ timed_from trips stops places line trip stop sequence arrival departure pickup d
     require (allows_in drop_off) (BadField StopTimes line DropOffType) (λ exit.
     Ok (record { trip = trip_number; sequence = sequence'; visit = visit_of places stop_number (times_of arrival' departure') board exit }))))))))
 
--- where the columns of a header stand
+-- the indexes of the columns of a header
 abbrev pub columns_of : List (List ℕ) → TimeColumns
 columns_of names = record {
-  trip = place_in (name_of TripId) names;
-  stop = place_in (name_of StopId) names;
-  sequence = place_in (name_of StopSequence) names;
-  arrival = place_in (name_of ArrivalTime) names;
-  departure = place_in (name_of DepartureTime) names;
-  pickup = place_in (name_of PickupType) names;
-  drop_off = place_in (name_of DropOffType) names;
+  trip = number_in (name_of TripId) names;
+  stop = number_in (name_of StopId) names;
+  sequence = number_in (name_of StopSequence) names;
+  arrival = number_in (name_of ArrivalTime) names;
+  departure = number_in (name_of DepartureTime) names;
+  pickup = number_in (name_of PickupType) names;
+  drop_off = number_in (name_of DropOffType) names;
 }
 
 -- and those of a table
@@ -109,7 +109,7 @@ bad_time trips stops places t i = result_err (timed_at trips stops places t i)
 abbrev pub no_row : TimedRow
 no_row = record { trip = 0; sequence = 0; visit = None }
 
--- this fault, but where there are more than so many rows, that they are so many comes first
+-- this fault, but where there are more than this many rows, that they are this many comes first
 abbrev pub counted_fault : (most count : ℕ) → Option FeedFault → Option FeedFault
 counted_fault most count fault = if nat_lt most count then Some (TooManyRows StopTimes count) else fault
 

@@ -19,7 +19,7 @@ pub record IsVisit (rows : List TimedRow) (trip i : ℕ) (visit : StopRow) : Typ
   pub of_trip : (row_at rows i).trip ≡ trip
   pub kept : (row_at rows i).visit ≡ Some visit
 
--- the kept rows of a trip, in rising order of their sequences; `line` tells which row stands at a place
+-- the kept rows of a trip, in rising order of their sequences; `line` gives which row is at a place
 pub record AreStopTimes (rows : List TimedRow) (trip : ℕ) (visits : List StopRow) : Type 0 where
   pub line : ℕ → ℕ
   pub visit : (p : ℕ) → p < length visits → IsVisit rows trip (line p) (slice_index_or visits p no_visit)

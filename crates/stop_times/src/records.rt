@@ -2,7 +2,7 @@
 ghost use Rattle.std.specs.Prelude.{◌≡◌, ◌≢◌, ◌<◌, ◌^◌, ℕ, [], ◌∷◌, length, true, false, IfOk, IfSome, IfNone, slice_index_or};
 ghost use Rattle.csv_rows.specs.Columns.{name_of};
 ghost use Rattle.csv_rows.specs.Records.{field_of};
-ghost use Rattle.csv_rows.specs.Tables.{place_in, table_of};
+ghost use Rattle.csv_rows.specs.Tables.{number_in, table_of};
 
 use csv::{ByteRecord, Reader, ReaderBuilder};
 use csv_rows::{Column, trimmed};
@@ -77,8 +77,8 @@ impl Record {
     }
 
     /// The index of a column in this header; `None` if the header does not have it.
-    pub(crate) fn place_of(&self, column: Column) -> Option<usize>
-        ensures { result ≡ place_in (name_of column) self.now }
+    pub(crate) fn index_of(&self, column: Column) -> Option<usize>
+        ensures { result ≡ number_in (name_of column) self.now }
     {
         self.place_named(column.name())
     }

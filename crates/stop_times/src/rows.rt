@@ -1,11 +1,11 @@
 //! The rows of stop times.
 ghost use Rattle.std.specs.Prelude.{◌≡◌, ◌<◌, ℕ, List, length, Option, None, Some, Ok, Err, Result, IfOk, IfErr, IfSome, OnOk};
 ghost use Rattle.csv_rows.specs.declared.feed_tables.Table.TheVariants.{StopTimes as StopTimesTable};
-ghost use Rattle.csv_rows.specs.FeedTables.{unread_of, IsFaultOf};
+ghost use Rattle.csv_rows.specs.FeedTables.{unread_table, IsFaultOf};
 ghost use Rattle.csv_rows.specs.Records.{field_of};
 ghost use Rattle.csv_rows.specs.declared.feed_tables.FeedFault.{FeedFault};
 ghost use Rattle.stop_times.specs.declared.rows.TimedRow.{TimedRow};
-ghost use Rattle.stop_times.specs.StopTimes.{number_in, times_of, visit_of, columns_of, timed_of, missing_time_column, row_from_trip, row_from_stop, IsTripOf, IsStopOf, IsKnownIn};
+ghost use Rattle.stop_times.specs.StopTimes.{stop_number_in, times_of, visit_of, columns_of, timed_of, missing_time_column, row_from_trip, row_from_stop, IsTripOf, IsStopOf, IsKnownIn};
 ghost use Rattle.stop_times.specs.StopTimeForms.{time_in};
 
 use crate::forms::{read_allows, read_time_or_none};
@@ -61,13 +61,13 @@ pub(crate) fn columns_of(header: &Record) -> TimeColumns
     ensures { result ≡ columns_of header.now }
 {
     TimeColumns {
-        trip: header.place_of(Column::TripId),
-        stop: header.place_of(Column::StopId),
-        sequence: header.place_of(Column::StopSequence),
-        arrival: header.place_of(Column::ArrivalTime),
-        departure: header.place_of(Column::DepartureTime),
-        pickup: header.place_of(Column::PickupType),
-        drop_off: header.place_of(Column::DropOffType),
+        trip: header.index_of(Column::TripId),
+        stop: header.index_of(Column::StopId),
+        sequence: header.index_of(Column::StopSequence),
+        arrival: header.index_of(Column::ArrivalTime),
+        departure: header.index_of(Column::DepartureTime),
+        pickup: header.index_of(Column::PickupType),
+        drop_off: header.index_of(Column::DropOffType),
     }
 }
 
@@ -93,7 +93,7 @@ pub(crate) fn missing_column(columns: TimeColumns) -> Option<FeedFault>
 
 /// The number of a stop, or none where the text is empty.
 fn number_of(stops: &TextIndex<'_>, text: &str) -> Option<Option<u32>>
-    ensures number { result ≡ number_in stops.now text.now }
+    ensures number { result ≡ stop_number_in stops.now text.now }
     ensures inside { IfSome result (λ o. IfSome o (λ k. k < length stops.now)) }
 {
     if text.is_empty() {
@@ -116,7 +116,7 @@ fn read_stop_number(
     ensures inside { IfOk result (λ o. IfSome o (λ k. k < length stops.now)) }
     ensures fault { IfErr result (λ f. (rest : Option ℕ → Result TimedRow FeedFault)
         → row_from_stop stops.now line id.now rest ≡ Err f) }
-    ensures content { IfErr result (λ f. unread_of f ≡ None) }
+    ensures content { IfErr result (λ f. unread_table f ≡ None) }
     ensures own { IfErr result (IsFaultOf StopTimesTable) }
 {
     if !id.is_empty() && expected < stops.len() && stops.get(expected).as_bytes() == id {
@@ -203,7 +203,7 @@ fn read_trip_number(
     ensures trip { IfOk result (IsTripOf trips.now id.now) }
     ensures fault { IfErr result (λ f. (rest : ℕ → Result TimedRow FeedFault)
         → row_from_trip trips.now line id.now rest ≡ Err f) }
-    ensures content { IfErr result (λ f. unread_of f ≡ None) }
+    ensures content { IfErr result (λ f. unread_table f ≡ None) }
     ensures own { IfErr result (IsFaultOf StopTimesTable) }
 {
     if let Some(known) = known {
@@ -277,7 +277,7 @@ pub(crate) fn read_timed_row(
     ensures trip { IfOk result (λ r. IsTripOf named.now.trips (field_of row.now columns.trip) r.trip) }
     ensures fault { IfErr result (λ f.
         timed_of named.now.trips named.now.stops named.now.places.now line columns row.now ≡ Err f) }
-    ensures content { IfErr result (λ f. unread_of f ≡ None) }
+    ensures content { IfErr result (λ f. unread_table f ≡ None) }
     ensures own { IfErr result (IsFaultOf StopTimesTable) }
 {
     let trip = read_trip_number(&named.trips, line, row.field_at(columns.trip), known)?;

@@ -2,7 +2,7 @@
 ghost use Rattle.std.specs.Prelude.{◌≡◌, ◌≢◌, ◌<◌, ◌≤◌, ◌+◌, ◌^◌, ◌∷◌, ◌++◌, [], length, None, Some, Ok, Err, Result, IfOk, IfErr, OnOk};
 ghost use Rattle.csv_rows.specs.declared.feed_tables.Table.TheVariants.{StopTimes as StopTimesTable};
 ghost use Rattle.csv_rows.specs.First.{first_below};
-ghost use Rattle.csv_rows.specs.FeedTables.{unread_of, IsFaultOf};
+ghost use Rattle.csv_rows.specs.FeedTables.{unread_table, IsFaultOf};
 ghost use Rattle.table_files.specs.Loading.{loaded_from};
 ghost use Rattle.csv_rows.specs.Tables.{table_of};
 ghost use Rattle.csv_rows.specs.declared.feed_tables.FeedFault.{FeedFault};
@@ -39,7 +39,7 @@ fn take_row(
     ensures known { OnOk result (IsKnownIn named.now.trips known.new) }
     ensures fault { IfErr result (λ f. f ≢ FeedFault.NoMemory → timed_of named.now.trips named.now.stops named.now.places.now
         (length timed.old.items + 2) columns row.now ≡ Err f) }
-    ensures content { IfErr result (λ f. unread_of f ≡ None) }
+    ensures content { IfErr result (λ f. unread_table f ≡ None) }
     ensures own { IfErr result (IsFaultOf StopTimesTable) }
 {
     let line = timed.len() as u64 + 2;
@@ -65,7 +65,7 @@ fn counted_fault(
     requires { taken ≤ 2 ^ 32 }
     ensures fault { result ≢ FeedFault.NoMemory
         → counted_fault most (taken + length records.old) (Some fault) ≡ Some result }
-    ensures content { unread_of fault ≡ None → unread_of result ≡ None }
+    ensures content { unread_table fault ≡ None → unread_table result ≡ None }
     ensures own { IsFaultOf StopTimesTable fault → IsFaultOf StopTimesTable result }
 {
     match records.count(row) {
@@ -112,7 +112,7 @@ fn rows_after(
     ensures fault { IfErr result (λ f. f ≢ FeedFault.NoMemory → counted_fault limits.now.stop_times (length records.old)
         (first_below (bad_time named.now.trips named.now.stops named.now.places.now (row.old ∷ records.old))
         (length records.old)) ≡ Some f) }
-    ensures content { IfErr result (λ f. unread_of f ≡ None) }
+    ensures content { IfErr result (λ f. unread_table f ≡ None) }
     ensures own { IfErr result (IsFaultOf StopTimesTable) }
 {
     let most = limits.stop_times;
@@ -158,7 +158,7 @@ pub(crate) fn read_timed_rows(
     ensures fault { IfErr result (λ f. f ≢ FeedFault.NoMemory
         → stop_times_from (loaded_from StopTimesTable limits.now.stop_times (table_of bytes.now))
         named.now.trips named.now.stops named.now.places.now ≡ Err f) }
-    ensures content { IfErr result (λ f. unread_of f ≡ None) }
+    ensures content { IfErr result (λ f. unread_table f ≡ None) }
     ensures own { IfErr result (IsFaultOf StopTimesTable) }
 {
     let mut records = Records::of(alloc, bytes);

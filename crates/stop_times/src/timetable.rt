@@ -2,8 +2,8 @@
 ghost use Rattle.std.specs.Prelude.{◌≡◌, ◌≢◌, ◌<◌, ◌≤◌, ℕ, length, slice_index_or, [], false, None, Ok, Err, IfOk, IfErr, OnOk};
 ghost use Rattle.csv_rows.specs.declared.feed_tables.Table.TheVariants.{StopTimes as StopTimesTable};
 ghost use Rattle.csv_rows.specs.First.{first_below};
-ghost use Rattle.csv_rows.specs.FeedTables.{unread_of, IsFaultOf};
-ghost use Rattle.csv_rows.specs.RowFaults.{TellsFirst};
+ghost use Rattle.csv_rows.specs.FeedTables.{unread_table, IsFaultOf};
+ghost use Rattle.csv_rows.specs.RowFaults.{ReportsFirst};
 ghost use Rattle.table_files.specs.Loading.{loaded_from};
 ghost use Rattle.csv_rows.specs.Tables.{table_of};
 ghost use Rattle.stop_times.specs.StopTimeBounds.{most_stop_times};
@@ -26,7 +26,7 @@ use text_index::TextIndex;
 /// The first row that has the trip and the sequence of an earlier one, by the keys of all rows in their order.
 fn check_once(rows: &[StoredRow], keys: &[Key]) -> Result<(), FeedFault>
     requires { AreKeysOf false rows.now keys.now }
-    ensures { TellsFirst StopTimesTable (first_below (repeated_time rows.now) (length rows.now)) result }
+    ensures { ReportsFirst StopTimesTable (first_below (repeated_time rows.now) (length rows.now)) result }
 {
     match first_repeat(keys) {
         None => Ok(()),
@@ -42,7 +42,7 @@ fn in_order(alloc: Global, rows: &[StoredRow], trips: u32) -> Result<StopTimes, 
         → AreStopTimes rows.now trip (slice_index_or visits trip [])) }
     ensures few { IfOk result (λ visits. (trip : ℕ) → trip < trips
         → length (slice_index_or visits trip []) ≤ most_stop_times) }
-    ensures tells { TellsFirst StopTimesTable (order_fault rows.now) result }
+    ensures reports { ReportsFirst StopTimesTable (order_fault rows.now) result }
 {
     let keys = sorted_keys(alloc, rows)?;
     check_once(rows, keys.as_slice())?;
@@ -74,7 +74,7 @@ fn rows_of(
     ensures fault { IfErr result (λ f. f ≢ FeedFault.NoMemory
         → stop_times_from (loaded_from StopTimesTable limits.now.stop_times (table_of bytes.now))
         trips.now stops.now places.now ≡ Err f) }
-    ensures content { IfErr result (λ f. unread_of f ≡ None) }
+    ensures content { IfErr result (λ f. unread_table f ≡ None) }
     ensures own { IfErr result (IsFaultOf StopTimesTable) }
 {
     let trip_index = TextIndex::of(alloc, trips.key(), trips.texts())?;
@@ -113,7 +113,7 @@ pub fn read_stop_times(
     ensures fault { IfErr result (λ f. f ≢ FeedFault.NoMemory
         → stop_times_from (loaded_from StopTimesTable limits.now.stop_times (table_of bytes.items))
         trips.now stops.now places.now ≡ Err f) }
-    ensures content { IfErr result (λ f. unread_of f ≡ None) }
+    ensures content { IfErr result (λ f. unread_table f ≡ None) }
     ensures own { IfErr result (IsFaultOf StopTimesTable) }
 {
     let timed = rows_of(alloc, bytes.as_slice(), trips, stops, places, limits)?;

@@ -5,12 +5,12 @@ use Rattle.csv_rows.specs.declared.feed_tables.Table.{Table}
 use Rattle.csv_rows.specs.declared.feed_tables.FeedFault.{FeedFault}
 use Rattle.csv_rows.specs.declared.feed_tables.FeedFault.TheVariants.{Read}
 use Rattle.csv_rows.specs.declared.limits.Limits.{Limits}
-use Rattle.csv_rows.specs.FeedTables.{path_of, rank_of, unread_of, IsFaultOf}
+use Rattle.csv_rows.specs.FeedTables.{path_of, rank_of, unread_table, IsFaultOf}
 use Rattle.table_files.specs.Loading.{loaded_file, load_in}
 
 -- another table than the one that may not have been read
 pub load_in-other : (m : FileMap) (folder : List ℕ) (limits : Limits) (f : FeedFault) (table other : Table) → IsFaultOf table f → (rank_of table == rank_of other) ≡ false
-    → load_in m folder limits (unread_of f) other ≡ load_in m folder limits None other
+    → load_in m folder limits (unread_table f) other ≡ load_in m folder limits None other
 load_in-other m folder limits (Read t) table other e ne =
     ap (λ b. if b then Err (Read other) else loaded_file limits other (file_at m (path_of folder other))) (ap (λ x. rank_of x == rank_of other) e ∙ ne)
 load_in-other m folder limits _ table other e ne = refl

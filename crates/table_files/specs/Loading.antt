@@ -8,7 +8,7 @@ use Rattle.csv_rows.specs.declared.feed_tables.FeedFault.TheVariants.{Read, TooL
 use Rattle.table_files.specs.declared.loading.Loaded.{Loaded}
 use Rattle.table_files.specs.declared.loading.Loaded.TheVariants.{Absent, NoRecord, Found}
 use Rattle.csv_rows.specs.declared.limits.Limits.{Limits}
-use Rattle.csv_rows.specs.FeedTables.{path_of, is_unread}
+use Rattle.csv_rows.specs.FeedTables.{path_of, is_unread_table}
 use Rattle.csv_rows.specs.Limits.{rows_of}
 use Rattle.csv_rows.specs.Tables.{table_of, row_count}
 
@@ -31,7 +31,7 @@ loaded_bytes limits table (Some bytes) = loaded_from table (rows_of limits table
 
 -- what is loaded of a file, where at most this table could not be read
 abbrev pub load_of : Option Table → Limits → Table → Option (List ℕ) → Result Loaded FeedFault
-load_of unread limits table file = if is_unread unread table then Err (Read table) else loaded_file limits table file
+load_of unread limits table file = if is_unread_table unread table then Err (Read table) else loaded_file limits table file
 
 -- what a folder holds of a table, where at most one table could not be read
 abbrev pub load_in : FileMap → List ℕ → Limits → Option Table → Table → Result Loaded FeedFault

@@ -2,7 +2,7 @@
 ghost use Rattle.std.specs.Prelude.{◌≡◌, ◌≢◌, ◌≤◌, ◌^◌, ◌↔◌, None, Ok, Err, IfOk, IfErr, IfSome, IsNone, OnOk, option_map, vec_items, string_bytes};
 ghost use Rattle.file_ports.specs.Counts.{KeepsOthers};
 ghost use Rattle.file_ports.specs.Ports.{file_at};
-ghost use Rattle.csv_rows.specs.FeedTables.{path_of, unread_of, is_unread};
+ghost use Rattle.csv_rows.specs.FeedTables.{path_of, unread_table, is_unread_table};
 ghost use Rattle.csv_rows.specs.Limits.{rows_of};
 ghost use Rattle.table_files.specs.Loading.{load_of, loaded_from, loaded_bytes, HasAtMost, IsAbsent, IsLoadFault, HasFeedCauses};
 ghost use Rattle.csv_rows.specs.Tables.{table_of};
@@ -43,7 +43,7 @@ fn records_of(
     ensures loaded { IfOk result (λ l. loaded_from table most (table_of bytes.now) ≡ Ok l) }
     ensures fault { IfErr result (λ f. f ≢ FeedFault.NoMemory
         → loaded_from table most (table_of bytes.now) ≡ Err f) }
-    ensures read { IfErr result (λ f. unread_of f ≡ None) }
+    ensures read { IfErr result (λ f. unread_table f ≡ None) }
     ensures present { IfOk result (λ l. IsAbsent l → ⊥) }
     ensures few { IfOk result (HasAtMost most) }
     ensures own { IfErr result (IsLoadFault table) }
@@ -76,7 +76,7 @@ pub fn read_file<F: Files>(
         load_of None limits.now table (file_at m (path_of folder.now table))
         ≡ loaded_bytes limits.now table (option_map vec_items o))) }
     ensures fault { IfSome (F.state files.old).files (λ m. IfErr result (λ f. f ≢ FeedFault.NoMemory
-        → load_of (unread_of f) limits.now table (file_at m (path_of folder.now table)) ≡ Err f)) }
+        → load_of (unread_table f) limits.now table (file_at m (path_of folder.now table)) ≡ Err f)) }
     ensures own { IfErr result (IsLoadFault table) }
     ensures absent { IfOk result (λ o. IsNone o ↔ ((F.state files.new).in_hand ≡ None)) }
     ensures causes { HasFeedCauses folder.now (F.state files.old) (F.state files.new) result }
@@ -103,7 +103,7 @@ pub fn read_table<F: Files>(
     ensures loaded { IfSome (F.state files.old).files (λ m. IfOk result (λ l.
         load_of None limits.now table (file_at m (path_of folder.now table)) ≡ Ok l)) }
     ensures fault { IfSome (F.state files.old).files (λ m. IfErr result (λ f. f ≢ FeedFault.NoMemory
-        → load_of (unread_of f) limits.now table (file_at m (path_of folder.now table)) ≡ Err f)) }
+        → load_of (unread_table f) limits.now table (file_at m (path_of folder.now table)) ≡ Err f)) }
     ensures few { IfOk result (HasAtMost (rows_of limits.now table)) }
     ensures own { IfErr result (IsLoadFault table) }
     ensures absent { IfOk result (λ l. IsAbsent l ↔ ((F.state files.new).in_hand ≡ None)) }

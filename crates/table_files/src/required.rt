@@ -1,6 +1,6 @@
 //! The tables that must be present in a feed.
 ghost use Rattle.std.specs.Prelude.{◌≡◌, ◌≢◌, ◌≤◌, None, Ok, Err, IfOk, IfErr, IfSome};
-ghost use Rattle.csv_rows.specs.FeedTables.{unread_of, IsFaultOf};
+ghost use Rattle.csv_rows.specs.FeedTables.{unread_table, IsFaultOf};
 ghost use Rattle.csv_rows.specs.Limits.{rows_of};
 ghost use Rattle.csv_rows.specs.Tables.{row_count};
 ghost use Rattle.table_files.specs.Loading.{HasFeedCauses, load_in};
@@ -24,7 +24,7 @@ pub fn read_required<F: Files>(
     ensures rows { IfSome (F.state files.old).files (λ m. IfOk result (λ t.
         required table first (load_in m folder.now limits.now None table) ≡ Ok t)) }
     ensures fault { IfSome (F.state files.old).files (λ m. IfErr result (λ f. f ≢ FeedFault.NoMemory
-        → required table first (load_in m folder.now limits.now (unread_of f) table) ≡ Err f)) }
+        → required table first (load_in m folder.now limits.now (unread_table f) table) ≡ Err f)) }
     ensures few { IfOk result (λ t. row_count t ≤ rows_of limits.now table) }
     ensures own { IfErr result (IsFaultOf table) }
     ensures causes { HasFeedCauses folder.now (F.state files.old) (F.state files.new) result }

@@ -47,7 +47,7 @@ fn rows_of(alloc: Global, text: &[u8]) -> Result<Rows, Fail> {
     }
 }
 
-/// The delays that a text tells.
+/// The delays of a text.
 fn delays_of(alloc: Global, text: &str) -> Result<DelayTable, Fail> {
     let rows = rows_of(alloc, text.as_bytes())?;
     match DelayTable::read(alloc, &rows) {
@@ -56,7 +56,7 @@ fn delays_of(alloc: Global, text: &str) -> Result<DelayTable, Fail> {
     }
 }
 
-/// The rides that a text tells.
+/// The connections of a text.
 fn cut_of(alloc: Global, text: &str) -> Result<CutTable, Fail> {
     let rows = rows_of(alloc, text.as_bytes())?;
     match read_cut(alloc, &rows, &Limits::standard()) {
@@ -98,7 +98,7 @@ pub fn network_with(alloc: Global, cut: &str, delays: &str) -> Result<Network, F
     Ok(network)
 }
 
-/// The network of a cut file, which is to have so many places, with the usual delays, and its names.
+/// The network of a cut file, which has this many places, with the usual delays, and its names.
 pub fn named_network(alloc: Global, cut: &str, places: u32) -> Result<(Network, Names), Fail>
     ensures fit { IfOk result (λ parts. NamesFit parts.1 parts.0) }
     ensures places { IfOk result (λ parts. length parts.0.change ≡ places) }
@@ -129,7 +129,7 @@ pub fn leg(enter: u32, exit: u32) -> Leg
     }
 }
 
-/// A row by so many seconds after eight o'clock, with a ride of one connection.
+/// A row by this many seconds after eight o'clock, with a ride of one connection.
 pub fn row(by: u32, connection: u32) -> GraphRow
     ensures by { result.by.0 ≡ 1717401600 + by }
     ensures enter { result.leg.enter.0 ≡ connection }

@@ -95,7 +95,7 @@ fn lists_of(alloc: Global, links: &[Link], places: u32) -> Result<List<List<Way>
     Ok(lists)
 }
 
-/// The network with these links, which stand by rising place where they begin.
+/// The network with these links, in the order of the places where they begin.
 pub fn linked(alloc: Global, network: Network, links: &[Link]) -> Result<Network, Fail>
     ensures connections { IfOk result (λ found. found.connections ≡ network.connections) }
     ensures change { IfOk result (λ found. found.change ≡ network.change) }
@@ -106,7 +106,7 @@ pub fn linked(alloc: Global, network: Network, links: &[Link]) -> Result<Network
     Ok(network.with_links(lists))
 }
 
-/// The network of a cut file, which is to have so many places, with these links.
+/// The network of a cut file, which has this many places, with these links.
 pub fn links_of(alloc: Global, cut: &str, places: u32, links: &[Link]) -> Result<Network, Fail>
     ensures { IfOk result (λ network. length network.change ≡ places) }
 {

@@ -45,7 +45,7 @@ fn certifies_that_one_is_there(rt: HostRuntime) -> Result<(), Fail> {
     )
 }
 
-/// Stops where a check of this certificate tells another status, answer or line.
+/// Fails unless a check of this certificate has this status, answer and line.
 fn checks(
     rt: &impl Abort,
     alloc: Global,
@@ -62,7 +62,7 @@ fn checks(
     Ok(())
 }
 
-/// Stops where a check of the certificate with this value of r3 tells another status, answer or line.
+/// Fails unless a check of the certificate with this value of r3 has this status, answer and line.
 fn checks_third(
     rt: &impl Abort,
     alloc: Global,
@@ -133,7 +133,7 @@ fn refuses_proof_files(rt: HostRuntime) -> Result<(), Fail> {
 }
 
 #[test]
-fn tells_that_a_proof_file_is_missing(rt: HostRuntime) -> Result<(), Fail> {
+fn reports_that_a_proof_file_is_missing(rt: HostRuntime) -> Result<(), Fail> {
     refuses(
         &rt,
         rt.alloc(),
@@ -161,7 +161,7 @@ fn refuses_a_proof_file_of_another_query(rt: HostRuntime) -> Result<(), Fail> {
 const CHECK_GRAPH: &str =
     "check --cut c --delays d --from A --to T --at 2024-06-03T08:00:00 --graph g";
 
-/// Stops where a check of this graph tells another status, answer or line.
+/// Fails unless a check of this graph has this status, answer and line.
 fn checks_graph(
     rt: &impl Abort,
     alloc: Global,
@@ -182,7 +182,7 @@ const UNSAFE_GRAPH: &str =
     "graph,1,A,T,2024-06-03T08:00:00,2024-06-03T10:42:00,2024-06-03T08:54:42.000000000,2024-06-03T08:54:42.000000000\nstart,2024-06-03T08:00:00,r1,1,2024-06-03T08:00:00,1,B,2024-06-03T08:20:00\nplace,B,120,1,,,,\nleg,2024-06-03T08:22:00,r2,1,2024-06-03T08:24:00,1,T,2024-06-03T08:50:00\n";
 
 #[test]
-fn tells_the_bounds_of_a_graph(rt: HostRuntime) -> Result<(), Fail> {
+fn reports_the_bounds_of_a_graph(rt: HostRuntime) -> Result<(), Fail> {
     checks_graph(
         &rt,
         rt.alloc(),
@@ -194,7 +194,7 @@ fn tells_the_bounds_of_a_graph(rt: HostRuntime) -> Result<(), Fail> {
 }
 
 #[test]
-fn tells_where_a_graph_is_not_safe(rt: HostRuntime) -> Result<(), Fail> {
+fn reports_where_a_graph_is_not_safe(rt: HostRuntime) -> Result<(), Fail> {
     checks_graph(
         &rt,
         rt.alloc(),

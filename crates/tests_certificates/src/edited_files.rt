@@ -26,13 +26,13 @@ fn edited(alloc: Global, whole: &str, at: usize, place: usize) -> Result<String,
     Ok(text)
 }
 
-/// What a line of words tells over the usual files and one more.
+/// What a line of words prints over the usual files and one more.
 fn output_with(alloc: Global, words: &str, text: &str) -> Result<Output, Fail> {
     let [cut, delays] = CHANGE;
     output_of(alloc, [cut, delays, ("f", text)].as_slice(), words)
 }
 
-/// What it tells where a field of that one is edited.
+/// What it prints if a field of that one is edited.
 fn output_edited(
     alloc: Global,
     words: &str,
@@ -45,14 +45,14 @@ fn output_edited(
 }
 
 /// Stops where an edited field is not refused with this status, and with a line that begins like this.
-fn is_looked_at(rt: &impl Abort, told: &Output, status: u8, front: &str, place: usize) {
+fn is_looked_at(rt: &impl Abort, reported: &Output, status: u8, front: &str, place: usize) {
     let refused = output.status == status && output.out.is_empty();
     let so = refused && output.err.as_str().starts_with(front);
     let (status, line) = (output.status, output.err.as_str());
     assert!(rt; so, "{front}{place}: {status} {line}");
 }
 
-/// Stops where one of so many fields of a line, each edited in its turn, is not refused with this status and a line that
+/// Fails unless each field of a line, edited in its turn, is refused with this status and a line that
 /// begins like this.
 fn are_looked_at(
     rt: &impl Abort,

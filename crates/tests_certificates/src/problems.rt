@@ -1,4 +1,4 @@
-//! The problem of a small cut file, and what is told where its delay file is missing.
+//! The problem of a small cut file, and its fault if the delay file is missing.
 use command_line::{Journey, Timetable};
 use csv_rows::Limits;
 use journey_model::{Fault, Input};

@@ -123,7 +123,7 @@ fn is_never_late_where_it_is_already(rt: HostRuntime) -> Result<(), Fail> {
 }
 
 #[test]
-fn tells_each_departure(rt: HostRuntime) -> Result<(), Fail> {
+fn reports_each_departure(rt: HostRuntime) -> Result<(), Fail> {
     answers(
         &rt,
         rt.alloc(),
@@ -141,7 +141,7 @@ fn tells_each_departure(rt: HostRuntime) -> Result<(), Fail> {
 }
 
 #[test]
-fn tells_the_departure_after_the_last_moment(rt: HostRuntime) -> Result<(), Fail> {
+fn reports_the_departure_after_the_last_moment(rt: HostRuntime) -> Result<(), Fail> {
     answers(
         &rt,
         rt.alloc(),
@@ -152,7 +152,7 @@ fn tells_the_departure_after_the_last_moment(rt: HostRuntime) -> Result<(), Fail
 }
 
 #[test]
-fn tells_no_departure_that_is_not_safe(rt: HostRuntime) -> Result<(), Fail> {
+fn reports_no_departure_that_is_not_safe(rt: HostRuntime) -> Result<(), Fail> {
     refuses(
         &rt,
         rt.alloc(),
@@ -164,7 +164,7 @@ fn tells_no_departure_that_is_not_safe(rt: HostRuntime) -> Result<(), Fail> {
 }
 
 #[test]
-fn tells_how_late_one_can_leave(rt: HostRuntime) -> Result<(), Fail> {
+fn reports_how_late_one_can_leave(rt: HostRuntime) -> Result<(), Fail> {
     answers(
         &rt,
         rt.alloc(),
@@ -182,7 +182,7 @@ fn tells_how_late_one_can_leave(rt: HostRuntime) -> Result<(), Fail> {
 }
 
 #[test]
-fn tells_that_one_can_leave_no_more(rt: HostRuntime) -> Result<(), Fail> {
+fn reports_that_one_can_leave_no_more(rt: HostRuntime) -> Result<(), Fail> {
     refuses(
         &rt,
         rt.alloc(),

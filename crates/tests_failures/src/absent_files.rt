@@ -17,8 +17,8 @@ fn files_without(alloc: Global, scene: Scene, absent: SceneFile) -> Result<Memor
     Ok(files)
 }
 
-/// Stops where an absent file whose opening fails is not told as one that cannot be read, or where it is not told
-/// by this status after the files have healed.
+/// Fails unless an absent file whose opening fails is reported as one that cannot be read, and, after the files have healed,
+/// is reported by this status.
 fn is_read_first(
     rt: &impl Abort,
     alloc: Global,

@@ -84,7 +84,7 @@ fn all_lengths(
     Ok(cases)
 }
 
-/// Stops where an empty file is not told with this status and line.
+/// Fails unless an empty file has this status and line.
 fn is_refused_empty(
     rt: &impl Abort,
     alloc: Global,
@@ -218,7 +218,7 @@ fn lengths_of_the_last_quarter_of_the_graph(rt: HostRuntime) -> Result<(), Fail>
     Ok(())
 }
 
-/// A table that a feed may lack counts as absent where it is empty: so does a calendar beside exceptions.
+/// An optional table counts as absent if it is empty: so does a calendar beside exceptions.
 #[test]
 fn empty_files(rt: HostRuntime) -> Result<(), Fail> {
     for (scene, source, status, line) in [

@@ -26,7 +26,7 @@ fn gives_all(
     Ok(())
 }
 
-/// Stops where what was told is not that this file cannot be read.
+/// Fails unless the fault is that this file cannot be read.
 fn is_refused(
     rt: &impl Abort,
     alloc: Global,

@@ -10,7 +10,7 @@ use std::test::Fail;
 const MOST_WRITES: u32 = 40;
 
 /// Lets one write of the answer fail, and answers whether a run meets it. Then the status is 8, and what is written
-/// is the front of the text that stands before that write.
+/// is the part of the text before that write.
 fn meets(
     rt: &impl Abort,
     alloc: Global,

@@ -19,7 +19,7 @@ const SAFE: &str = "safe --cut c --delays d --from A --to T --at 2024-06-03T08:0
 
 const PLAN: &str = "plan --cut c --delays d --from A --to T --at 2024-06-03T08:00:00";
 
-/// Stops where a ride that is sure at nine is told to be there by another moment or in another mean.
+/// Fails unless a ride that is sure at nine arrives by this moment, and on average at that one.
 fn is_there(rt: &impl Abort, alloc: Global, cut: &str, safe: &str, plan: &str) -> Result<(), Fail> {
     let sources = [("c", cut), ("d", SURE_AT_NINE)];
     answers(rt, alloc, sources.as_slice(), SAFE, safe)?;
@@ -62,7 +62,7 @@ fn is_of_no_route_in_a_cut_file(rt: HostRuntime) -> Result<(), Fail> {
 }
 
 #[test]
-fn tells_the_line_of_a_group(rt: HostRuntime) -> Result<(), Fail> {
+fn reports_the_line_of_a_group(rt: HostRuntime) -> Result<(), Fail> {
     for (delays, line) in [
         (
             "class,delay,weight,hour\n*,0,8000,\n*,300,1500,\n*,900,500,\n*,0,9000,9\n",
@@ -84,7 +84,7 @@ fn row_of(alloc: Global, start: &str, number: u32, end: &str) -> Result<String, 
     Ok(format!(in alloc; "{start}{number}{end}")?)
 }
 
-/// A file with so many rows, each with its number.
+/// A file with this many rows, each with its number.
 fn with_rows(
     alloc: Global,
     head: &str,

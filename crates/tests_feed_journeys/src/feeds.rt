@@ -124,7 +124,7 @@ fn refuses_stops_that_a_feed_lacks(rt: HostRuntime) -> Result<(), Fail> {
 }
 
 #[test]
-fn tells_the_line_of_an_unknown_trip(rt: HostRuntime) -> Result<(), Fail> {
+fn reports_the_line_of_an_unknown_trip(rt: HostRuntime) -> Result<(), Fail> {
     let times =
         "trip_id,arrival_time,departure_time,stop_id,stop_sequence\nt100,8:00:00,8:00:00,MIL,1\nt999,8:20:00,8:20:00,AIR,2\n";
     refuses(
@@ -145,7 +145,7 @@ fn tells_the_line_of_an_unknown_trip(rt: HostRuntime) -> Result<(), Fail> {
     )
 }
 
-/// What is told of a safe journey where the first read of the stop times fails.
+/// The output of a safe journey if the first read of the stop times fails.
 fn output_without_times(alloc: Global) -> Result<Output, Fail> {
     let mut files = files_of(alloc, old_town(USUAL_DELAYS).as_slice())?;
     files.fail("f/stop_times.txt", 1)?;
@@ -153,7 +153,7 @@ fn output_without_times(alloc: Global) -> Result<Output, Fail> {
 }
 
 #[test]
-fn tells_a_table_that_cannot_be_read(rt: HostRuntime) -> Result<(), Fail> {
+fn reports_a_table_that_cannot_be_read(rt: HostRuntime) -> Result<(), Fail> {
     let output = output_without_times(rt.alloc())?;
     is_output(
         &rt,

@@ -144,8 +144,8 @@ const TOLD: [(u32, &str, &str, u16, &str); 3] = [
 fn reads_trips(rt: HostRuntime) -> Result<(), Fail> {
     let feed = small_feed(rt.alloc())?;
     for (trip, id, service, route_type, route) in TOLD {
-        let told = Some((id, service, route_type, route));
-        assert_eq!(rt; trip_at(&feed, trip), told, "{trip}");
+        let reported = Some((id, service, route_type, route));
+        assert_eq!(rt; trip_at(&feed, trip), reported, "{trip}");
     }
     Ok(())
 }

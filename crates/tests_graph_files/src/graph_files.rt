@@ -86,28 +86,28 @@ fn fault_of(alloc: Global, lines: &[&str]) -> Result<Option<TextFault>, Fail> {
 }
 
 /// The query of a graph, its bounds in nanoseconds, and its rows for B.
-type Told = (Query, (u64, u64), Vec<GraphRow>);
+type Reported = (Query, (u64, u64), Vec<GraphRow>);
 
 fn rows_of(alloc: Global, graph: &PlanGraph) -> Result<Vec<GraphRow>, Fail> {
     Ok(rows_by_place(graph)?.to_vec(alloc)?)
 }
 
-fn parts_of(alloc: Global, head: &Head, graph: &PlanGraph) -> Result<Told, Fail> {
+fn parts_of(alloc: Global, head: &Head, graph: &PlanGraph) -> Result<Reported, Fail> {
     Ok((head.query, nanos(head.bounds), rows_of(alloc, graph)?))
 }
 
-/// What a text tells.
-fn told_of(alloc: Global, text: &str) -> Result<Told, Fail> {
+/// What a text says.
+fn reported_of(alloc: Global, text: &str) -> Result<Reported, Fail> {
     match graph_of(alloc, text)? {
         Ok((head, graph)) => parts_of(alloc, &head, &graph),
         Err(_) => Err("no graph".into()),
     }
 }
 
-/// What lines tell.
-fn lines_told(alloc: Global, lines: &[&str]) -> Result<Told, Fail> {
+/// What lines say.
+fn lines_reported(alloc: Global, lines: &[&str]) -> Result<Reported, Fail> {
     let text = text_of(alloc, lines, "\n")?;
-    told_of(alloc, text.as_str())
+    reported_of(alloc, text.as_str())
 }
 
 /// How many places have a table in the graph of a text.
@@ -172,7 +172,7 @@ fn trip_fault(alloc: Global, lines: &[&str], delays: &[u32]) -> Result<Option<Re
 
 #[test]
 fn reads_the_graph(rt: HostRuntime) -> Result<(), Fail> {
-    let (query, bounds, rows) = lines_told(rt.alloc(), GRAPH.as_slice())?;
+    let (query, bounds, rows) = lines_reported(rt.alloc(), GRAPH.as_slice())?;
     assert_eq!(rt; (query, bounds), (asked(2), (EXPECTED, EXPECTED)));
     assert_eq!(rt; rows.as_slice(), limits().as_slice());
     Ok(())
@@ -347,15 +347,15 @@ fn writes_the_plan(rt: HostRuntime) -> Result<(), Fail> {
     Ok(())
 }
 
-/// What the written text tells.
-fn written_told(alloc: Global) -> Result<Told, Fail> {
+/// What the written text says.
+fn written_reported(alloc: Global) -> Result<Reported, Fail> {
     let text = plan_text(alloc)?;
-    told_of(alloc, std::str::from_utf8(text.as_slice())?)
+    reported_of(alloc, std::str::from_utf8(text.as_slice())?)
 }
 
 #[test]
 fn reads_the_written_plan_back(rt: HostRuntime) -> Result<(), Fail> {
-    let (query, bounds, rows) = written_told(rt.alloc())?;
+    let (query, bounds, rows) = written_reported(rt.alloc())?;
     assert_eq!(rt; (query, bounds), (asked(2), (EXPECTED, EXPECTED)));
     assert_eq!(rt; rows.as_slice(), limits().as_slice());
     Ok(())

@@ -220,53 +220,53 @@ fn compacts_to_one_table(rt: HostRuntime) -> Result<(), Fail> {
 }
 
 /// The rows of a graph and its bounds in nanoseconds.
-pub(crate) type Told = (Vec<GraphRow>, (u64, u64));
+pub(crate) type Reported = (Vec<GraphRow>, (u64, u64));
 
-fn plan_told(alloc: Global, found: &Found<PlanGraph, Span>) -> Result<Told, Fail> {
+fn plan_reported(alloc: Global, found: &Found<PlanGraph, Span>) -> Result<Reported, Fail> {
     Ok((place_rows(alloc, &found.graph)?, nanos(found.value)))
 }
 
-/// What is told of the graph by place.
-pub(crate) fn planned_told(alloc: Global, network: &Network, target: u32) -> Result<Told, Fail> {
+/// What is said of the graph by place.
+pub(crate) fn planned_reported(alloc: Global, network: &Network, target: u32) -> Result<Reported, Fail> {
     let found = planned_to(alloc, network, target)?;
-    plan_told(alloc, &found)
+    plan_reported(alloc, &found)
 }
 
-fn expansion_told(alloc: Global, found: &Found<ExpandedGraph, Span>) -> Result<Told, Fail> {
+fn expansion_reported(alloc: Global, found: &Found<ExpandedGraph, Span>) -> Result<Reported, Fail> {
     Ok((ride_rows(alloc, &found.graph)?, nanos(found.value)))
 }
 
-/// What is told of the graph by ride.
-pub(crate) fn expanded_told(alloc: Global, network: &Network, target: u32) -> Result<Told, Fail> {
+/// What is said of the graph by ride.
+pub(crate) fn expanded_reported(alloc: Global, network: &Network, target: u32) -> Result<Reported, Fail> {
     let found = expanded_to(alloc, network, target)?;
-    expansion_told(alloc, &found)
+    expansion_reported(alloc, &found)
 }
 
-fn expanded_of_buses(alloc: Global) -> Result<Told, Fail> {
+fn expanded_of_buses(alloc: Global) -> Result<Reported, Fail> {
     let network = network_of(alloc, BUSES, 3)?;
-    expanded_told(alloc, &network, 2)
+    expanded_reported(alloc, &network, 2)
 }
 
 #[test]
 fn expands_with_bounds(rt: HostRuntime) -> Result<(), Fail> {
-    let told = expanded_of_buses(rt.alloc())?;
+    let reported = expanded_of_buses(rt.alloc())?;
     assert_eq!(rt;
-        (told.0.as_slice(), told.1),
+        (reported.0.as_slice(), reported.1),
         (arrivals().as_slice(), (EXPECTED, EXPECTED))
     );
     Ok(())
 }
 
-fn planned_of_buses(alloc: Global) -> Result<Told, Fail> {
+fn planned_of_buses(alloc: Global) -> Result<Reported, Fail> {
     let network = network_of(alloc, BUSES, 3)?;
-    planned_told(alloc, &network, 2)
+    planned_reported(alloc, &network, 2)
 }
 
 #[test]
 fn plans_with_bounds(rt: HostRuntime) -> Result<(), Fail> {
-    let told = planned_of_buses(rt.alloc())?;
+    let reported = planned_of_buses(rt.alloc())?;
     assert_eq!(rt;
-        (told.0.as_slice(), told.1),
+        (reported.0.as_slice(), reported.1),
         (limits().as_slice(), (EXPECTED, EXPECTED))
     );
     Ok(())
@@ -281,23 +281,23 @@ fn merged_plan(alloc: Global, network: &Network) -> Result<Option<Found<PlanGrap
     Ok(plan(alloc, &mut order, network, &asked(2))?)
 }
 
-fn merged_told(alloc: Global, network: &Network) -> Result<Told, Fail> {
+fn merged_reported(alloc: Global, network: &Network) -> Result<Reported, Fail> {
     match merged_plan(alloc, network)? {
-        Some(found) => plan_told(alloc, &found),
+        Some(found) => plan_reported(alloc, &found),
         None => Err("no plan".into()),
     }
 }
 
-fn merged_of_buses(alloc: Global) -> Result<Told, Fail> {
+fn merged_of_buses(alloc: Global) -> Result<Reported, Fail> {
     let network = network_of(alloc, BUSES, 3)?;
-    merged_told(alloc, &network)
+    merged_reported(alloc, &network)
 }
 
 #[test]
 fn plans_over_merged_runs(rt: HostRuntime) -> Result<(), Fail> {
-    let told = merged_of_buses(rt.alloc())?;
+    let reported = merged_of_buses(rt.alloc())?;
     assert_eq!(rt;
-        (told.0.as_slice(), told.1),
+        (reported.0.as_slice(), reported.1),
         (limits().as_slice(), (EXPECTED, EXPECTED))
     );
     Ok(())

@@ -1,5 +1,5 @@
 //! The graphs of three buses with a walk between the first and the others.
-use crate::graphs::{Told, arrivals, expanded_told, planned_told, pruned_rows};
+use crate::graphs::{Reported, arrivals, expanded_reported, planned_reported, pruned_rows};
 use plan_graph::GraphRow;
 use std::alloc::Global;
 use std::test::Fail;
@@ -18,31 +18,31 @@ fn prunes_to_a_row_for_each_walk(rt: HostRuntime) -> Result<(), Fail> {
     Ok(())
 }
 
-fn expanded_apart(alloc: Global) -> Result<Told, Fail> {
+fn expanded_apart(alloc: Global) -> Result<Reported, Fail> {
     let network = links_of(alloc, APART, 4, five_minutes().as_slice())?;
-    expanded_told(alloc, &network, 3)
+    expanded_reported(alloc, &network, 3)
 }
 
 #[test]
 fn expands_over_a_link(rt: HostRuntime) -> Result<(), Fail> {
-    let told = expanded_apart(rt.alloc())?;
+    let reported = expanded_apart(rt.alloc())?;
     assert_eq!(rt;
-        (told.0.as_slice(), told.1),
+        (reported.0.as_slice(), reported.1),
         (arrivals().as_slice(), (EXPECTED, EXPECTED))
     );
     Ok(())
 }
 
-fn planned_apart(alloc: Global) -> Result<Told, Fail> {
+fn planned_apart(alloc: Global) -> Result<Reported, Fail> {
     let network = links_of(alloc, APART, 4, five_minutes().as_slice())?;
-    planned_told(alloc, &network, 3)
+    planned_reported(alloc, &network, 3)
 }
 
 #[test]
 fn plans_over_a_link(rt: HostRuntime) -> Result<(), Fail> {
-    let told = planned_apart(rt.alloc())?;
+    let reported = planned_apart(rt.alloc())?;
     assert_eq!(rt;
-        (told.0.as_slice(), told.1),
+        (reported.0.as_slice(), reported.1),
         (walked_limits().as_slice(), (EXPECTED, EXPECTED))
     );
     Ok(())

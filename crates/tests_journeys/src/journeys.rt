@@ -4,7 +4,7 @@ use std::process::Abort;
 use std::test::Fail;
 use test_runs::{USUAL_DELAYS, answers, begins, refuses};
 
-/// A journey, and what the commands tell of it: times on 2024-06-03.
+/// A journey, and what the commands print of it: times on 2024-06-03.
 #[derive(Clone, Copy)]
 struct Journey<'a> {
     cut: &'a str,
@@ -41,7 +41,7 @@ fn has_worst(rt: &impl Abort, alloc: Global, journey: &Journey) -> Result<(), Fa
     answers(rt, alloc, files.as_slice(), line.as_str(), out.as_str())
 }
 
-/// What `safe` tells of a journey.
+/// What `safe` prints of a journey.
 fn worst_text(alloc: Global, journey: &Journey) -> Result<String, Fail> {
     let Journey {
         from,
@@ -87,7 +87,7 @@ fn has_graph(
     begins(rt, alloc, files.as_slice(), line.as_str(), front.as_str())
 }
 
-/// Stops where the commands tell other numbers of a journey.
+/// Fails unless the commands print these numbers of a journey.
 fn agrees(rt: &impl Abort, alloc: Global, journey: &Journey) -> Result<(), Fail> {
     has_worst(rt, alloc, journey)?;
     has_graph(rt, alloc, journey, "expand", "expanded")?;

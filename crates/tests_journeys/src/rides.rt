@@ -28,7 +28,7 @@ const SAFE: &str = "safe --cut c --delays d --from A --to T --at 2024-06-03T08:0
 const PLAN: &str = "plan --cut c --delays d --from A --to T --at 2024-06-03T08:00:00";
 
 #[test]
-fn tells_the_least_worst_arrival(rt: HostRuntime) -> Result<(), Fail> {
+fn reports_the_least_worst_arrival(rt: HostRuntime) -> Result<(), Fail> {
     let direct = [DIRECT, DELAYS];
     for (files, line, out) in [
         (
@@ -53,7 +53,7 @@ fn tells_the_least_worst_arrival(rt: HostRuntime) -> Result<(), Fail> {
 }
 
 #[test]
-fn tells_that_there_is_none(rt: HostRuntime) -> Result<(), Fail> {
+fn reports_that_there_is_none(rt: HostRuntime) -> Result<(), Fail> {
     let direct = [DIRECT, DELAYS];
     for (files, line, status, err) in [
         (
@@ -99,7 +99,7 @@ fn prints_decision_graphs(rt: HostRuntime) -> Result<(), Fail> {
 }
 
 #[test]
-fn tells_that_the_delay_file_is_missing(rt: HostRuntime) -> Result<(), Fail> {
+fn reports_that_the_delay_file_is_missing(rt: HostRuntime) -> Result<(), Fail> {
     refuses(
         &rt,
         rt.alloc(),
@@ -110,14 +110,14 @@ fn tells_that_the_delay_file_is_missing(rt: HostRuntime) -> Result<(), Fail> {
     )
 }
 
-/// What is told of a plan whose second write fails.
+/// The output of a plan whose second write fails.
 fn output_unwritten(alloc: Global) -> Result<Output, Fail> {
     let mut files = files_of(alloc, [DIRECT, DELAYS].as_slice())?;
     output_where(alloc, &mut files, PLAN, 64, &[2], &[])
 }
 
 #[test]
-fn tells_that_it_cannot_write(rt: HostRuntime) -> Result<(), Fail> {
+fn reports_that_it_cannot_write(rt: HostRuntime) -> Result<(), Fail> {
     let output = output_unwritten(rt.alloc())?;
     is_output(
         &rt,
@@ -130,7 +130,7 @@ fn tells_that_it_cannot_write(rt: HostRuntime) -> Result<(), Fail> {
     Ok(())
 }
 
-/// What is told of a plan where the second read of the cut file fails.
+/// The output of a plan if the second read of the cut file fails.
 fn output_unread(alloc: Global) -> Result<Output, Fail> {
     let mut files = files_of(alloc, [DIRECT, DELAYS].as_slice())?;
     files.fail("c", 2)?;
@@ -138,7 +138,7 @@ fn output_unread(alloc: Global) -> Result<Output, Fail> {
 }
 
 #[test]
-fn tells_that_it_cannot_read(rt: HostRuntime) -> Result<(), Fail> {
+fn reports_that_it_cannot_read(rt: HostRuntime) -> Result<(), Fail> {
     let output = output_unread(rt.alloc())?;
     is_output(&rt, PLAN, &output, 7, "", "meat: cannot read cut file\n");
     Ok(())

@@ -33,7 +33,7 @@ fn end_within(
     (report.status.0, report.fault)
 }
 
-/// What a line of words told within limits over some files.
+/// What a line of words printed within limits over some files.
 fn output_by_limits(
     alloc: Global,
     files: &mut MemoryFiles,
@@ -47,7 +47,7 @@ fn output_by_limits(
     output_by(alloc, end, &out, &err)
 }
 
-/// What a line of words tells within limits over files with these texts.
+/// What a line of words prints within limits over files with these texts.
 fn output_within(
     alloc: Global,
     sources: &[Source],

@@ -13,7 +13,7 @@ fn bytes_of<F: Files>(alloc: Global, files: &mut F, path: &str) -> Result<Vec<u8
     }
 }
 
-/// Stops where the bytes of a made file are not so many lines, or begin or end in another way.
+/// Fails unless the bytes of a made file have this many lines, and begin and end like this.
 fn is_made(rt: &impl Abort, path: &str, bytes: &[u8], rows: usize, front: &str, end: &str) {
     let lines = bytes.iter().filter(|byte| **byte == b'\n').count();
     assert_eq!(rt; lines, rows, "{path}");
@@ -109,7 +109,7 @@ fn ten_lines(rt: HostRuntime) -> Result<(), Fail> {
     are_ten_lines(&rt, rt.alloc(), &mut files, &mut whole)
 }
 
-/// The stop times of so many lines more than ten.
+/// The stop times of this many lines more than ten.
 fn stop_times_of(alloc: Global, more: u32) -> Result<Vec<u8>, Fail> {
     let mut files = MadeFiles::new(alloc, 10 + more % 391)?;
     Ok(bytes_of(alloc, &mut files, "feed/stop_times.txt")?)

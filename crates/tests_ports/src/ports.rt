@@ -25,7 +25,7 @@ fn loaded<F: Files>(
     }
 }
 
-/// Whoever knows only what `load` promises knows that it never fails over steady files.
+/// From what `load` promises alone it follows that it never fails over steady files.
 fn loaded_steadily(
     alloc: Global,
     files: &mut SteadyFiles,
@@ -123,7 +123,7 @@ fn memory_files_are_whole(rt: HostRuntime) -> Result<(), Fail> {
 }
 
 #[test]
-fn memory_files_fail_where_told(rt: HostRuntime) -> Result<(), Fail> {
+fn memory_files_fail_where_reported(rt: HostRuntime) -> Result<(), Fail> {
     let mut files = failing_files(rt.alloc(), &[("a", 3), ("c", 0)])?;
     refuses_each(
         &rt,
@@ -166,7 +166,7 @@ fn memory_files_heal(rt: HostRuntime) -> Result<(), Fail> {
     Ok(())
 }
 
-/// Whether a file that has failed fails again where it is told to after it has healed.
+/// Whether a file that has failed fails again where it should after it has healed.
 fn fails_again(alloc: Global, files: &mut MemoryFiles) -> Result<bool, Fail> {
     if !refuses(alloc, files, "eight", 9, "cannot read") {
         return Ok(false);
@@ -217,7 +217,7 @@ fn puts(sink: &mut MemorySink) -> (bool, bool, bool) {
 }
 
 #[test]
-fn memory_sinks_fail_where_told(rt: HostRuntime) -> Result<(), Fail> {
+fn memory_sinks_fail_where_reported(rt: HostRuntime) -> Result<(), Fail> {
     let mut sink = short_sink(rt.alloc())?;
     assert_eq!(rt; puts(&mut sink), (true, false, false));
     assert_eq!(rt; sink.bytes(), b"abcefgh".as_slice());

@@ -20,7 +20,7 @@ fn rows_of(alloc: Global, text: &[u8]) -> Result<Rows, CutFault> {
     }
 }
 
-/// What rows tell, of which three are read at most.
+/// What rows say, of which three are read at most.
 fn cut_of(alloc: Global, rows: &Rows) -> Result<CutTable, CutFault> {
     let mut limits = Limits::standard();
     limits.cut_rows = 3;
@@ -226,7 +226,7 @@ fn rides_in(alloc: Global) -> Result<[Option<(u32, ClassId)>; 3], Fail> {
 }
 
 #[test]
-fn tells_rides(rt: HostRuntime) -> Result<(), Fail> {
+fn reports_rides(rt: HostRuntime) -> Result<(), Fail> {
     let want = [
         Some((2, ClassId(0))),
         Some((7, ClassId(1))),

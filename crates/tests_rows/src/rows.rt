@@ -67,9 +67,9 @@ fn places_in_it(
     let rows = named_columns(alloc)?;
     let [first, second, third] = columns;
     Ok((
-        rows.place_of(first),
-        rows.place_of(second),
-        rows.place_of(third),
+        rows.index_of(first),
+        rows.index_of(second),
+        rows.index_of(third),
     ))
 }
 
@@ -96,7 +96,7 @@ fn counts_columns_and_rows(rt: HostRuntime) -> Result<(), Fail> {
     Ok(())
 }
 
-/// The line of its row, and whether that has this name under a column, and none under a column that it lacks.
+/// The line of its row, and whether that has this name under a column, and none under a column that it does not have.
 fn row_of_it(alloc: Global, name: &str) -> Result<(u64, bool, bool), Fail> {
     let rows = named_columns(alloc)?;
     if rows.count() == 0 {
@@ -139,7 +139,7 @@ fn no_record(rt: HostRuntime) {
 }
 
 #[test]
-fn tells_a_column_that_is_lacking(rt: HostRuntime) {
+fn reports_a_column_that_is_lacking(rt: HostRuntime) {
     let fault = FeedFault::MissingColumn(Table::Stops, Column::StopId);
     assert_eq!(rt; lack(Table::Stops, Column::StopId, None), Some(fault));
     assert_eq!(rt; lack(Table::Stops, Column::StopId, Some(2)), None);

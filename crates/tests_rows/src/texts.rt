@@ -75,7 +75,7 @@ fn finds_the_texts_of_a_list(rt: HostRuntime) -> Result<(), Fail> {
     Ok(())
 }
 
-/// Whether an index that takes these texts, none of which stands twice, numbers each by its place.
+/// Whether an index that takes these texts, all different, numbers each by its position.
 fn numbers_by_place<'a>(index: &mut TextIndex<'a>, texts: &[&'a str]) -> Result<bool, Fail> {
     for i in 0..texts.len() {
         if index.len() >= 100 || index.add(texts[i])? as usize != i {

@@ -58,14 +58,14 @@ fn other_name(names: &Names) -> Option<&'static str> {
 }
 
 /// The first of those names that has another number, and how many places there are.
-fn names_told(alloc: Global) -> Result<(Option<&'static str>, u32), NoMemory> {
+fn names_reported(alloc: Global) -> Result<(Option<&'static str>, u32), NoMemory> {
     let names = names_of(alloc)?;
     Ok((other_name(&names), names.places()))
 }
 
 #[test]
 fn numbers_names_as_they_are_added(rt: HostRuntime) {
-    assert_eq!(rt; names_told(rt.alloc()), Ok((None, 2)));
+    assert_eq!(rt; names_reported(rt.alloc()), Ok((None, 2)));
 }
 
 /// Which of three places are new, how many there are then, and the last of them.
@@ -114,14 +114,14 @@ fn copy_before(alloc: Global) -> Result<Names, NoMemory> {
 
 /// The first name of the copy that has another number, how many places it has, and the one that was
 /// added after it.
-fn copy_told(alloc: Global) -> Result<(Option<&'static str>, u32, Option<PlaceId>), NoMemory> {
+fn copy_reported(alloc: Global) -> Result<(Option<&'static str>, u32, Option<PlaceId>), NoMemory> {
     let copy = copy_before(alloc)?;
     Ok((other_name(&copy), copy.places(), copy.place("Airport")))
 }
 
 #[test]
 fn copies_names_with_their_numbers(rt: HostRuntime) {
-    assert_eq!(rt; copy_told(rt.alloc()), Ok((None, 2, None)));
+    assert_eq!(rt; copy_reported(rt.alloc()), Ok((None, 2, None)));
 }
 
 /// The name of the place or the run that has this name.
@@ -133,7 +133,7 @@ fn name_text<'a>(names: &'a Names, name: &str) -> Option<&'a str> {
 }
 
 #[test]
-fn tells_the_names_of_numbers(rt: HostRuntime) -> Result<(), Fail> {
+fn reports_the_names_of_numbers(rt: HostRuntime) -> Result<(), Fail> {
     let names = names_of(rt.alloc())?;
     for name in ["Mill", "Old Town", "t100", "b200", "b201"] {
         assert_eq!(rt; name_text(&names, name), Some(name));
@@ -204,8 +204,8 @@ fn at_once(alloc: Global) -> Result<(Vec<u32>, Option<ConnectionId>), Fail> {
 
 #[test]
 fn the_order_goes_backwards(rt: HostRuntime) -> Result<(), Fail> {
-    let told = at_once(rt.alloc())?;
-    assert_eq!(rt; (told.0.as_slice(), told.1), (BACKWARDS.as_slice(), None));
+    let reported = at_once(rt.alloc())?;
+    assert_eq!(rt; (reported.0.as_slice(), reported.1), (BACKWARDS.as_slice(), None));
     Ok(())
 }
 
@@ -227,8 +227,8 @@ fn again(alloc: Global) -> Result<(Vec<u32>, [Option<ConnectionId>; 2]), Fail> {
 
 #[test]
 fn the_order_begins_again(rt: HostRuntime) -> Result<(), Fail> {
-    let told = again(rt.alloc())?;
+    let reported = again(rt.alloc())?;
     let first = [Some(ConnectionId(3)), Some(ConnectionId(2))];
-    assert_eq!(rt; (told.0.as_slice(), told.1), (BACKWARDS.as_slice(), first));
+    assert_eq!(rt; (reported.0.as_slice(), reported.1), (BACKWARDS.as_slice(), first));
     Ok(())
 }

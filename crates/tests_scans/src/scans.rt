@@ -41,15 +41,15 @@ pub(crate) type Planned = (u64, (u64, u64), Leg);
 
 // A plan whose expected arrival is a whole second: both arrivals, and where the first ride enters and
 // exits.
-pub(crate) type Told = Option<(u32, u32, u32, u32)>;
+pub(crate) type Reported = Option<(u32, u32, u32, u32)>;
 
-pub(crate) fn plan_at(told: Told) -> Option<Planned> {
-    let (worst, expected, enter, exit) = told?;
+pub(crate) fn plan_at(reported: Reported) -> Option<Planned> {
+    let (worst, expected, enter, exit) = reported?;
     let expected = u64::from(expected) * 1_000_000_000;
     Some((u64::from(worst), (expected, expected), leg(enter, exit)))
 }
 
-// What is asked, from a place to another, so many seconds after eight o'clock.
+// What is asked, from a place to another, this many seconds after eight o'clock.
 pub(crate) fn query(source: u32, target: u32, start: u32, deadline: Moment) -> Query
     ensures source { result.source.0 ≡ source }
     ensures target { result.target.0 ≡ target }
@@ -163,7 +163,7 @@ pub(crate) fn chosen<V: Score>(
 }
 
 #[test]
-fn tells_the_deadline(rt: HostRuntime) {
+fn reports_the_deadline(rt: HostRuntime) {
     let deadline = deadline(Moment(EIGHT), Moment(EIGHT + 4860), 200);
     assert_eq!(rt; deadline, Moment(EIGHT + 9720));
 }
@@ -223,7 +223,7 @@ fn plan_with(alloc: Global, dep: &str, start: u32) -> Result<Option<Planned>, Fa
 }
 
 // When the first way on goes and when one starts, and what is found.
-const CHANGES: [(&str, u32, Told); 4] = [
+const CHANGES: [(&str, u32, Reported); 4] = [
     ("08:24:00", 0, Some((4860, 3282, 0, 0))),
     ("08:24:00", 1, None),
     ("08:22:00", 0, Some((4860, 3282, 0, 0))),
@@ -233,23 +233,23 @@ const CHANGES: [(&str, u32, Told); 4] = [
 // A change takes two minutes to the second.
 #[test]
 fn plans_with_a_change(rt: HostRuntime) -> Result<(), Fail> {
-    for (dep, start, told) in CHANGES {
+    for (dep, start, reported) in CHANGES {
         let found = plan_with(rt.alloc(), dep, start)?;
-        assert_eq!(rt; found, plan_at(told), "{dep} {start}");
+        assert_eq!(rt; found, plan_at(reported), "{dep} {start}");
     }
     Ok(())
 }
 
-// Rides with so many places, what is asked of them, and what is found: in one run, and of two legs as
+// Rides with this many places, what is asked of them, and what is found: in one run, and of two legs as
 // good the one that the scan takes first.
-const PLANS: [(&str, u32, u32, u32, u32, Told); 4] = [
+const PLANS: [(&str, u32, u32, u32, u32, Reported); 4] = [
     (SEATED, 4, 0, 3, 0, Some((5400, 3870, 0, 1))),
     (AT_ONCE, 4, 1, 3, 1200, Some((3300, 2490, 1, 2))),
     (TWICE, 4, 1, 3, 600, Some((3300, 2490, 3, 3))),
     (EQUAL, 2, 0, 1, 0, Some((2100, 1290, 1, 1))),
 ];
 
-// What is found over the rides of a cut file with so many places.
+// What is found over the rides of a cut file with this many places.
 fn plan_of(
     alloc: Global,
     cut: &str,
@@ -264,9 +264,9 @@ fn plan_of(
 
 #[test]
 fn plans_in_one_run_and_with_a_tie(rt: HostRuntime) -> Result<(), Fail> {
-    for (cut, places, source, target, start, told) in PLANS {
+    for (cut, places, source, target, start, reported) in PLANS {
         let found = plan_of(rt.alloc(), cut, places, source, target, start)?;
-        assert_eq!(rt; found, plan_at(told), "{cut}");
+        assert_eq!(rt; found, plan_at(reported), "{cut}");
     }
     Ok(())
 }

@@ -1,7 +1,7 @@
 //! What the scan finds over networks with links, against values that were worked out by hand.
 ghost use Rattle.std.specs.Prelude.{◌≡◌, ◌≢◌, ◌<◌, length, IfOk};
 
-use crate::scans::{Planned, Told, best_plan, chosen, plan_at, query, solved};
+use crate::scans::{Planned, Reported, best_plan, chosen, plan_at, query, solved};
 use meat_scan::Scanned;
 use plan_model::{ConnectionId, Leg, Moment, Network, PlaceId, Query};
 use std::alloc::Global;
@@ -47,8 +47,8 @@ fn walked(alloc: Global, cut: &str, walks: &[(u32, u32, u32)]) -> Result<Network
 }
 
 // Rides and walks, from where to where is asked at eight o'clock, and what is found.
-const PLANS: [(&str, Walks, u32, u32, Told); 8] = [
-    // Of five minutes the walk from X to Y is in time for whoever comes a quarter of an hour late, and
+const PLANS: [(&str, Walks, u32, u32, Reported); 8] = [
+    // Of five minutes the walk from X to Y is in time for a traveller who is a quarter of an hour late, and
     // of a second more it is not.
     (APART, &[(1, 2, 300)], 0, 3, Some((4860, 3282, 0, 0))),
     (APART, &[(1, 2, 301)], 0, 3, None),
@@ -88,9 +88,9 @@ fn plan_over(
 
 #[test]
 fn plans_with_walks(rt: HostRuntime) -> Result<(), Fail> {
-    for (cut, walks, source, target, told) in PLANS {
+    for (cut, walks, source, target, reported) in PLANS {
         let found = plan_over(rt.alloc(), cut, walks, source, target)?;
-        assert_eq!(rt; found, plan_at(told), "{walks:?} {source} {target}");
+        assert_eq!(rt; found, plan_at(reported), "{walks:?} {source} {target}");
     }
     Ok(())
 }
@@ -190,14 +190,14 @@ fn boards_by_each_way(rt: HostRuntime) -> Result<(), Fail> {
     Ok(())
 }
 
-// The network of the first half hour, with a walk of so many seconds.
+// The network of the first half hour, with a walk of this many seconds.
 fn first_hour(alloc: Global, seconds: u32) -> Result<Network, Fail>
     ensures { IfOk result (λ network. length network.change ≡ 4) }
 {
     links_of(alloc, FIRST_HOUR, 4, &[walk(1, 2, seconds)])
 }
 
-// The entry that is chosen at X when all time begins, with a walk of so many seconds.
+// The entry that is chosen at X when all time begins, with a walk of this many seconds.
 fn first_entry(alloc: Global, seconds: u32) -> Result<Option<u32>, Fail> {
     let network = first_hour(alloc, seconds)?;
     let query = Query {

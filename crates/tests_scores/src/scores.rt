@@ -44,7 +44,7 @@ pub(crate) fn eight() -> Moment
     early(Moment(EIGHT))
 }
 
-/// So many seconds after a moment.
+/// This many seconds after a moment.
 pub(crate) fn later(moment: Moment, seconds: u64) -> Moment
     ensures { moment.0 ≤ result.0 }
 {
@@ -119,7 +119,7 @@ fn graph_of(alloc: Global, start: Option<u32>, rows: &[(u32, u32)]) -> Result<Pl
     two_rows(alloc, start, row(by, id), row(later, next))
 }
 
-/// What the score of such a graph over the three buses is, from A to T by so many seconds after eight.
+/// What the score of such a graph over the three buses is, from A to T by this many seconds after eight.
 fn scored(
     alloc: Global,
     start: Option<u32>,
@@ -160,8 +160,8 @@ fn scored_at_target(
     })
 }
 
-/// The score of the best graph over a cut file of so many places, from the first of them to the last, from eight
-/// o'clock on by so many seconds later.
+/// The score of the best graph over a cut file of this many places, from the first of them to the last, from eight
+/// o'clock on by this many seconds later.
 fn best_score(alloc: Global, cut: &str, places: u32, seconds: u64) -> Result<(u64, u64), Fail>
     requires { 0 < places }
 {
@@ -207,7 +207,7 @@ fn the_best_graph_has_the_least_expected_arrival(rt: HostRuntime) -> Result<(), 
     Ok(())
 }
 
-/// Where a traveller gets stuck, or is at a place too late, so many seconds after eight.
+/// Where a traveller gets stuck, or is at a place too late, this many seconds after eight.
 fn fails_at(place: PlaceId, seconds: u64) -> Result<(u64, u64), ScoreFault> {
     Err(ScoreFault::Unsafe(place, Moment(EIGHT.saturating_add(seconds))))
 }

@@ -12,7 +12,7 @@ use value_laws::WorstMoment;
 const ONE_RIDE: &str =
     "run,step,from,to,dep,arr\nr0,0,A,B,2024-06-03T08:00:00,2024-06-03T08:20:00\n";
 
-/// From the first place to the second, by so many seconds after eight.
+/// From the first place to the second, by this many seconds after eight.
 fn within(seconds: u64) -> Query
     ensures source { result.source.0 ≡ 0 }
     ensures target { result.target.0 ≡ 1 }

@@ -89,7 +89,7 @@ fn one_is_late_after_the_promise(rt: HostRuntime) -> Result<(), Fail> {
 }
 
 #[test]
-fn chances_are_told_by_eighteen_digits(rt: HostRuntime) -> Result<(), Fail> {
+fn chances_are_reported_by_eighteen_digits(rt: HostRuntime) -> Result<(), Fail> {
     assert_eq!(rt;
         write_chance(240_000_000_000_000_000),
         *b"0.240000000000000000"

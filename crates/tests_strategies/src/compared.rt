@@ -30,7 +30,7 @@ struct Counts {
     none: u64,
 }
 
-/// Whether bounds in nanoseconds enclose an expected arrival over so many rides, and are as near as
+/// Whether bounds in nanoseconds enclose an expected arrival over this many rides, and are as near as
 /// is promised.
 fn encloses(bounds: Span, expected: u128, rides: u32) -> bool {
     let scale = scale_of(rides);
@@ -40,7 +40,7 @@ fn encloses(bounds: Span, expected: u128, rides: u32) -> bool {
         && bounds.hi().saturating_sub(bounds.lo()) <= u64::from(rides)
 }
 
-/// Compares the plan of a query with the plain value, and tells whether a strategy is safe.
+/// Compares the plan of a query with the plain value, and returns whether a strategy is safe.
 fn compare_plan(alloc: Global, network: &Network, query: &Query) -> Result<bool, Fail>
     requires source { query.now.source.0 < length network.now.change }
     requires target { query.now.target.0 < length network.now.change }

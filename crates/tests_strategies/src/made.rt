@@ -34,7 +34,7 @@ impl Numbers {
         high.checked_rem(bound).unwrap_or(0)
     }
 
-    /// Whether one of so many cases comes.
+    /// Whether one of this many cases comes.
     pub(crate) fn one_in(&mut self, cases: u32) -> bool {
         self.below(cases) == 0
     }
@@ -74,7 +74,7 @@ pub(crate) fn delay_text(alloc: Global, numbers: &mut Numbers) -> Result<String,
     Ok(text)
 }
 
-/// Where a connection stands: its run, its step and its place, and when the last one arrived.
+/// Where a connection is: its run, its step and its place, and when the last one arrived.
 #[derive(Clone, Copy)]
 struct Stop {
     run: u32,

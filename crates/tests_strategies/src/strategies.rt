@@ -23,7 +23,7 @@ struct Search<'a> {
     goal: Goal,
 }
 
-/// 10,000 for each of so many rides.
+/// 10,000 for each of this many rides.
 pub(crate) fn scale_of(rides: u32) -> u128 {
     let mut scale: u128 = 1;
     for _ in 0..rides {
@@ -75,7 +75,7 @@ fn is_ride(network: &Network, enter: u32, exit: u32) -> bool {
     enter.run.0 == exit.run.0 && enter.step <= exit.step && exit.can_exit
 }
 
-/// The best value from a place on, over at most so many rides.
+/// The best value from a place on, over at most this many rides.
 #[cycle(rides)]
 fn from_place(search: Search<'_>, place: PlaceId, arrival: Moment, left: u32) -> Option<u128> {
     if place.0 == search.target.0 {
@@ -97,7 +97,7 @@ fn from_place(search: Search<'_>, place: PlaceId, arrival: Moment, left: u32) ->
     best
 }
 
-/// The best value of the rides from a connection, over at most so many rides.
+/// The best value of the rides from a connection, over at most this many rides.
 #[cycle(rides)]
 fn by_entry(search: Search<'_>, enter: u32, left: u32) -> Option<u128> {
     let mut best = None;

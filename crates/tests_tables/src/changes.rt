@@ -1,4 +1,4 @@
-//! A feed with a station of two platforms, and what its transfers tell.
+//! A feed with a station of two platforms, and what its transfers mean.
 
 use change_times::Changes;
 use csv_rows::{Column, FeedFault, Limits, Table};
@@ -42,7 +42,7 @@ fn read_in(alloc: Global, files: &mut SteadyFiles) -> Result<Changes, FeedFault>
     changes_in(alloc, files, &feed)
 }
 
-/// What the transfers tell.
+/// What the transfers mean.
 fn read(alloc: Global, transfers: &str) -> Result<Changes, FeedFault> {
     match files_with(alloc, transfers) {
         Ok(mut files) => read_in(alloc, &mut files),
@@ -64,7 +64,7 @@ fn times(alloc: Global, transfers: &str) -> Result<(u32, u32, u64), FeedFault> {
     Ok(times_of(&changes))
 }
 
-/// Transfers with the change time of the station that they tell, and how many of them are passed over.
+/// Transfers with the change time of the station that they set, and how many of them are passed over.
 const TIMES: [(&str, u32, u64); 7] = [
     ("", 120, 0),
     ("from_stop_id,to_stop_id,transfer_type\n", 120, 0),
@@ -96,7 +96,7 @@ const TIMES: [(&str, u32, u64); 7] = [
 ];
 
 #[test]
-fn tells_change_times(rt: HostRuntime) {
+fn reports_change_times(rt: HostRuntime) {
     for (transfers, station, passed) in TIMES {
         assert_eq!(rt;
             times(rt.alloc(), transfers),
@@ -149,7 +149,7 @@ const WAYS: [(u32, &[Way]); 6] = [
 ];
 
 #[test]
-fn tells_links(rt: HostRuntime) -> Result<(), Fail> {
+fn reports_links(rt: HostRuntime) -> Result<(), Fail> {
     let changes = read(rt.alloc(), LINKS)?;
     for (place, links) in WAYS {
         assert_eq!(rt; links_into(&changes, place), links, "{place}");
@@ -164,7 +164,7 @@ fn last_time(alloc: Global, transfers: &str) -> Result<(u32, u64), FeedFault> {
 }
 
 #[test]
-fn tells_a_change_time_beside_links(rt: HostRuntime) {
+fn reports_a_change_time_beside_links(rt: HostRuntime) {
     assert_eq!(rt; last_time(rt.alloc(), LINKS), Ok((3, 2)));
 }
 

@@ -62,7 +62,7 @@ fn usual_in(alloc: Global, text: &[u8]) -> Result<(usize, u32), DelayFault> {
 }
 
 #[test]
-fn tells_the_usual_class(rt: HostRuntime) {
+fn reports_the_usual_class(rt: HostRuntime) {
     assert_eq!(rt; usual_in(rt.alloc(), CLASSES), Ok((2, 300)));
 }
 
@@ -111,7 +111,7 @@ fn class_for(table: &DelayTable, class: ClassName, route: Option<&str>, arrival:
     table.class_for(class, route, Moment(arrival))
 }
 
-/// The class of a group, by the delays that its rows tell.
+/// The class of a group, by the delays of its rows.
 fn delays_at(table: &DelayTable, class: ClassName, route: Option<&str>, arrival: u64) -> u32 {
     let class = table.class_for(class, route, Moment(arrival));
     table.greatest(class)

@@ -1,4 +1,4 @@
-//! The window of a feed that some files tell.
+//! The window of a feed from some files.
 ghost use Rattle.std.specs.Prelude.{◌<◌, ◌≤◌, length, IfSome};
 ghost use Rattle.plan_model.specs.Bounds.{first_start, last_start, most_connections};
 ghost use Rattle.change_times.specs.Changes.{LinksComeFrom};
@@ -73,7 +73,7 @@ fn window_of(
     window_with(alloc, feed, &services, &changes, start, horizon, most)
 }
 
-/// The window of a feed from so many seconds after 1970-01-08T00:00:00 on, if its tables are read.
+/// The window of a feed from this many seconds after 1970-01-08T00:00:00 on, if its tables are read.
 pub(crate) fn window(
     alloc: Global,
     files: &mut SteadyFiles,

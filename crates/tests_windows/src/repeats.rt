@@ -61,7 +61,7 @@ const TWO_ROWS: &str = "trip_id,start_time,end_time,headway_secs\n\
 
 const EACH_SECOND: &str = "trip_id,start_time,end_time,headway_secs\nf1,00:00:00,24:00:00,1\n";
 
-/// A trip that stands in its stop times two hours later than its first row.
+/// A trip whose stop times are two hours later than its first row.
 const AT_TEN: &str = "trip_id,arrival_time,departure_time,stop_id,stop_sequence\n\
     f1,09:59:00,10:00:00,A,1\nf1,10:30:00,10:30:00,T,2\n";
 

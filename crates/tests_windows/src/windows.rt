@@ -89,7 +89,7 @@ fn files_of(alloc: Global, tables: &Tables<'_>) -> Result<SteadyFiles, NoMemory>
     Ok(files)
 }
 
-/// The window of a feed from so many seconds after Monday's begin on, if its tables are read.
+/// The window of a feed from this many seconds after Monday's begin on, if its tables are read.
 fn window_from(
     alloc: Global,
     tables: &Tables<'_>,

@@ -1,4 +1,4 @@
-//! Texts with the values that they tell.
+//! Texts with their values.
 use clock_text::{
     read_date, read_moment, read_nanos, read_optional_seconds, read_time, read_whole, weekday,
     write_moment, write_nanos,

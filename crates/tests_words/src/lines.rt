@@ -7,7 +7,7 @@ use std::test::Fail;
 
 /// A line of each kind that is at no place of a timetable.
 #[test]
-fn tells_faults_by_status_and_line(rt: HostRuntime) -> Result<(), Fail> {
+fn reports_faults_by_status_and_line(rt: HostRuntime) -> Result<(), Fail> {
     for (fault, status, line) in [
         (Fault::NoSafe, 1, "no safe strategy"),
         (Fault::Words(WordsFault::Line), 2, "words refused"),
@@ -36,9 +36,9 @@ fn tells_faults_by_status_and_line(rt: HostRuntime) -> Result<(), Fail> {
             "proof file line 3: not rising",
         ),
     ] {
-        let told = fault_line(rt.alloc(), fault, None)?;
+        let reported = fault_line(rt.alloc(), fault, None)?;
         let wanted = format!(in rt.alloc(); "meat: {line}\n")?;
-        assert_eq!(rt; told.as_slice(), wanted.as_bytes());
+        assert_eq!(rt; reported.as_slice(), wanted.as_bytes());
         assert_eq!(rt; fault.status(), status);
     }
     Ok(())

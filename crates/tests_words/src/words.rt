@@ -200,7 +200,7 @@ fn makes_samples(rt: HostRuntime) -> Result<(), Fail> {
 }
 
 #[test]
-fn tells_the_delays(rt: HostRuntime) -> Result<(), Fail> {
+fn reports_the_delays(rt: HostRuntime) -> Result<(), Fail> {
     for (late, delays) in [
         ("none", [].as_slice()),
         ("300", [300].as_slice()),
@@ -275,8 +275,8 @@ fn refuses_lines(rt: HostRuntime) -> Result<(), Fail> {
         ("sample --size 9", WordsFault::BadValue(11)),
         ("sample --size 401", WordsFault::BadValue(11)),
     ] {
-        let told = fault_of(rt.alloc(), &[line])?;
-        assert_eq!(rt; told, Some(fault), "{line}");
+        let reported = fault_of(rt.alloc(), &[line])?;
+        assert_eq!(rt; reported, Some(fault), "{line}");
     }
     Ok(())
 }
@@ -306,7 +306,7 @@ fn refuses_values(rt: HostRuntime) -> Result<(), Fail> {
 }
 
 #[test]
-fn tells_the_first_reason(rt: HostRuntime) -> Result<(), Fail> {
+fn reports_the_first_reason(rt: HostRuntime) -> Result<(), Fail> {
     for (line, fault) in [
         ("fly --size", WordsFault::Line),
         ("fly --alpha 99", WordsFault::UnknownCommand),
@@ -317,8 +317,8 @@ fn tells_the_first_reason(rt: HostRuntime) -> Result<(), Fail> {
             WordsFault::BadValue(6),
         ),
     ] {
-        let told = fault_of(rt.alloc(), &[line])?;
-        assert_eq!(rt; told, Some(fault), "{line}");
+        let reported = fault_of(rt.alloc(), &[line])?;
+        assert_eq!(rt; reported, Some(fault), "{line}");
     }
     Ok(())
 }
@@ -343,7 +343,7 @@ fn names_options(rt: HostRuntime) {
 }
 
 #[test]
-fn tells_what_options_are_for(rt: HostRuntime) {
+fn reports_what_options_are_for(rt: HostRuntime) {
     for (command, option, done) in [
         (Command::Plan, OptionName::Cut, Use::OneOf(OptionName::Feed)),
         (

@@ -7,7 +7,7 @@ use Rattle.csv_rows.specs.declared.keys.Key.{Key}
 use Rattle.csv_rows.specs.First.{first_below}
 use Rattle.csv_rows.specs.Keys.{AreSorted, has_twin, twin_at}
 use Rattle.csv_rows.specs.Tables.{row_count}
-use Rattle.csv_rows.proofs.FirstLemmas.{first-told}
+use Rattle.csv_rows.proofs.FirstLemmas.{first-reported}
 use Rattle.csv_rows.proofs.ListLemmas.{length-list_below}
 use Rattle.trip_frequencies.specs.declared.frequencies.FrequencyColumns.{FrequencyColumns}
 use Rattle.trip_frequencies.specs.declared.frequencies.TripFrequency.{TripFrequency}
@@ -27,5 +27,5 @@ pub first_repeated : (rows : List TripFrequency) (keys : List Key) (found : Opti
     → first_below (repeated_start rows) (length rows) ≡ option_map (λ row. DuplicateKey Frequencies (row + 2)) found
 unfolding repeated_start twin_at
 first_repeated rows keys found s h =
-    first-told (λ i. DuplicateKey Frequencies (i + 2)) (has_twin (trip_of_row rows) (start_of_row rows)) (length rows)
+    first-reported (λ i. DuplicateKey Frequencies (i + 2)) (has_twin (trip_of_row rows) (start_of_row rows)) (length rows)
     ∙ ap (option_map (λ row. DuplicateKey Frequencies (row + 2))) (h (trip_of_row rows) (start_of_row rows) (length rows) s)

@@ -17,7 +17,7 @@ use Rattle.csv_rows.specs.Keys.{has_twin}
 use Rattle.csv_rows.specs.Lists.{list_below}
 use Rattle.csv_rows.specs.Names.{name_in}
 use Rattle.csv_rows.specs.RowFaults.{first_lack}
-use Rattle.csv_rows.specs.Tables.{row_count, place_in, place_of, field_at}
+use Rattle.csv_rows.specs.Tables.{row_count, number_in, index_of, field_at}
 use Rattle.trip_frequencies.specs.declared.frequencies.FrequencyRow.{FrequencyRow}
 use Rattle.trip_frequencies.specs.declared.frequencies.TripFrequency.{TripFrequency}
 use Rattle.trip_frequencies.specs.declared.frequencies.FrequencyColumns.{FrequencyColumns}
@@ -27,7 +27,7 @@ use Rattle.trip_frequencies.specs.FrequencyForms.{headway_in, is_exact_in}
 abbrev pub frequency_from : (trips : List (List ℕ)) (line : ℕ) (trip start end headway exact : List ℕ) → Result TripFrequency FeedFault
 frequency_from trips line trip start end headway exact =
     require (name_in trip) (BadField Frequencies line TripId) (λ trip'.
-    require (place_in trip' trips) (UnknownKey Frequencies line TripId) (λ number.
+    require (number_in trip' trips) (UnknownKey Frequencies line TripId) (λ number.
     require (time_at start) (BadField Frequencies line StartTime) (λ start'.
     require (time_at end) (BadField Frequencies line EndTime) (λ end'.
     require (headway_in headway) (BadField Frequencies line HeadwaySecs) (λ headway'.
@@ -37,11 +37,11 @@ frequency_from trips line trip start end headway exact =
 -- the indexes of the columns
 abbrev pub frequency_columns : List (List (List ℕ)) → FrequencyColumns
 frequency_columns t = record {
-  trip = place_of TripId t;
-  start = place_of StartTime t;
-  end = place_of EndTime t;
-  headway = place_of HeadwaySecs t;
-  exact = place_of ExactTimes t;
+  trip = index_of TripId t;
+  start = index_of StartTime t;
+  end = index_of EndTime t;
+  headway = index_of HeadwaySecs t;
+  exact = index_of ExactTimes t;
 }
 
 -- row i, where these are the ids of the trips

@@ -4,7 +4,7 @@ ghost use Rattle.std.specs.Result.{result_err};
 ghost use Rattle.csv_rows.specs.declared.feed_tables.Table.TheVariants.{Frequencies as FrequenciesTable};
 ghost use Rattle.csv_rows.specs.First.{first_below};
 ghost use Rattle.csv_rows.specs.Keys.{AreSorted};
-ghost use Rattle.csv_rows.specs.RowFaults.{TellsFirst};
+ghost use Rattle.csv_rows.specs.RowFaults.{ReportsFirst};
 ghost use Rattle.csv_rows.specs.Tables.{row_count};
 ghost use Rattle.trip_frequencies.specs.FrequencyBounds.{most_frequencies};
 ghost use Rattle.trip_frequencies.specs.Frequencies.{frequency_columns, frequency_in, bad_frequency, frequency_rows, trip_of_row, start_of_row, repeated_start};
@@ -54,11 +54,11 @@ fn frequency_columns(rows: &Rows) -> FrequencyColumns
     ensures { result ≡ frequency_columns rows.now }
 {
     FrequencyColumns {
-        trip: rows.place_of(Column::TripId),
-        start: rows.place_of(Column::StartTime),
-        end: rows.place_of(Column::EndTime),
-        headway: rows.place_of(Column::HeadwaySecs),
-        exact: rows.place_of(Column::ExactTimes),
+        trip: rows.index_of(Column::TripId),
+        start: rows.index_of(Column::StartTime),
+        end: rows.index_of(Column::EndTime),
+        headway: rows.index_of(Column::HeadwaySecs),
+        exact: rows.index_of(Column::ExactTimes),
     }
 }
 
@@ -71,7 +71,7 @@ fn read_frequency(
 ) -> Result<TripFrequency, FeedFault>
     requires { row < row_count rows.now }
     ensures row { IfOk result (λ r. frequency_in trips.now rows.now columns row ≡ Ok r) }
-    ensures tells { TellsFirst FrequenciesTable
+    ensures reports { ReportsFirst FrequenciesTable
         (result_err (frequency_in trips.now rows.now columns row)) result }
 {
     let line = rows.line(row);
@@ -111,7 +111,7 @@ pub(crate) fn read_frequency_rows(
     trips: &Ids,
 ) -> Result<Vec<TripFrequency>, FeedFault>
     ensures rows { IfOk result (λ found. found.items ≡ frequency_rows trips.now rows.now) }
-    ensures tells { TellsFirst FrequenciesTable
+    ensures reports { ReportsFirst FrequenciesTable
         (first_below (bad_frequency trips.now rows.now) (row_count rows.now)) result }
 {
     let columns = frequency_columns(rows);
@@ -144,7 +144,7 @@ fn keys_by_start(alloc: Global, rows: &[TripFrequency]) -> Result<Vec<Key>, NoMe
 /// The first row that has the trip and the start of an earlier one.
 pub(crate) fn check_once(alloc: Global, rows: &[TripFrequency]) -> Result<(), FeedFault>
     requires { length rows.now ≤ most_frequencies }
-    ensures { TellsFirst FrequenciesTable
+    ensures { ReportsFirst FrequenciesTable
         (first_below (repeated_start rows.now) (length rows.now)) result }
 {
     let keys = keys_by_start(alloc, rows)?;

@@ -2,7 +2,7 @@
 ghost use Rattle.std.specs.Prelude.{◌≡◌, ◌≤◌, ℕ, List, [], length, map, Ok, IfOk};
 ghost use Rattle.std.specs.List.Sorted.{IsNonDecreasing, IsNonDecreasingBy};
 ghost use Rattle.csv_rows.specs.declared.feed_tables.Table.TheVariants.{Frequencies as FrequenciesTable};
-ghost use Rattle.csv_rows.specs.RowFaults.{TellsFirst};
+ghost use Rattle.csv_rows.specs.RowFaults.{ReportsFirst};
 ghost use Rattle.table_files.specs.Loading.{HasAtMost};
 ghost use Rattle.csv_rows.specs.Tables.{row_count};
 ghost use Rattle.trip_frequencies.specs.FrequencyBounds.{most_frequencies};
@@ -96,7 +96,7 @@ fn read_frequencies(alloc: Global, rows: &Rows, trips: &Ids) -> Result<Repeats, 
     ensures repeats { IfOk result (λ r. (count : ℕ) → all_repeats_in r.trips.items r.rows.items count
         ≡ all_repeats_of (frequency_rows trips.now rows.now) count) }
     ensures few { IfOk result (λ r. length r.rows.items ≤ most_frequencies) }
-    ensures tells { TellsFirst FrequenciesTable (frequencies_fault trips.now rows.now) result }
+    ensures reports { ReportsFirst FrequenciesTable (frequencies_fault trips.now rows.now) result }
 {
     check_columns(
         rows,
@@ -140,7 +140,7 @@ pub(crate) fn repeats_from(
     ensures repeats { IfOk result (λ r. AreFrequencies trips.now (Ok loaded.now)
         (all_repeats_in r.trips.items r.rows.items (length trips.now))) }
     ensures few { IfOk result (λ r. length r.rows.items ≤ most_frequencies) }
-    ensures tells { TellsFirst FrequenciesTable (fault_of_frequencies trips.now loaded.now) result }
+    ensures reports { ReportsFirst FrequenciesTable (fault_of_frequencies trips.now loaded.now) result }
 {
     match loaded {
         Loaded::Found(rows) => read_frequencies(alloc, rows, trips),

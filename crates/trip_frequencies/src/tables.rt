@@ -2,7 +2,7 @@
 ghost use Rattle.std.specs.Prelude.{◌≡◌, ◌≢◌, ◌≤◌, length, None, Ok, Err, IfOk, IfErr, IfSome};
 ghost use Rattle.std.specs.List.Sorted.{IsNonDecreasing};
 ghost use Rattle.csv_rows.specs.declared.feed_tables.Table.TheVariants.{Frequencies as FrequenciesTable};
-ghost use Rattle.csv_rows.specs.FeedTables.{unread_of, IsFaultOf};
+ghost use Rattle.csv_rows.specs.FeedTables.{unread_table, IsFaultOf};
 ghost use Rattle.table_files.specs.Loading.{HasFeedCauses, load_in};
 ghost use Rattle.table_files.specs.Required.{IsOfSomeTable};
 ghost use Rattle.trip_frequencies.specs.FrequencyBounds.{most_frequencies};
@@ -28,7 +28,7 @@ pub fn load_frequencies<F: Files>(
         (frequencies_from (load_in m folder.now limits.now None FrequenciesTable) trips.now)
         (all_repeats_in r.trips.items r.rows.items (length trips.now)))) }
     ensures fault { IfSome (F.state files.old).files (λ m. IfErr result (λ f. f ≢ FeedFault.NoMemory
-        → frequencies_from (load_in m folder.now limits.now (unread_of f) FrequenciesTable) trips.now
+        → frequencies_from (load_in m folder.now limits.now (unread_table f) FrequenciesTable) trips.now
         ≡ Err f)) }
     ensures sound { IfOk result (λ r. IsOfSomeTable (fault_of_frequencies trips.now) (λ l.
         AreFrequencies trips.now (Ok l) (all_repeats_in r.trips.items r.rows.items (length trips.now)))) }

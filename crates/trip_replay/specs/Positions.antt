@@ -1,4 +1,4 @@
--- Where a traveller stands between rides.
+-- Where a traveller is between rides.
 use Rattle.std.specs.Prelude.{ℕ, ◌+◌, Bool, List, Option, Some, None, ◌==◌, if◌then◌else◌}
 use Rattle.std.specs.List.{list_any}
 use Rattle.plan_model.specs.declared.model.Leg.{Leg}

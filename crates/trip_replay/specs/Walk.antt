@@ -29,7 +29,7 @@ abbrev mutual
   walk network (Ride i j kids) [] behind = Err (fault.TooFew (length behind))
   walk network (Ride i j kids) (delay ∷ delays) behind = walk_kid network kids (outcomes network j) i j delay delays behind
 
-  -- on at the kid of the outcome with this delay
+  -- on at the child of the outcome with this delay
   pub walk_kid : NetworkModel → Kids → List Outcome → ℕ → ℕ → ℕ → List ℕ → List Ridden → Result Trace ReplayFault
   walk_kid network Nil row i j delay delays behind = Err (fault.NotADelay (length behind + 1))
   walk_kid network (Kid w tree kids) [] i j delay delays behind = Err (fault.NotADelay (length behind + 1))

@@ -1,4 +1,4 @@
--- Bounds on a mean over the arrivals keep the laws, whatever is averaged. (The proof stands here, since the trait names it.)
+-- Bounds on a mean over the arrivals keep the laws, whatever is averaged. (The proof is here because the trait names it.)
 use Rattle.std.proofs.Common.{arith, inl, inr, ap}
 use Rattle.std.specs.Prelude.{◌≡◌, ℕ, ◌+◌, ◌-◌, ◌*◌, ◌/◌, ◌^◌, ◌≤◌, ◌⊎◌, min, max, List, [], ◌∷◌, length, map, All, refl}
 use Rattle.std.proofs.Math.Nat.{mul-le-mul_left, mul-le-mul_right, mul_assoc}
@@ -25,7 +25,7 @@ lesser_below a b p n (inr other) =
     let lesser : min a b ≤ b = omega arith in
     omega (arith, mul-le-mul_right p lesser)
 
--- what holds of each value and its kid gives what follows from it
+-- what holds of each value and its child gives what follows from it
 each_weaker : {V : Type 0} (P Q : V → Tree → Type 0) → ((v : V) (t : Tree) → P v t → Q v t) → (row : List Outcome) (values : List V) (kids : Kids) → EachKid P row values kids → EachKid Q row values kids
 each_weaker P Q weaker [] [] Nil each = each
 each_weaker P Q weaker (o ∷ row) (v ∷ values) (Kid w t kids) each = (each.0, weaker v t each.1, each_weaker P Q weaker row values kids each.2)

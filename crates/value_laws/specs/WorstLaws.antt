@@ -1,4 +1,4 @@
--- The latest arrival keeps the laws. (The proof stands here, since the trait names it.)
+-- The latest arrival keeps the laws. (The proof is here because the trait names it.)
 use Rattle.std.proofs.Common.{arith, inl, inr}
 use Rattle.std.specs.Prelude.{◌≤◌, ◌⊎◌, List, [], ◌∷◌, refl}
 use Rattle.plan_model.specs.declared.model.Outcome.{Outcome}

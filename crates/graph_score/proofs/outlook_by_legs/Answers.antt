@@ -14,5 +14,5 @@ returns c =
     let graph = c.args.rising.now.graph.now in
     let leg = c.in-Some.start in
     let start = start_fits n q graph leg c.requires.fit c.in-Some.is in
-    subst (λ t. IsOutlook n q c.told.result t) (sym (unfold-start n q graph leg start.differ c.in-Some.is))
-    (rw (c.told.ensures, c.deref.ensures.value) (c.in_ok-outlooks.ensures leg start.is_leg.exit))
+    subst (λ t. IsOutlook n q c.reported.result t) (sym (unfold-start n q graph leg start.differ c.in-Some.is))
+    (rw (c.reported.ensures, c.deref.ensures.value) (c.in_ok-outlooks.ensures leg start.is_leg.exit))

@@ -1,5 +1,5 @@
-use Rattle.graph_text.proofs.Accepted.{text_told}
+use Rattle.graph_text.proofs.Accepted.{text_reported}
 use Rattle.graph_text.proofs.read_fits.Goals as goal
 
 pub returns : goal.returns
-returns c n names text source target start head graph is = let told = text_told n names source target start text head graph is in (told.0.fit, told.1)
+returns c n names text source target start head graph is = let reported = text_reported n names source target start text head graph is in (reported.0.fit, reported.1)

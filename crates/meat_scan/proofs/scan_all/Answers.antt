@@ -67,17 +67,17 @@ loop-id-preserved g c =
 pub returns-clause-answers : goal.returns-clause-answers
 returns-clause-answers g c =
     let loop = c.loop-id.invariant in
-    let told = c.in_default.ensures.none.0 refl in
+    let reported = c.in_default.ensures.none.0 refl in
     let rows_are = found_rows-profiles c.loop-id.start c.args.query.now.target.0 c.loop-id.profiles.items in
     last_state g.V.Score.laws c.args.network.now loop.valid c.args.query.now
     (g.B.BackwardOrder.rest c.args.order.now c.args.network.now) c.requires.whole
-    (g.B.BackwardOrder.rest c.loop-id.order c.args.network.now) c.loop-id.profiles.items c.loop-id.exits _ c.requires.differ told rows_are loop.state
+    (g.B.BackwardOrder.rest c.loop-id.order c.args.network.now) c.loop-id.profiles.items c.loop-id.exits _ c.requires.differ reported rows_are loop.state
 
 pub returns-clause-rules : goal.returns-clause-rules
 returns-clause-rules g c =
     let loop = c.loop-id.invariant in
-    let told = c.in_default.ensures.none.0 refl in
+    let reported = c.in_default.ensures.none.0 refl in
     let rows_are = found_rows-profiles c.loop-id.start c.args.query.now.target.0 c.loop-id.profiles.items in
     rules_end g.V.Score.laws c.args.network.now loop.valid c.args.query.now
     (g.B.BackwardOrder.rest c.args.order.now c.args.network.now) c.requires.whole
-    (g.B.BackwardOrder.rest c.loop-id.order c.args.network.now) c.loop-id.profiles.items c.loop-id.exits _ told rows_are loop.state
+    (g.B.BackwardOrder.rest c.loop-id.order c.args.network.now) c.loop-id.profiles.items c.loop-id.exits _ reported rows_are loop.state

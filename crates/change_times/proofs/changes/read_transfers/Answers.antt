@@ -1,11 +1,11 @@
-use Rattle.csv_rows.proofs.FaultLemmas.{match_raised, fault-first, tells-then}
+use Rattle.csv_rows.proofs.FaultLemmas.{match_raised, fault-first, reports-then}
 use Rattle.change_times.specs.Transfers.{transfers_fault}
 use Rattle.change_times.proofs.changes.read_transfers.Goals as goal
 
-pub returns-in_err-check_columns-clause-tells : goal.returns-in_err-check_columns-clause-tells
+pub returns-in_err-check_columns-clause-reports : goal.returns-in_err-check_columns-clause-reports
 unfolding transfers_fault
-returns-in_err-check_columns-clause-tells c = match_raised _ _ c.from_residual.result c.from_residual.ensures (fault-first _ _ _ c.in_err-check_columns.ensures)
+returns-in_err-check_columns-clause-reports c = match_raised _ _ c.from_residual.result c.from_residual.ensures (fault-first _ _ _ c.in_err-check_columns.ensures)
 
-pub returns-clause-tells : goal.returns-clause-tells
+pub returns-clause-reports : goal.returns-clause-reports
 unfolding transfers_fault
-returns-clause-tells c = tells-then _ _ _ c.read_rows.result c.in_ok-check_columns.ensures c.read_rows.ensures.tells
+returns-clause-reports c = reports-then _ _ _ c.read_rows.result c.in_ok-check_columns.ensures c.read_rows.ensures.reports

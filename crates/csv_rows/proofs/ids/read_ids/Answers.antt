@@ -42,7 +42,7 @@ loop-i-preserved c =
     let id = field t c.args.column in
     let name = c.name_at-name.result.now in
     let keys = c.loop-i.seen.keys in
-    let is = c.name_at-name.ensures ∙ ap (λ p. field_at t p c.loop-i.i) c.place_of-index.ensures in
+    let is = c.name_at-name.ensures ∙ ap (λ p. field_at t p c.loop-i.i) c.index_of-index.ensures in
     let fresh : has_key name keys ≡ false = new_is (has_key name keys) (sym c.if-not-new.false ∙ c.in_ok-new.ensures.added) in
     let absent = subst (λ (w : List (List ℕ)). ¬ Contains w name) c.loop-i.invariant.seen (key_absent name keys fresh) in
     record {
@@ -53,13 +53,13 @@ loop-i-preserved c =
           (not_repeated c.args.table id c.loop-i.i c.loop-i.ids name c.loop-i.invariant.ids is absent);
     }
 
-pub returns-then-not-new-clause-tells : goal.returns-then-not-new-clause-tells
-returns-then-not-new-clause-tells c =
+pub returns-then-not-new-clause-reports : goal.returns-then-not-new-clause-reports
+returns-then-not-new-clause-reports c =
     let t = c.args.rows.now in
     let id = field t c.args.column in
     let name = c.name_at-name.result.now in
     let keys = c.loop-i.seen.keys in
-    let is = c.name_at-name.ensures ∙ ap (λ p. field_at t p c.loop-i.i) c.place_of-index.ensures in
+    let is = c.name_at-name.ensures ∙ ap (λ p. field_at t p c.loop-i.i) c.index_of-index.ensures in
     let known : has_key name keys ≡ true = known_is (has_key name keys) (sym c.if-not-new.true ∙ c.in_ok-new.ensures.added) in
     let there = subst (λ (w : List (List ℕ)). Contains w name) c.loop-i.invariant.seen (key_there name keys known) in
     record {

@@ -18,5 +18,5 @@ loop-i-preserved c =
     let inside = c.requires c.loop-i.i (omega arith) in (
       omega (arith, length-set c.loop-i.times.items f c.max.result, c.loop-i.invariant.0),
       longest_next rows c.loop-i.i c.loop-i.times.items c.args.places c.max.result c.loop-i.invariant.0 c.loop-i.invariant.1 inside
-          (c.max.ensures ∙ ap₂ max (c.index.ensures ∙ get_or_default c.loop-i.times.items f c.index.result.now 0 (omega arith)) c.seconds_of-seconds.ensures),
+          (c.max.ensures ∙ ap₂ max (c.index.ensures ∙ get_or_default c.loop-i.times.items f c.index.result.now 0 (omega arith)) c.change_seconds_of-seconds.ensures),
     )

@@ -1,10 +1,10 @@
 use Rattle.std.proofs.Common.{◌∙◌, Some, sym, ap}
 use Rattle.delay_table.specs.Read.{line_at, read_outcomes}
-use Rattle.delay_table.proofs.Counted.{told-count}
+use Rattle.delay_table.proofs.Counted.{reported-count}
 use Rattle.delay_table.proofs.table.table_of.Goals as goal
 
 pub returns-in-Some-clause-count : goal.returns-in-Some-clause-count
 returns-in-Some-clause-count c = λ n e.
     let groups = c.args.read.now.groups in
     let rows = c.args.read.now.rows.items in
-    told-count (read_outcomes groups rows) groups (line_at rows) n (sym c.in-Some.ensures ∙ ap Some e)
+    reported-count (read_outcomes groups rows) groups (line_at rows) n (sym c.in-Some.ensures ∙ ap Some e)

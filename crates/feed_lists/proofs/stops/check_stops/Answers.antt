@@ -12,7 +12,7 @@ loop-i-init c = first-zero (bad_stop c.args.rows.now)
 pub returns-in_err-read_stop : goal.returns-in_err-read_stop
 returns-in_err-read_stop c = match_raised _ _ c.from_residual.result c.from_residual.ensures
     (fault-at _ c.loop-i.i _ (omega arith) c.loop-i.invariant
-    (ap result_err (stop_is c.args.rows.now _ c.loop-i.i c.stop_columns-columns.ensures)) c.in_err-read_stop.ensures.tells)
+    (ap result_err (stop_is c.args.rows.now _ c.loop-i.i c.stop_columns-columns.ensures)) c.in_err-read_stop.ensures.reports)
 
 pub loop-i-preserved : goal.loop-i-preserved
 loop-i-preserved c = grind (arith, first-next, stop_is)

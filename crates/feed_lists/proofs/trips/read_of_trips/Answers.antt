@@ -12,12 +12,12 @@ use Rattle.feed_lists.proofs.trips.read_of_trips.Goals as goal
 pub loop-i-init : goal.loop-i-init
 loop-i-init c = grind (arith, list_below-zero, All-nil, first-zero)
 
-pub returns-in_err-trip-clause-tells : goal.returns-in_err-trip-clause-tells
-returns-in_err-trip-clause-tells c = match_raised _ _ c.from_residual-in_err-trip.result c.from_residual-in_err-trip.ensures
+pub returns-in_err-trip-clause-reports : goal.returns-in_err-trip-clause-reports
+returns-in_err-trip-clause-reports c = match_raised _ _ c.from_residual-in_err-trip.result c.from_residual-in_err-trip.ensures
     (fault-at _ c.loop-i.i _ (omega arith) c.loop-i.invariant.none
     (ap result_err (trip_is c.args.routes.now.ids c.args.rows.now _ c.loop-i.i c.trip_columns-columns.ensures
     ∙ ap (λ (ids : List (List ℕ)). trip_in ids c.args.rows.now c.trip_columns-columns.result c.loop-i.i) (sym (c.in_ok-index.ensures ∙ c.texts.ensures))))
-    c.in_err-trip.ensures.tells)
+    c.in_err-trip.ensures.reports)
 
 pub loop-i-preserved : goal.loop-i-preserved
 loop-i-preserved c =

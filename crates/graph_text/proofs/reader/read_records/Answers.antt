@@ -2,7 +2,7 @@ use Rattle.std.proofs.Common.{◌∙◌, Ok, Result, sym, ap}
 use Rattle.plan_model.specs.Results.{and_then}
 use Rattle.plan_graph.specs.declared.PlanGraph.{PlanGraph}
 use Rattle.graph_text.specs.declared.reader.TextFault.{TextFault}
-use Rattle.graph_text.proofs.Tables.{told_by}
+use Rattle.graph_text.proofs.Tables.{reported_by}
 use Rattle.graph_text.proofs.reader.read_records.Goals as goal
 
 pub returns-in-Ok : goal.returns-in-Ok
@@ -14,6 +14,6 @@ returns-in-Ok c =
     let graph = c.in-Ok.graph in
     let rows = c.args.rows.now in
     let query = c.in_ok-head.ensures.query in
-    let told = rw (query.0, query.1, query.2) at c.in-Ok.ensures in
-    told_by n names version c.args.source.0 c.args.target.0 c.args.start.0 rows head (Ok (head, graph)) (sym c.in-Some.is ∙ c.version_of.ensures) c.in_ok-head.ensures.told
-    (ap (λ (r : Result PlanGraph TextFault). and_then r (λ g. Ok (head, g))) told)
+    let reported = rw (query.0, query.1, query.2) at c.in-Ok.ensures in
+    reported_by n names version c.args.source.0 c.args.target.0 c.args.start.0 rows head (Ok (head, graph)) (sym c.in-Some.is ∙ c.version_of.ensures) c.in_ok-head.ensures.reported
+    (ap (λ (r : Result PlanGraph TextFault). and_then r (λ g. Ok (head, g))) reported)

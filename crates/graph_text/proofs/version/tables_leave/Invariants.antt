@@ -2,6 +2,6 @@ use Rattle.std.proofs.Common.{◌≡◌, drop}
 use Rattle.graph_text.specs.Versions.{tables_leave}
 use Rattle.graph_text.proofs.version.tables_leave.Given as goal
 
--- what remains tells what all of it does
+-- what remains gives what all of it does
 abbrev pub invariant-loop-table : goal.invariant-loop-table
 invariant-loop-table l = tables_leave l.network l.tables ≡ tables_leave l.network (drop l.table-index l.tables)

@@ -2,7 +2,7 @@ use Rattle.std.proofs.Common.{◌≡◌, ℕ, List, Some, None, Err, ◌≤◌, 
 use Rattle.trip_replay.specs.Walk.{IsAnswer}
 use Rattle.journey_model.specs.declared.faults.Fault.{Fault}
 use Rattle.journey_model.specs.declared.faults.Fault.TheVariants.{NoMemory}
-use Rattle.journey_model.specs.Faults.{unread_of}
+use Rattle.journey_model.specs.Faults.{unread_input}
 use Rattle.journey_model.specs.Sites.{last_printable, IsTellable}
 use Rattle.journey_model.specs.Known.{parts_of}
 use Rattle.command_line.specs.Jobs.{late_in}
@@ -24,7 +24,7 @@ returns-in-Err c =
       fault = subst (λ (f : Fault). f ≢ NoMemory → IsTripFault p late f c.args.read.head c.args.read.graph) named (trip_fault p c.args.read.head c.args.read.graph late fault is c.in-Err.ensures.safe);
       tellable = subst (IsTellable (Some (parts_of p))) named
           (stuck_tellable p c.args.read.head.query c.args.read.source_in c.args.read.start fault c.in-Err.ensures.stuck);
-      read = subst (λ (f : Fault). unread_of f ≡ None) named (replay_unread fault);
+      read = subst (λ (f : Fault). unread_input f ≡ None) named (replay_unread fault);
     }
 
 pub trip_answer-requires-clause-arrival : goal.trip_answer-requires-clause-arrival

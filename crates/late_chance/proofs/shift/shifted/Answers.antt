@@ -14,4 +14,4 @@ returns-clause-view c =
     let shift = c.args.promise.0 - seconds_per_week in
     IfOk-weaker c.try_clone_with.result (λ copy. copy ≡ record c.args.network.now { connections = c.in_ok-connections.connections })
     (λ seen. IsView seen c.args.network.now shift c.args.start.0)
-    (λ seen told. rw (told, c.in_ok-connections.ensures.seen, c.saturating_sub-shift.ensures) (view shift c.args.start.0 c.args.network.now (omega arith))) c.try_clone_with.ensures
+    (λ seen reported. rw (reported, c.in_ok-connections.ensures.seen, c.saturating_sub-shift.ensures) (view shift c.args.start.0 c.args.network.now (omega arith))) c.try_clone_with.ensures

@@ -20,17 +20,17 @@ returns-then-row-count-clause-fault c =
     ] in
     inr (ends_here _ _ _ _ _ _ _ loop.invariant within ends)
 
-pub returns-in_err-told-clause-fault : goal.returns-in_err-told-clause-fault
-returns-in_err-told-clause-fault c = if_raised _ c.from_residual-in_err-told.result c.from_residual-in_err-told.ensures
-    (inr (fault_here _ _ _ _ _ _ _ c.loop-row.invariant _ (omega (arith, c.count-count.ensures.count)) (omega arith) (rw c.of_row.ensures at c.in_err-told.ensures.told)))
+pub returns-in_err-reported-clause-fault : goal.returns-in_err-reported-clause-fault
+returns-in_err-reported-clause-fault c = if_raised _ c.from_residual-in_err-reported.result c.from_residual-in_err-reported.ensures
+    (inr (fault_here _ _ _ _ _ _ _ c.loop-row.invariant _ (omega (arith, c.count-count.ensures.count)) (omega arith) (rw c.of_row.ensures at c.in_err-reported.ensures.reported)))
 
 pub loop-row-preserved : goal.loop-row-preserved
 loop-row-preserved c =
-    let told = c.in_ok-told.ensures in
-    rw c.from.ensures (read_on _ _ _ _ _ _ _ c.loop-row.invariant c.in_ok-told.told (omega (arith, c.count-count.ensures.count))
-    (omega arith) (rw c.of_row.ensures at told.told) told.there)
+    let reported = c.in_ok-reported.ensures in
+    rw c.from.ensures (read_on _ _ _ _ _ _ _ c.loop-row.invariant c.in_ok-reported.reported (omega (arith, c.count-count.ensures.count))
+    (omega arith) (rw c.of_row.ensures at reported.reported) reported.there)
 
-pub returns-clause-told : goal.returns-clause-told
-returns-clause-told c =
+pub returns-clause-reported : goal.returns-clause-reported
+returns-clause-reported c =
     let end = c.max-row-end.ensures ∙ ap (λ k. max k c.args.stated) c.count-count.ensures.count in
     read_all _ _ _ _ _ _ _ c.loop-row.invariant (omega (arith, end))

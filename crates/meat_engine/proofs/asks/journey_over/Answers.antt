@@ -30,7 +30,7 @@ pub returns-in-Err-ask_over-clause-fault : goal.returns-in-Err-ask_over-clause-f
 returns-in-Err-ask_over-clause-fault g c =
     let ask = ask_shown c.args.ask.now in
     let same = (c.in-Ok.ensures.causes (own_paths ask)).same in
-    let P : Option FileMap → Type 0 = λ told. FailsAsk told c.args.limits.now c.args.journey.now.start.0 c.in-Ok.problem ask c.in-Err-ask_over.fault in
+    let P : Option FileMap → Type 0 = λ reported. FailsAsk reported c.args.limits.now c.args.journey.now.start.0 c.in-Ok.problem ask c.in-Err-ask_over.fault in
     record {
       tellable = c.in-Err-ask_over.ensures.tellable;
       holds = λ other. inl (c.in-Ok.problem, c.in-Ok.ensures.sound, c.in-Ok.ensures.problem, (refl, subst P same (c.in-Err-ask_over.ensures.fault other)));
@@ -39,7 +39,7 @@ returns-in-Err-ask_over-clause-fault g c =
 pub returns-in-Ok-ask_over-clause-answer : goal.returns-in-Ok-ask_over-clause-answer
 returns-in-Ok-ask_over-clause-answer g c =
     let ask = ask_shown c.args.ask.now in
-    let told = c.in-Ok-ask_over.answer in
+    let reported = c.in-Ok-ask_over.answer in
     let same = (c.in-Ok.ensures.causes (own_paths ask)).same in
-    let P : Option FileMap → Type 0 = λ files. AnswersAsk files c.args.limits.now c.args.journey.now.start.0 c.in-Ok.problem ask (findings_of told.report) told.text.items in
+    let P : Option FileMap → Type 0 = λ files. AnswersAsk files c.args.limits.now c.args.journey.now.start.0 c.in-Ok.problem ask (findings_of reported.report) reported.text.items in
     (c.in-Ok.problem, c.in-Ok.ensures.sound, c.in-Ok.ensures.problem, subst P same c.in-Ok-ask_over.ensures.answer)

@@ -1,10 +1,10 @@
 use Rattle.std.proofs.Common.{◌≡◌, None, Some, inl, inr, refl, sym, subst}
 use Rattle.journey_model.specs.declared.faults.Fault.{Fault}
-use Rattle.journey_model.specs.Faults.{unread_of}
+use Rattle.journey_model.specs.Faults.{unread_input}
 use Rattle.journey_model.specs.Known.{parts_of}
 use Rattle.journey_answers.specs.Answers.{IsNoSafe}
 use Rattle.meat_engine.specs.Samples.{sample_journey, FailsSample}
-use Rattle.meat_engine.proofs.Asking.{early_tellable, unsafe_told, plain_refusal}
+use Rattle.meat_engine.proofs.Asking.{early_tellable, unsafe_reported, plain_refusal}
 use Rattle.meat_engine.proofs.samples.sample.Goals as goal
 
 pub returns-in-Err-clause-fault : goal.returns-in-Err-clause-fault
@@ -16,14 +16,14 @@ returns-in-Err-clause-fault c =
     (λ other. let over = c.in-Err.ensures.fault other in (c.in-Err.ensures.read, (over.0, over.1, inr (early, over.2))))
 
 pub returns-in-Err-clause-read : goal.returns-in-Err-clause-read
-returns-in-Err-clause-read c = subst (λ (f : Fault). unread_of f ≡ None) (sym c.plain.ensures.fault) c.in-Err.ensures.read
+returns-in-Err-clause-read c = subst (λ (f : Fault). unread_input f ≡ None) (sym c.plain.ensures.fault) c.in-Err.ensures.read
 
 pub returns-in-Err-sample_in-clause-fault : goal.returns-in-Err-sample_in-clause-fault
 returns-in-Err-sample_in-clause-fault c =
     let p = c.in-Ok.problem in
     let over = c.in-Ok.ensures.problem in
     let fault = c.in-Err-sample_in.fault in
-    let why = unsafe_told (IsNoSafe p sample_journey.start) (λ fault why. why.0) (Some (parts_of p)) fault c.in-Err-sample_in.ensures.fault in
+    let why = unsafe_reported (IsNoSafe p sample_journey.start) (λ fault why. why.0) (Some (parts_of p)) fault c.in-Err-sample_in.ensures.fault in
     record {
       tellable = why.tellable;
       holds = λ other. (why.unread, (over.0, over.1, inl (p, over.2.0, over.2.1, (refl, why.why other))));

@@ -4,7 +4,7 @@ use Rattle.file_ports.specs.Ports.{FilesState}
 use Rattle.command_line.specs.Jobs.{JourneyModel}
 use Rattle.journey_model.specs.declared.faults.Fault.{Fault}
 use Rattle.journey_model.specs.declared.faults.Input.{Input}
-use Rattle.journey_model.specs.Faults.{unread_of}
+use Rattle.journey_model.specs.Faults.{unread_input}
 use Rattle.journey_problem.specs.Files.{HasCauses}
 use Rattle.journey_problem.specs.Problems.{HasTimetable, IsProblem, IsProblemFault}
 use Rattle.meat_engine.specs.Asks.{no_path}
@@ -14,7 +14,7 @@ use Rattle.meat_engine.proofs.samples.sample_problem.Goals as goal
 
 -- files that never fail
 all_read : {T : Type 0} {path : Input → Option (List ℕ)} {before now : FilesState} (r : Result T Fault)
-    → before.faults ≡ 0 → now.faults ≡ 0 → HasCauses path before now r → IfErr r (λ f. unread_of f ≡ None)
+    → before.faults ≡ 0 → now.faults ≡ 0 → HasCauses path before now r → IfErr r (λ f. unread_input f ≡ None)
 all_read (Ok a) quiet still causes = tt
 all_read (Err f) quiet still causes = never_unread f (λ input is. let rose = causes.read input (cc) in absurd (omega (arith, quiet, still, rose)))
 

@@ -19,10 +19,10 @@ loop-i-init c =
       few = omega arith;
     }
 
-pub returns-in_err-row-clause-tells : goal.returns-in_err-row-clause-tells
-returns-in_err-row-clause-tells c = match_raised _ _ c.from_residual.result c.from_residual.ensures
+pub returns-in_err-row-clause-reports : goal.returns-in_err-row-clause-reports
+returns-in_err-row-clause-reports c = match_raised _ _ c.from_residual.result c.from_residual.ensures
     (fault-at _ c.loop-i.i _ (omega arith) c.loop-i.invariant.none
-    (ap result_err (date_is c.args.rows.now _ c.loop-i.i c.date_columns-columns.ensures)) c.in_err-row.ensures.tells)
+    (ap result_err (date_is c.args.rows.now _ c.loop-i.i c.date_columns-columns.ensures)) c.in_err-row.ensures.reports)
 
 pub loop-i-preserved : goal.loop-i-preserved
 loop-i-preserved c =

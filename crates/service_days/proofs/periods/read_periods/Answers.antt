@@ -12,10 +12,10 @@ loop-i-init c =
     let t = c.args.rows.now in
     record { periods = c.new-periods.ensures.items ∙ sym (list_below-zero (period_of t)); none = first-zero (bad_period t) }
 
-pub returns-in_err-period-clause-tells : goal.returns-in_err-period-clause-tells
-returns-in_err-period-clause-tells c = match_raised _ _ c.from_residual.result c.from_residual.ensures
+pub returns-in_err-period-clause-reports : goal.returns-in_err-period-clause-reports
+returns-in_err-period-clause-reports c = match_raised _ _ c.from_residual.result c.from_residual.ensures
     (fault-at _ c.loop-i.i _ (omega arith) c.loop-i.invariant.none
-    (ap result_err (period_is c.args.rows.now _ c.loop-i.i c.period_columns-columns.ensures)) c.in_err-period.ensures.tells)
+    (ap result_err (period_is c.args.rows.now _ c.loop-i.i c.period_columns-columns.ensures)) c.in_err-period.ensures.reports)
 
 pub loop-i-preserved : goal.loop-i-preserved
 loop-i-preserved c =

@@ -1,20 +1,20 @@
 use Rattle.std.proofs.Common.{◌∙◌, ap, sym, subst, refl}
 use Rattle.csv_rows.specs.declared.feed_tables.Table.TheVariants.{StopTimes}
-use Rattle.csv_rows.specs.FeedTables.{unread_of, IsFaultOf}
+use Rattle.csv_rows.specs.FeedTables.{unread_table, IsFaultOf}
 use Rattle.csv_rows.proofs.FaultLemmas.{match_raised, fault-first}
 use Rattle.csv_rows.proofs.RowLemmas.{or_then}
 use Rattle.stop_times.proofs.BackLemmas.{backward_is}
 use Rattle.stop_times.proofs.timetable.in_order.Goals as goal
 
-pub returns-in_err-check_once-clause-tells : goal.returns-in_err-check_once-clause-tells
-returns-in_err-check_once-clause-tells c = match_raised _ _ c.from_residual-in_err-check_once.result c.from_residual-in_err-check_once.ensures (fault-first _ _ _ c.in_err-check_once.ensures)
+pub returns-in_err-check_once-clause-reports : goal.returns-in_err-check_once-clause-reports
+returns-in_err-check_once-clause-reports c = match_raised _ _ c.from_residual-in_err-check_once.result c.from_residual-in_err-check_once.ensures (fault-first _ _ _ c.in_err-check_once.ensures)
 
-pub returns-in-Some-clause-tells : goal.returns-in-Some-clause-tells
-returns-in-Some-clause-tells c =
+pub returns-in-Some-clause-reports : goal.returns-in-Some-clause-reports
+returns-in-Some-clause-reports c =
     let none = c.in_ok-check_once.ensures in
     let back = c.first_backward.ensures none ∙ c.in-Some.is in
     let w = backward_is c.args.rows.now c.in-Some.fault back in
-    record { why = λ free. or_then _ _ _ none back; content = ap unread_of w.1; own = subst (IsFaultOf StopTimes) (sym w.1) refl }
+    record { why = λ free. or_then _ _ _ none back; content = ap unread_table w.1; own = subst (IsFaultOf StopTimes) (sym w.1) refl }
 
-pub returns-clause-tells : goal.returns-clause-tells
-returns-clause-tells c = or_then _ _ _ c.in_ok-check_once.ensures (c.first_backward.ensures c.in_ok-check_once.ensures ∙ c.in_default.is)
+pub returns-clause-reports : goal.returns-clause-reports
+returns-clause-reports c = or_then _ _ _ c.in_ok-check_once.ensures (c.first_backward.ensures c.in_ok-check_once.ensures ∙ c.in_default.is)

@@ -29,8 +29,8 @@ returns-in-Ok c =
       size = size;
       visits = subst (λ (bytes : List ℕ). AreVisits trips stops places
           (stop_times_from (loaded_from StopTimes most (table_of bytes)) trips stops places) visits)
-          c.as_slice.ensures.value (visits_of_text trips stops places most t rows visits read c.in-Ok.ensures.tells are);
-      sound = (t, order_sound trips stops places most t rows read c.in-Ok.ensures.tells, are);
+          c.as_slice.ensures.value (visits_of_text trips stops places most t rows visits read c.in-Ok.ensures.reports are);
+      sound = (t, order_sound trips stops places most t rows read c.in-Ok.ensures.reports, are);
       fault = tt;
       content = tt;
       own = tt;
@@ -48,4 +48,4 @@ returns-clause-fault c = λ free.
     let read = timed_rows_are trips stops places most t c.in_ok-timed.timed.items rows same c.in_ok-timed.ensures.rows c.in_ok-timed.ensures.header
     c.in_ok-timed.ensures.few c.in_ok-timed.ensures.rest in
     subst (λ (bytes : List ℕ). stop_times_from (loaded_from StopTimes most (table_of bytes)) trips stops places ≡ Err c.in-Err.fault)
-    c.as_slice.ensures.value (order_faulty trips stops places most t rows c.in-Err.fault read (c.in-Err.ensures.tells.why free))
+    c.as_slice.ensures.value (order_faulty trips stops places most t rows c.in-Err.fault read (c.in-Err.ensures.reports.why free))

@@ -11,12 +11,12 @@ use Rattle.trip_frequencies.proofs.frequencies.read_frequency_rows.Goals as goal
 pub loop-i-init : goal.loop-i-init
 loop-i-init c = grind (arith, list_below-zero, first-zero)
 
-pub returns-in_err-row-clause-tells : goal.returns-in_err-row-clause-tells
-returns-in_err-row-clause-tells c = match_raised _ _ c.from_residual-in_err-row.result c.from_residual-in_err-row.ensures
+pub returns-in_err-row-clause-reports : goal.returns-in_err-row-clause-reports
+returns-in_err-row-clause-reports c = match_raised _ _ c.from_residual-in_err-row.result c.from_residual-in_err-row.ensures
     (fault-at _ c.loop-i.i _ (omega arith) c.loop-i.invariant.none
     (ap result_err (frequency_is c.args.trips.now c.args.rows.now _ c.loop-i.i c.frequency_columns-columns.ensures
     ∙ ap (λ (ids : List (List ℕ)). frequency_in ids c.args.rows.now c.frequency_columns-columns.result c.loop-i.i) (sym (c.in_ok-index.ensures ∙ c.texts.ensures))))
-    c.in_err-row.ensures.tells)
+    c.in_err-row.ensures.reports)
 
 pub loop-i-preserved : goal.loop-i-preserved
 loop-i-preserved c =

@@ -1,18 +1,18 @@
 use Rattle.std.proofs.Common.{Result, Ok, Err, IfOk}
 use Rattle.csv_rows.specs.declared.feed_tables.FeedFault.{FeedFault}
 use Rattle.csv_rows.specs.declared.feed_tables.Table.TheVariants.{Transfers}
-use Rattle.csv_rows.specs.RowFaults.{TellsFirst}
+use Rattle.csv_rows.specs.RowFaults.{ReportsFirst}
 use Rattle.table_files.specs.declared.loading.Loaded.{Loaded}
 use Rattle.table_files.specs.Loading.{loaded_rows}
 use Rattle.gtfs_tables.specs.Feeds.{FeedParts}
-use Rattle.change_times.specs.Changes.{ChangeParts, AreToldChanges, AreToldBySome, fault_of_transfers}
+use Rattle.change_times.specs.Changes.{ChangeParts, AreCollectedChanges, AreReportedBySome, fault_of_transfers}
 use Rattle.change_times.proofs.changes.Changes.read.Goals as goal
 
--- what is told of a table with no fault is told by some
-told_by_some : {T : Type 0} (view : T → ChangeParts) (feed : FeedParts) (l : Loaded) (r : Result T FeedFault) → IfOk r (λ c. AreToldChanges feed (view c) (loaded_rows l))
-    → TellsFirst Transfers (fault_of_transfers feed l) r → IfOk r (λ c. AreToldBySome feed (view c))
-told_by_some view feed l (Ok c) told tells = record { loaded = l; no_fault = tells; told = told }
-told_by_some view feed l (Err fault) told tells = tt
+-- what is said of a table with no fault is said by some
+reported_by_some : {T : Type 0} (view : T → ChangeParts) (feed : FeedParts) (l : Loaded) (r : Result T FeedFault) → IfOk r (λ c. AreCollectedChanges feed (view c) (loaded_rows l))
+    → ReportsFirst Transfers (fault_of_transfers feed l) r → IfOk r (λ c. AreReportedBySome feed (view c))
+reported_by_some view feed l (Ok c) reported reports = record { loaded = l; no_fault = reports; reported = reported }
+reported_by_some view feed l (Err fault) reported reports = tt
 
 pub returns-clause-sound : goal.returns-clause-sound
-returns-clause-sound g c = told_by_some _ c.args.feed.now c.in_ok-loaded.loaded c.changes_of.result c.changes_of.ensures.changes c.changes_of.ensures.tells
+returns-clause-sound g c = reported_by_some _ c.args.feed.now c.in_ok-loaded.loaded c.changes_of.result c.changes_of.ensures.changes c.changes_of.ensures.reports

@@ -1,6 +1,6 @@
 use Rattle.std.proofs.Common.{◌<◌, ℕ, ℤ, List, [], Option, length, slice_index_or, w32, SFits, rules, ap, ◌∙◌, arith}
 use Rattle.std.proofs.lemmas.Int.{to_z-of_z}
-use Rattle.csv_rows.specs.Tables.{place_in}
+use Rattle.csv_rows.specs.Tables.{number_in}
 use Rattle.csv_rows.proofs.ListLemmas.{length-list_below, get-list_below}
 use Rattle.service_days.specs.Services.{runs_at}
 use Rattle.connections.specs.Rides.{is_active_trip}
@@ -11,7 +11,7 @@ pub index-requires : goal.index-requires
 index-requires c =
     let f = c.self.inside.feed.now in let s = c.self.inside.services.now in
     let same = ap (λ (x : FeedDays). length x.feed.trip_ids) c.self.view_is in
-    omega (arith, c.requires, same, ap length c.self.invariant, length-list_below (λ trip. place_in (slice_index_or f.services trip []) s.ids) (length f.trip_ids))
+    omega (arith, c.requires, same, ap length c.self.invariant, length-list_below (λ trip. number_in (slice_index_or f.services trip []) s.ids) (length f.trip_ids))
 
 pub returns : goal.returns
 returns c =
@@ -24,6 +24,6 @@ returns c =
     let back = to_z-of_z w32 c.args.day.number fits in
     let service = slice_index_or f.services trip [] in
     let here = c.index.ensures ∙ ap (λ (xs : List (Option ℕ)). slice_index_or xs trip number) c.self.invariant
-    ∙ get-list_below (λ trip. place_in (slice_index_or f.services trip []) s.ids) (length f.trip_ids) trip number inside in
-    c.runs_at.ensures ∙ ap (runs_at s.periods s.exceptions _) here ∙ ap (λ (day : ℤ). runs_at s.periods s.exceptions day (place_in service s.ids)) back
+    ∙ get-list_below (λ trip. number_in (slice_index_or f.services trip []) s.ids) (length f.trip_ids) trip number inside in
+    c.runs_at.ensures ∙ ap (runs_at s.periods s.exceptions _) here ∙ ap (λ (day : ℤ). runs_at s.periods s.exceptions day (number_in service s.ids)) back
     ∙ ap (λ (x : FeedDays). is_active_trip x.feed x.services c.args.day trip) c.self.view_is

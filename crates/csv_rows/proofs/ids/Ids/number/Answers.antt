@@ -1,9 +1,9 @@
 use Rattle.std.proofs.Common.{ap, ◌∙◌}
-use Rattle.csv_rows.specs.Tables.{place_in}
+use Rattle.csv_rows.specs.Tables.{number_in}
 use Rattle.csv_rows.proofs.IdLemmas.{number_is}
 use Rattle.csv_rows.proofs.ids.Ids.number.Goals as goal
 
 pub returns-clause-place : goal.returns-clause-place
 returns-clause-place c =
     number_is c.number.result c.args.id.now c.self.inside.ids c.self.invariant.names.distinct c.number.ensures.found c.number.ensures.none
-    ∙ ap (place_in c.args.id.now) c.self.view_is
+    ∙ ap (number_in c.args.id.now) c.self.view_is

@@ -2,7 +2,7 @@ use Rattle.std.proofs.Common.{sym, subst, rules}
 use Rattle.plan_model.specs.NetworkModel.{NetworkModel, plain_network}
 use Rattle.plan_model.proofs.SameParts.{same_parts}
 use Rattle.delay_table.specs.DelayLists.{DelayLists}
-use Rattle.cut_file.specs.Read.{Cut, IsRead}
+use Rattle.cut_file.specs.Read.{Cut, IsCutRead}
 use Rattle.cut_file.specs.CutNetworks.{IsNetwork}
 use Rattle.cut_file.proofs.Made.{make_network}
 use Rattle.plan_model.specs.NameLists.{NameLists, NamesFit}
@@ -39,7 +39,7 @@ returns c =
       runs = search rules;
       places = search rules;
       table = λ t read.
-          let P : Cut → Type 0 = λ x. IsRead t x.runs x.places x.rows x.keys in
+          let P : Cut → Type 0 = λ x. IsCutRead t x.runs x.places x.rows x.keys in
           subst (λ (x : NameLists). IsCutNetwork t d n x) (sym c.in_ok-names.ensures) (cut_network t cut d n (subst P (sym c.self.view_is) read) network);
       fit = subst (λ (x : NameLists). NamesFit x n) (sym c.in_ok-names.ensures) (names_fit cut d n c.self.invariant c.in_ok-classes.ensures.sound network);
     }

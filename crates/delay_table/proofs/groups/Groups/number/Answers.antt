@@ -1,12 +1,12 @@
 use Rattle.std.proofs.Common.{◌∙◌, sym, ap}
 use Rattle.delay_table.specs.Groups.{group_index, with_group}
 use Rattle.delay_table.specs.Numbered.{line_group}
-use Rattle.delay_table.proofs.LineGroups.{told-new, told-there, lines-next}
+use Rattle.delay_table.proofs.LineGroups.{reported-new, reported-there, lines-next}
 use Rattle.delay_table.proofs.groups.Groups.number.Goals as goal
 
 pub returns-then-is_new-clause-index : goal.returns-then-is_new-clause-index
 returns-then-is_new-clause-index c =
-    told-new c.args.group c.self.inside.groups.keys (sym c.in_ok-index.ensures.added ∙ c.if-is_new.true) ∙ ap (group_index (line_group c.args.group)) c.self.view_is
+    reported-new c.args.group c.self.inside.groups.keys (sym c.in_ok-index.ensures.added ∙ c.if-is_new.true) ∙ ap (group_index (line_group c.args.group)) c.self.view_is
 
 pub returns-then-is_new-clause-groups : goal.returns-then-is_new-clause-groups
 returns-then-is_new-clause-groups c =
@@ -14,7 +14,7 @@ returns-then-is_new-clause-groups c =
 
 pub returns-clause-index : goal.returns-clause-index
 returns-clause-index c =
-    told-there c.args.group c.self.inside.groups.keys c.in_ok-index.index (sym c.in_ok-index.ensures.added ∙ c.if-is_new.false) c.in_ok-index.ensures.index
+    reported-there c.args.group c.self.inside.groups.keys c.in_ok-index.index (sym c.in_ok-index.ensures.added ∙ c.if-is_new.false) c.in_ok-index.ensures.index
     ∙ ap (group_index (line_group c.args.group)) c.self.view_is
 
 pub returns-clause-groups : goal.returns-clause-groups

@@ -20,8 +20,8 @@ returns-in_err-read-clause-fault c = if_raised _ c.from_residual.result c.from_r
 
 pub returns-in_err-read-clause-count : goal.returns-in_err-read-clause-count
 returns-in_err-read-clause-count c = if_raised _ c.from_residual.result c.from_residual.ensures (λ n e.
-    let told = c.in_err-read.ensures.err (λ f. let never : TooManyClasses n ≡ NoMemory = sym e ∙ f in absurd (cc)) in
-    absurd (lines-other c.args.rows.now n (told ∙ ap Some e)))
+    let reported = c.in_err-read.ensures.err (λ f. let never : TooManyClasses n ≡ NoMemory = sym e ∙ f in absurd (cc)) in
+    absurd (lines-other c.args.rows.now n (reported ∙ ap Some e)))
 
 pub returns : goal.returns
 returns c =

@@ -1,6 +1,6 @@
 use Rattle.std.proofs.Common.{sym, ap, ◌∙◌, filter, w32, ◌++◌, ◌∷◌, []}
 use Rattle.std.proofs.lemmas.Int.{to_z-of_z}
-use Rattle.csv_rows.specs.Tables.{place_in}
+use Rattle.csv_rows.specs.Tables.{number_in}
 use Rattle.service_days.specs.Services.{ServiceParts, runs, runs_at}
 use Rattle.service_days.proofs.DayLemmas.{days_from-zero, filter-kept, filter-dropped}
 use Rattle.service_days.proofs.services.Services.days.Goals as goal
@@ -15,7 +15,7 @@ loop-n-preserved c =
     let day = c.day_after-day.result in
     let back = to_z-of_z w32 day (record { sfits = c.day_after-day.type_inv }) in
     let s = c.args.self.now in
-    let number = c.number-number.ensures.place ∙ ap (λ (x : ServiceParts). place_in c.args.service.now x.ids) c.self.view_is in
+    let number = c.number-number.ensures.place ∙ ap (λ (x : ServiceParts). number_in c.args.service.now x.ids) c.self.view_is in
     let asked = c.runs_at.ensures ∙ ap (runs_at s.periods s.exceptions _) number ∙ ap p back in
     elim c.if-runs_at.branch [
       | then-runs_at+in_ok-push w ↦

@@ -3,7 +3,7 @@ use Rattle.std.proofs.lemmas.Bool.{and_from, and_left, and_right}
 use Rattle.file_ports.specs.Ports.{FileMap}
 use Rattle.csv_rows.specs.declared.feed_tables.Table.TheVariants as table
 use Rattle.csv_rows.specs.declared.feed_tables.FeedFault.TheVariants as fault
-use Rattle.csv_rows.specs.FeedTables.{unread_of}
+use Rattle.csv_rows.specs.FeedTables.{unread_table}
 use Rattle.table_files.specs.Loading.{load_in}
 use Rattle.csv_rows.proofs.FaultLemmas.{some_raised}
 use Rattle.service_days.specs.Calendars.{dates_from, AreDates}
@@ -19,7 +19,7 @@ pub returns-in_err-dates-clause-fault : goal.returns-in_err-dates-clause-fault
 returns-in_err-dates-clause-fault g c = some_raised _ _ _ c.from_residual-in_err-dates.result c.from_residual-in_err-dates.ensures
     (let x = c.in_ok-missing.field-0 in
     let P : Option FileMap → Type 0 = λ o. IfSome o (λ m. c.in_err-dates.field-0.0 ≢ fault.NoMemory
-    → dates_from (load_in m c.args.folder.now c.args.limits.now (unread_of c.in_err-dates.field-0.0) table.CalendarDates) ≡ Err c.in_err-dates.field-0.0) in
+    → dates_from (load_in m c.args.folder.now c.args.limits.now (unread_table c.in_err-dates.field-0.0) table.CalendarDates) ≡ Err c.in_err-dates.field-0.0) in
     dates_first (g.F.Files.state c.args.files.now).files c.args.folder.now c.args.limits.now c.in_err-dates.field-0.0 x.missing x.calendar.ids x.calendar.periods.items
     c.in_ok-missing.ensures.calendar c.in_err-dates.ensures.own (subst P c.in_ok-missing.ensures.causes.same c.in_err-dates.ensures.fault))
 

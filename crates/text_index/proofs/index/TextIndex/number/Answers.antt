@@ -1,5 +1,5 @@
 use Rattle.std.proofs.Common.{◌≡◌, ℕ, None, Some, List, Contains, slice_get, sym, subst, ◌∙◌, ap}
-use Rattle.csv_rows.specs.Tables.{place_in}
+use Rattle.csv_rows.specs.Tables.{number_in}
 use Rattle.csv_rows.proofs.IdLemmas.{number_is}
 use Rattle.csv_rows.proofs.KeyTexts.{key_absent, key_place}
 use Rattle.text_index.specs.KeyTexts.{key_texts}
@@ -15,7 +15,7 @@ pub returns-in-None-clause-place : goal.returns-in-None-clause-place
 returns-in-None-clause-place c =
     let keys = c.self.inside.numbers.keys in
     let text = c.args.text.now in
-    number_is None text (key_texts keys) c.self.invariant.distinct tt (key_absent text keys (sym c.in-None.ensures.found)) ∙ ap (place_in text) c.self.view_is
+    number_is None text (key_texts keys) c.self.invariant.distinct tt (key_absent text keys (sym c.in-None.ensures.found)) ∙ ap (number_in text) c.self.view_is
 
 pub returns-in-Some-clause-found : goal.returns-in-Some-clause-found
 returns-in-Some-clause-found c =
@@ -28,4 +28,4 @@ returns-in-Some-clause-place c =
     let keys = c.self.inside.numbers.keys in
     let text = c.args.text.now in
     number_is (Some c.in-Some.number) text (key_texts keys) c.self.invariant.distinct (key_place text keys c.in-Some.number (sym c.in-Some.ensures.index)) tt
-    ∙ ap (place_in text) c.self.view_is
+    ∙ ap (number_in text) c.self.view_is

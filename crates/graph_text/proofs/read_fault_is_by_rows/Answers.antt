@@ -1,6 +1,6 @@
 use Rattle.csv_rows.specs.Tables.{table_of}
 use Rattle.graph_text.proofs.Faults.{records_fail, records_back}
-use Rattle.graph_text.proofs.read_fault_is_told.Goals as goal
+use Rattle.graph_text.proofs.read_fault_is_by_rows.Goals as goal
 
 pub returns : goal.returns
 returns c n names source target start text fault valid = (

@@ -1,11 +1,11 @@
 use Rattle.std.proofs.Common.{◌≡◌, None}
 use Rattle.csv_rows.specs.First.{first_below}
 use Rattle.change_times.specs.Transfers.{bad_transfer}
-use Rattle.change_times.specs.Told.{AreTold}
-use Rattle.change_times.proofs.changes.tell.Given as goal
+use Rattle.change_times.specs.TransfersSoFar.{AreCollected}
+use Rattle.change_times.proofs.changes.collect.Given as goal
 
 abbrev pub invariant-loop-i : goal.invariant-loop-i
 invariant-loop-i l = record {
-  told : AreTold l.feed l.rows l.i l.told;
+  reported : AreCollected l.feed l.rows l.i l.reported;
   none : first_below (bad_transfer l.feed l.rows) l.i ≡ None;
 }

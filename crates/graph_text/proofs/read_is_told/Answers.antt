@@ -1,8 +1,0 @@
-use Rattle.graph_text.proofs.Accepted.{text_told, text_read}
-use Rattle.graph_text.proofs.read_is_told.Goals as goal
-
-pub returns : goal.returns
-returns c n names head graph text valid = (
-  λ read. (text_told n names head.query.source.0 head.query.target.0 head.query.start.0 text head graph read).0,
-  text_read n names valid head graph text,
-)
