@@ -49,14 +49,9 @@ pub(crate) fn read_exception(
     ensures reports { ReportsFirst DatesTable (result_err (date_in rows.now columns row)) result }
 {
     let line = rows.line(row);
-    let Some(service) = read_name(rows.field_at(row, columns.service)) else {
-        return Err(FeedFault::BadField(Table::CalendarDates, line, Column::ServiceId));
-    };
-    let Some(day) = read_date(rows.field_at(row, columns.date)) else {
-        return Err(FeedFault::BadField(Table::CalendarDates, line, Column::Date));
-    };
-    let Some(adds) = read_adds(rows.field_at(row, columns.kind)) else {
-        return Err(FeedFault::BadField(Table::CalendarDates, line, Column::ExceptionType));
-    };
+    let bad = |column: Column| FeedFault::BadField(Table::CalendarDates, line, column);
+    let service = read_name(rows.field_at(row, columns.service)).ok_or(bad(Column::ServiceId))?;
+    let day = read_date(rows.field_at(row, columns.date)).ok_or(bad(Column::Date))?;
+    let adds = read_adds(rows.field_at(row, columns.kind)).ok_or(bad(Column::ExceptionType))?;
     Ok(ServiceDate { service, day, adds })
 }

@@ -129,27 +129,14 @@ fn read_week(rows: &Rows, columns: PeriodColumns, row: usize) -> Result<Week, Fe
     ensures own { IfErr result (IsFaultOf CalendarTable) }
 {
     let line = rows.line(row);
-    let Some(monday) = read_flag(rows.field_at(row, columns.monday)) else {
-        return Err(FeedFault::BadField(Table::Calendar, line, Column::Monday));
-    };
-    let Some(tuesday) = read_flag(rows.field_at(row, columns.tuesday)) else {
-        return Err(FeedFault::BadField(Table::Calendar, line, Column::Tuesday));
-    };
-    let Some(wednesday) = read_flag(rows.field_at(row, columns.wednesday)) else {
-        return Err(FeedFault::BadField(Table::Calendar, line, Column::Wednesday));
-    };
-    let Some(thursday) = read_flag(rows.field_at(row, columns.thursday)) else {
-        return Err(FeedFault::BadField(Table::Calendar, line, Column::Thursday));
-    };
-    let Some(friday) = read_flag(rows.field_at(row, columns.friday)) else {
-        return Err(FeedFault::BadField(Table::Calendar, line, Column::Friday));
-    };
-    let Some(saturday) = read_flag(rows.field_at(row, columns.saturday)) else {
-        return Err(FeedFault::BadField(Table::Calendar, line, Column::Saturday));
-    };
-    let Some(sunday) = read_flag(rows.field_at(row, columns.sunday)) else {
-        return Err(FeedFault::BadField(Table::Calendar, line, Column::Sunday));
-    };
+    let bad = |column: Column| FeedFault::BadField(Table::Calendar, line, column);
+    let monday = read_flag(rows.field_at(row, columns.monday)).ok_or(bad(Column::Monday))?;
+    let tuesday = read_flag(rows.field_at(row, columns.tuesday)).ok_or(bad(Column::Tuesday))?;
+    let wednesday = read_flag(rows.field_at(row, columns.wednesday)).ok_or(bad(Column::Wednesday))?;
+    let thursday = read_flag(rows.field_at(row, columns.thursday)).ok_or(bad(Column::Thursday))?;
+    let friday = read_flag(rows.field_at(row, columns.friday)).ok_or(bad(Column::Friday))?;
+    let saturday = read_flag(rows.field_at(row, columns.saturday)).ok_or(bad(Column::Saturday))?;
+    let sunday = read_flag(rows.field_at(row, columns.sunday)).ok_or(bad(Column::Sunday))?;
     Ok(Week {
         monday,
         tuesday,
@@ -168,16 +155,11 @@ fn read_period(rows: &Rows, columns: PeriodColumns, row: usize) -> Result<Period
     ensures reports { ReportsFirst CalendarTable (result_err (period_in rows.now columns row)) result }
 {
     let line = rows.line(row);
-    let Some(_) = read_name(rows.field_at(row, columns.service)) else {
-        return Err(FeedFault::BadField(Table::Calendar, line, Column::ServiceId));
-    };
+    let bad = |column: Column| FeedFault::BadField(Table::Calendar, line, column);
+    read_name(rows.field_at(row, columns.service)).ok_or(bad(Column::ServiceId))?;
     let week = read_week(rows, columns, row)?;
-    let Some(first) = read_date(rows.field_at(row, columns.first)) else {
-        return Err(FeedFault::BadField(Table::Calendar, line, Column::StartDate));
-    };
-    let Some(last) = read_date(rows.field_at(row, columns.last)) else {
-        return Err(FeedFault::BadField(Table::Calendar, line, Column::EndDate));
-    };
+    let first = read_date(rows.field_at(row, columns.first)).ok_or(bad(Column::StartDate))?;
+    let last = read_date(rows.field_at(row, columns.last)).ok_or(bad(Column::EndDate))?;
     Ok(Period { week, first, last })
 }
 
