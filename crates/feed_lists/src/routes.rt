@@ -74,12 +74,9 @@ fn read_route(rows: &Rows, columns: RouteColumns, row: usize) -> Result<Route<'_
     ensures reports { ReportsFirst RoutesTable (result_err (route_in rows.now columns row)) result }
 {
     let line = rows.line(row);
-    let Some(id) = read_name(rows.field_at(row, columns.id)) else {
-        return Err(FeedFault::BadField(Table::Routes, line, Column::RouteId));
-    };
-    let Some(kind) = read_route_type(rows.field_at(row, columns.kind)) else {
-        return Err(FeedFault::BadField(Table::Routes, line, Column::RouteType));
-    };
+    let bad = |column: Column| FeedFault::BadField(Table::Routes, line, column);
+    let id = read_name(rows.field_at(row, columns.id)).ok_or(bad(Column::RouteId))?;
+    let kind = read_route_type(rows.field_at(row, columns.kind)).ok_or(bad(Column::RouteType))?;
     Ok(Route { id, kind })
 }
 

@@ -66,15 +66,11 @@ fn read_stop(rows: &Rows, columns: StopColumns, row: usize) -> Result<Stop<'_>, 
     ensures reports { ReportsFirst StopsTable (result_err (stop_in rows.now columns row)) result }
 {
     let line = rows.line(row);
-    let Some(id) = read_name(rows.field_at(row, columns.id)) else {
-        return Err(FeedFault::BadField(Table::Stops, line, Column::StopId));
-    };
-    let Some(is_stop) = read_is_stop(rows.field_at(row, columns.kind)) else {
-        return Err(FeedFault::BadField(Table::Stops, line, Column::LocationType));
-    };
-    let Some(parent) = read_parent(is_stop, rows.field_at(row, columns.parent)) else {
-        return Err(FeedFault::BadField(Table::Stops, line, Column::ParentStation));
-    };
+    let bad = |column: Column| FeedFault::BadField(Table::Stops, line, column);
+    let id = read_name(rows.field_at(row, columns.id)).ok_or(bad(Column::StopId))?;
+    let is_stop = read_is_stop(rows.field_at(row, columns.kind)).ok_or(bad(Column::LocationType))?;
+    let parent = rows.field_at(row, columns.parent);
+    let parent = read_parent(is_stop, parent).ok_or(bad(Column::ParentStation))?;
     Ok(Stop { id, parent })
 }
 

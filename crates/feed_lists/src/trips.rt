@@ -97,18 +97,12 @@ fn read_trip<'a>(
     ensures route { IfOk result (λ r. r.route < length routes.now) }
 {
     let line = rows.line(row);
-    let Some(route) = read_name(rows.field_at(row, columns.route)) else {
-        return Err(FeedFault::BadField(Table::Trips, line, Column::RouteId));
-    };
-    let Some(number) = routes.number(route) else {
-        return Err(FeedFault::UnknownKey(Table::Trips, line, Column::RouteId));
-    };
-    let Some(service) = read_name(rows.field_at(row, columns.service)) else {
-        return Err(FeedFault::BadField(Table::Trips, line, Column::ServiceId));
-    };
-    let Some(id) = read_name(rows.field_at(row, columns.id)) else {
-        return Err(FeedFault::BadField(Table::Trips, line, Column::TripId));
-    };
+    let bad = |column: Column| FeedFault::BadField(Table::Trips, line, column);
+    let unknown = FeedFault::UnknownKey(Table::Trips, line, Column::RouteId);
+    let route = read_name(rows.field_at(row, columns.route)).ok_or(bad(Column::RouteId))?;
+    let number = routes.number(route).ok_or(unknown)?;
+    let service = read_name(rows.field_at(row, columns.service)).ok_or(bad(Column::ServiceId))?;
+    let id = read_name(rows.field_at(row, columns.id)).ok_or(bad(Column::TripId))?;
     Ok(Trip {
         route: number,
         service,
