@@ -75,24 +75,15 @@ fn read_frequency(
         (result_err (frequency_in trips.now rows.now columns row)) result }
 {
     let line = rows.line(row);
-    let Some(trip_id) = read_name(rows.field_at(row, columns.trip)) else {
-        return Err(FeedFault::BadField(Table::Frequencies, line, Column::TripId));
-    };
-    let Some(trip) = trips.number(trip_id) else {
-        return Err(FeedFault::UnknownKey(Table::Frequencies, line, Column::TripId));
-    };
-    let Some(first) = read_time(rows.field_at(row, columns.start)) else {
-        return Err(FeedFault::BadField(Table::Frequencies, line, Column::StartTime));
-    };
-    let Some(end) = read_time(rows.field_at(row, columns.end)) else {
-        return Err(FeedFault::BadField(Table::Frequencies, line, Column::EndTime));
-    };
-    let Some(headway) = read_headway(rows.field_at(row, columns.headway)) else {
-        return Err(FeedFault::BadField(Table::Frequencies, line, Column::HeadwaySecs));
-    };
-    let Some(_) = read_is_exact(rows.field_at(row, columns.exact)) else {
-        return Err(FeedFault::BadField(Table::Frequencies, line, Column::ExactTimes));
-    };
+    let bad = |column: Column| FeedFault::BadField(Table::Frequencies, line, column);
+    let unknown = FeedFault::UnknownKey(Table::Frequencies, line, Column::TripId);
+    let trip_id = read_name(rows.field_at(row, columns.trip)).ok_or(bad(Column::TripId))?;
+    let trip = trips.number(trip_id).ok_or(unknown)?;
+    let first = read_time(rows.field_at(row, columns.start)).ok_or(bad(Column::StartTime))?;
+    let end = read_time(rows.field_at(row, columns.end)).ok_or(bad(Column::EndTime))?;
+    let headway = rows.field_at(row, columns.headway);
+    let headway = read_headway(headway).ok_or(bad(Column::HeadwaySecs))?;
+    read_is_exact(rows.field_at(row, columns.exact)).ok_or(bad(Column::ExactTimes))?;
     Ok(TripFrequency {
         trip,
         row: FrequencyRow {
