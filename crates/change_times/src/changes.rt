@@ -117,7 +117,11 @@ fn note(reported: &mut TransfersSoFar, transfer: Option<Transfer>) -> Result<(),
 }
 
 /// What the rows say, or the first of their faults.
-fn collect(nothing: TransfersSoFar, feed: &FeedStops<'_>, rows: &Rows) -> Result<TransfersSoFar, FeedFault>
+fn collect(
+    nothing: TransfersSoFar,
+    feed: &FeedStops<'_>,
+    rows: &Rows,
+) -> Result<TransfersSoFar, FeedFault>
     requires { AreCollected feed.now rows.now 0 nothing }
     ensures reported { IfOk result (AreCollected feed.now rows.now (row_count rows.now)) }
     ensures reports { ReportsFirst TransfersTable
@@ -133,7 +137,12 @@ fn collect(nothing: TransfersSoFar, feed: &FeedStops<'_>, rows: &Rows) -> Result
 }
 
 /// What the rows say of a feed, whose stops are found by their ids, or the first of their faults.
-fn reported_of(alloc: Global, nothing: TransfersSoFar, feed: &Feed, rows: &Rows) -> Result<TransfersSoFar, FeedFault>
+fn reported_of(
+    alloc: Global,
+    nothing: TransfersSoFar,
+    feed: &Feed,
+    rows: &Rows,
+) -> Result<TransfersSoFar, FeedFault>
     requires { AreCollected feed.now rows.now 0 nothing }
     ensures reported { IfOk result (AreCollected feed.now rows.now (row_count rows.now)) }
     ensures reports { ReportsFirst TransfersTable

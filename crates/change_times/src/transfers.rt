@@ -64,13 +64,9 @@ fn read_place(
     ensures content { IfErr result (λ f. unread_table f ≡ None) }
     ensures own { IfErr result (IsFaultOf TransfersTable) }
 {
-    let Some(id) = read_name(text) else {
-        return Err(FeedFault::BadField(Table::Transfers, line, column));
-    };
-    match feed.place_of(id) {
-        Some(place) => Ok(place),
-        None => Err(FeedFault::UnknownKey(Table::Transfers, line, column)),
-    }
+    let id = read_name(text).ok_or(FeedFault::BadField(Table::Transfers, line, column))?;
+    let unknown = FeedFault::UnknownKey(Table::Transfers, line, column);
+    feed.place_of(id).ok_or(unknown)
 }
 
 /// The transfer from one place to another, if it has seconds.
@@ -107,9 +103,8 @@ fn read_timed(
     let from = read_place(feed, from, line, Column::FromStopId)?;
     let to = rows.field_at(row, columns.to);
     let to = read_place(feed, to, line, Column::ToStopId)?;
-    let Some(seconds) = read_optional_seconds(rows.field_at(row, columns.seconds)) else {
-        return Err(FeedFault::BadField(Table::Transfers, line, Column::MinTransferTime));
-    };
+    let bad = FeedFault::BadField(Table::Transfers, line, Column::MinTransferTime);
+    let seconds = read_optional_seconds(rows.field_at(row, columns.seconds)).ok_or(bad)?;
     Ok(transfer_between(from, to, seconds))
 }
 
@@ -139,10 +134,8 @@ pub(crate) fn read_transfer(
     ensures reports { ReportsFirst TransfersTable
         (result_err (transfer_in feed.now rows.now columns row)) result }
 {
-    let Some(is_timed) = read_is_timed(rows.field_at(row, columns.kind)) else {
-        let line = rows.line(row);
-        return Err(FeedFault::BadField(Table::Transfers, line, Column::TransferType));
-    };
+    let bad = FeedFault::BadField(Table::Transfers, rows.line(row), Column::TransferType);
+    let is_timed = read_is_timed(rows.field_at(row, columns.kind)).ok_or(bad)?;
     if is_timed && is_general(rows, columns, row) {
         return read_timed(feed, rows, columns, row);
     }
