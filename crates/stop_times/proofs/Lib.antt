@@ -2,6 +2,7 @@ pub mod RecordLemmas
 pub mod RowLemmas
 pub mod TimeLemmas
 pub mod BackLemmas
+pub mod RisingRows
 pub mod KeptLemmas
 pub mod VisitLemmas
 pub mod BoundLemmas

@@ -1,11 +1,11 @@
 -- The rows in the order of trip and sequence, and what shows there.
-use Rattle.std.specs.Prelude.{ℕ, ◌+◌, nat_lt, Bool, false, not, ◌||◌, List, length, Option, Some, None, if◌then◌else◌}
+use Rattle.std.specs.Prelude.{◌≡◌, ℕ, ◌+◌, ◌<◌, ◌⊎◌, nat_lt, Bool, false, not, ◌||◌, List, length, Option, Some, None, if◌then◌else◌}
 use Rattle.csv_rows.specs.declared.feed_tables.FeedFault.{FeedFault}
 use Rattle.csv_rows.specs.declared.feed_tables.FeedFault.TheVariants.{BackwardTime}
 use Rattle.csv_rows.specs.declared.keys.Key.{Key}
 use Rattle.csv_rows.specs.Keys.{AreSorted}
 use Rattle.stop_times.specs.declared.rows.TimedRow.{TimedRow}
-use Rattle.stop_times.specs.StopTimes.{trip_of, sequence_of, is_kept, stop_arrival, departure_of}
+use Rattle.stop_times.specs.StopTimes.{row_at, trip_of, sequence_of, is_kept, stop_arrival, departure_of}
 
 -- the rows that are taken: all, or those that are kept
 abbrev pub is_taken : Bool → List TimedRow → ℕ → Bool
@@ -25,3 +25,11 @@ goes_back_after rows before i = nat_lt (departure_of rows i) (stop_arrival rows 
 
 abbrev pub backward_after : List TimedRow → Option Key → ℕ → Option FeedFault
 backward_after rows before i = if goes_back_after rows before i then Some (BackwardTime (i + 2)) else None
+
+-- by trip, and then by sequence
+abbrev pub IsRowBefore : TimedRow → TimedRow → Type 0
+IsRowBefore a b = (a.trip < b.trip) ⊎ ((a.trip ≡ b.trip) × (a.sequence < b.sequence))
+
+-- each row comes before all that are after it in the file
+abbrev pub AreRowsRising : List TimedRow → Type 0
+AreRowsRising rows = (j i : ℕ) → j < i → i < length rows → IsRowBefore (row_at rows j) (row_at rows i)

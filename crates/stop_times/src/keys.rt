@@ -2,7 +2,7 @@
 ghost use Rattle.std.specs.Prelude.{◌≡◌, ◌<◌, ◌≤◌, ◌^◌, length, true, false, None, IfOk, IfSome};
 ghost use Rattle.std.specs.List.{filter};
 ghost use Rattle.csv_rows.specs.First.{first_below};
-ghost use Rattle.stop_times.specs.StopTimeKeys.{AreKeysOf, goes_back_after, backward_after};
+ghost use Rattle.stop_times.specs.StopTimeKeys.{AreKeysOf, AreRowsRising, goes_back_after, backward_after};
 ghost use Rattle.stop_times.specs.StopTimes.{times_in, row_at, is_kept, repeated_time, backward_time};
 
 use crate::stored_row::StoredRow;
@@ -10,9 +10,26 @@ use csv_rows::{FeedFault, Key, before_at, in_order, sooner};
 use plan_model::NoMemory;
 use std::alloc::Global;
 
-/// All rows, in the order of trip, sequence and row number in the file.
-pub(crate) fn sorted_keys(alloc: Global, rows: &[StoredRow]) -> Result<Vec<Key>, NoMemory>
-    requires { length rows.now < 2 ^ 32 }
+/// Whether each row comes before the next one, by trip and then by sequence.
+pub(crate) fn are_rising(rows: &[StoredRow]) -> bool
+    ensures { result ≡ true → AreRowsRising rows.now }
+{
+    for i in 1..rows.len() {
+        if !rows[i - 1].is_before(&rows[i]) {
+            return false;
+        }
+    }
+    true
+}
+
+/// All rows, in the order of trip, sequence and row number in the file. Rows that rise are in this order already.
+pub(crate) fn sorted_keys(
+    alloc: Global,
+    rows: &[StoredRow],
+    rise: bool,
+) -> Result<Vec<Key>, NoMemory>
+    requires count { length rows.now < 2 ^ 32 }
+    requires rise { rise ≡ true → AreRowsRising rows.now }
     ensures keys { IfOk result (λ keys. AreKeysOf false rows.now keys.items) }
     ensures few { IfOk result (λ keys. length keys.items ≤ length rows.now) }
 {
@@ -24,6 +41,9 @@ pub(crate) fn sorted_keys(alloc: Global, rows: &[StoredRow]) -> Result<Vec<Key>,
             row: i as u32,
         })?;
     }
+    if rise {
+        return Ok(keys);
+    }
     Ok(in_order(keys))
 }
 
@@ -33,7 +53,7 @@ fn is_kept(rows: &[StoredRow], key: Key) -> bool
 {
     match rows.get(key.row as usize) {
         None => false,
-        Some(row) => row.visit().is_some(),
+        Some(row) => row.is_kept(),
     }
 }
 
@@ -60,10 +80,7 @@ fn times_at(rows: &[StoredRow], row: usize) -> (u32, u32)
     requires { row < length rows.now }
     ensures { result ≡ times_in (row_at rows.now row).visit }
 {
-    match rows[row].visit() {
-        None => (0, 0),
-        Some(visit) => (visit.arrival, visit.departure),
-    }
+    rows[row].times()
 }
 
 /// Whether a kept row departs before it arrives, or arrives before the row before it departs.

@@ -1,5 +1,7 @@
 //! The rows of stop times as they are stored.
-ghost use Rattle.std.specs.Prelude.{◌≡◌};
+ghost use Rattle.std.specs.Prelude.{◌≡◌, true, is_some};
+ghost use Rattle.stop_times.specs.StopTimes.{times_in};
+ghost use Rattle.stop_times.specs.StopTimeKeys.{IsRowBefore};
 
 use crate::rows::{StopRow, TimedRow};
 use plan_model::PlaceId;
@@ -60,6 +62,35 @@ impl StoredRow {
         ensures { result ≡ self.now.sequence }
     {
         self.sequence
+    }
+
+    /// Whether it comes before another row, by trip and then by sequence.
+    pub(crate) fn is_before(&self, other: &StoredRow) -> bool
+        ensures { result ≡ true → IsRowBefore self.now other.now }
+    {
+        if self.trip == other.trip {
+            self.sequence < other.sequence
+        } else {
+            self.trip < other.trip
+        }
+    }
+
+    /// Whether it has a stop and times.
+    pub(crate) fn is_kept(&self) -> bool
+        ensures { result ≡ is_some self.now.visit }
+    {
+        self.is_kept
+    }
+
+    /// When it arrives and departs, where it is kept.
+    pub(crate) fn times(&self) -> (u32, u32)
+        ensures { result ≡ times_in self.now.visit }
+    {
+        if self.is_kept {
+            (self.arrival, self.departure)
+        } else {
+            (0, 0)
+        }
     }
 
     /// Its stop and times, where it has both.

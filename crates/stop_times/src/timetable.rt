@@ -1,5 +1,5 @@
 //! The stop times of a feed.
-ghost use Rattle.std.specs.Prelude.{◌≡◌, ◌≢◌, ◌<◌, ◌≤◌, ℕ, length, slice_index_or, [], false, None, Ok, Err, IfOk, IfErr, OnOk};
+ghost use Rattle.std.specs.Prelude.{◌≡◌, ◌≢◌, ◌<◌, ◌≤◌, ℕ, length, slice_index_or, [], true, false, None, Ok, Err, IfOk, IfErr, OnOk};
 ghost use Rattle.csv_rows.specs.declared.feed_tables.Table.TheVariants.{StopTimes as StopTimesTable};
 ghost use Rattle.csv_rows.specs.First.{first_below};
 ghost use Rattle.csv_rows.specs.FeedTables.{unread_table, IsFaultOf};
@@ -7,14 +7,14 @@ ghost use Rattle.csv_rows.specs.RowFaults.{ReportsFirst};
 ghost use Rattle.table_files.specs.Loading.{loaded_from};
 ghost use Rattle.csv_rows.specs.Tables.{table_of};
 ghost use Rattle.stop_times.specs.StopTimeBounds.{most_stop_times};
-ghost use Rattle.stop_times.specs.StopTimeKeys.{AreKeysOf};
+ghost use Rattle.stop_times.specs.StopTimeKeys.{AreKeysOf, AreRowsRising};
 ghost use Rattle.stop_times.specs.Timetables.{stop_times_from, AreVisits};
 ghost use Rattle.table_files.specs.Required.{IsOfSomeTable};
 ghost use Rattle.stop_times.specs.StopTimes.{repeated_time, order_fault, stop_times_fault, timed_rows};
 ghost use Rattle.stop_times.specs.Visits.{AreStopTimes};
 
 use crate::by_trip::StopTimes;
-use crate::keys::{first_backward, kept_keys, sorted_keys};
+use crate::keys::{are_rising, first_backward, kept_keys, sorted_keys};
 use crate::rows::Named;
 use crate::stored_row::StoredRow;
 use crate::table_rows::read_timed_rows;
@@ -23,11 +23,16 @@ use csv_rows::{FeedFault, Ids, Key, Limits, Table, first_repeat};
 use std::alloc::Global;
 use text_index::TextIndex;
 
-/// The first row that has the trip and the sequence of an earlier one, by the keys of all rows in their order.
-fn check_once(rows: &[StoredRow], keys: &[Key]) -> Result<(), FeedFault>
-    requires { AreKeysOf false rows.now keys.now }
+/// The first row that has the trip and the sequence of an earlier one, by the keys of all rows in their order. Of rows that
+/// rise none has.
+fn check_once(rows: &[StoredRow], keys: &[Key], rise: bool) -> Result<(), FeedFault>
+    requires keys { AreKeysOf false rows.now keys.now }
+    requires rise { rise ≡ true → AreRowsRising rows.now }
     ensures { ReportsFirst StopTimesTable (first_below (repeated_time rows.now) (length rows.now)) result }
 {
+    if rise {
+        return Ok(());
+    }
     match first_repeat(keys) {
         None => Ok(()),
         Some(row) => Err(FeedFault::DuplicateKey(Table::StopTimes, u64::from(row) + 2)),
@@ -44,8 +49,9 @@ fn in_order(alloc: Global, rows: &[StoredRow], trips: u32) -> Result<StopTimes, 
         → length (slice_index_or visits trip []) ≤ most_stop_times) }
     ensures reports { ReportsFirst StopTimesTable (order_fault rows.now) result }
 {
-    let keys = sorted_keys(alloc, rows)?;
-    check_once(rows, keys.as_slice())?;
+    let rise = are_rising(rows);
+    let keys = sorted_keys(alloc, rows, rise)?;
+    check_once(rows, keys.as_slice(), rise)?;
     let keys = kept_keys(rows, keys);
     if let Some(fault) = first_backward(rows, keys.as_slice()) {
         return Err(fault);

@@ -1,11 +1,12 @@
 use Rattle.std.proofs.Common.{◌≡◌, false, ap, ap₂, refl, arith, subst, ℕ, List, [], ◌∷◌, ◌++◌, length, ◌+◌, ◌<◌, ◌∙◌}
 use Rattle.std.proofs.lemmas.List.{length_push, get_or_default}
-use Rattle.std.proofs.lemmas.List.Sorted.{length_permutation}
+use Rattle.std.proofs.lemmas.List.Sorted.{length_permutation, IsPermutation-refl}
 use Rattle.csv_rows.specs.declared.keys.Key.{Key}
 use Rattle.csv_rows.proofs.SortLemmas.{AreKeys, key_of, sorted_are, keys-none, keys-taken}
 use Rattle.stop_times.specs.declared.rows.TimedRow.{TimedRow}
 use Rattle.stop_times.specs.StopTimes.{trip_of, sequence_of, no_row}
 use Rattle.stop_times.specs.StopTimeKeys.{is_taken}
+use Rattle.stop_times.proofs.RisingRows.{keys_rise}
 use Rattle.stop_times.proofs.keys.sorted_keys.Goals as goal
 
 pushed : (xs ys : List Key) (x : Key) → ys ≡ xs ++ x ∷ [] → length ys ≡ length xs + 1
@@ -46,3 +47,13 @@ returns-clause-keys c =
     let P : ℕ → Type 0 = λ m. AreKeys test (trip_of rows) (sequence_of rows) m c.loop-i.keys.items in
     let end : c.loop-i.i ≡ length rows = omega arith in
     sorted_are test (trip_of rows) (sequence_of rows) (length rows) c.loop-i.keys.items c.in_order.result.items (subst P end c.loop-i.invariant.0) c.in_order.ensures.same c.in_order.ensures.rising
+
+pub returns-then-rise-clause-keys : goal.returns-then-rise-clause-keys
+returns-then-rise-clause-keys c =
+    let rows = c.args.rows.now in
+    let test = is_taken false rows in
+    let keys = c.loop-i.keys.items in
+    let P : ℕ → Type 0 = λ m. AreKeys test (trip_of rows) (sequence_of rows) m keys in
+    let end : c.loop-i.i ≡ length rows = omega arith in
+    let own = subst P end c.loop-i.invariant.0 in
+    sorted_are test (trip_of rows) (sequence_of rows) (length rows) keys keys own (IsPermutation-refl keys) (keys_rise rows keys (c.requires.rise c.if-rise.true) own)

@@ -2,12 +2,16 @@ use Rattle.std.proofs.Common.{refl, option_map, sym, ap, ◌∙◌, ◌+◌, Som
 use Rattle.csv_rows.specs.declared.feed_tables.Table.TheVariants.{StopTimes}
 use Rattle.csv_rows.specs.declared.feed_tables.FeedFault.TheVariants.{DuplicateKey}
 use Rattle.stop_times.proofs.BackLemmas.{repeats_first}
+use Rattle.stop_times.proofs.RisingRows.{rising_once}
 use Rattle.stop_times.proofs.timetable.check_once.Goals as goal
+
+pub returns-then-rise : goal.returns-then-rise
+returns-then-rise c = rising_once c.args.rows.now (c.requires.rise c.if-rise.true)
 
 pub returns-in-None : goal.returns-in-None
 returns-in-None c =
     let rows = c.args.rows.now in
-    repeats_first rows c.args.keys.now c.first_repeat.result c.requires c.first_repeat.ensures
+    repeats_first rows c.args.keys.now c.first_repeat.result c.requires.keys c.first_repeat.ensures
     ∙ ap (option_map (λ row. DuplicateKey StopTimes (row + 2))) c.in-None.is
 
 pub returns-in-Some : goal.returns-in-Some
@@ -15,7 +19,7 @@ returns-in-Some c =
     let rows = c.args.rows.now in
     record {
       why = λ free.
-          repeats_first rows c.args.keys.now c.first_repeat.result c.requires c.first_repeat.ensures
+          repeats_first rows c.args.keys.now c.first_repeat.result c.requires.keys c.first_repeat.ensures
           ∙ ap (option_map (λ row. DuplicateKey StopTimes (row + 2))) c.in-Some.is
           ∙ ap (λ row. Some (DuplicateKey StopTimes (row + 2))) (sym c.from.ensures);
       content = refl;

@@ -1,0 +1,67 @@
+-- Rows that rise by trip and sequence.
+use Rattle.std.proofs.Common.{◌≡◌, ℕ, ◌+◌, ◌-◌, ◌<◌, ◌&&◌, ◌==◌, Bool, false, List, length, Some, None, inl, inr, arith, ap, sym, subst, ◌∙◌, if◌then◌else◌, eqb-true}
+use Rattle.std.proofs.lemmas.Bool.{cases_lt, and_parts}
+use Rattle.csv_rows.specs.declared.feed_tables.Table.TheVariants.{StopTimes}
+use Rattle.csv_rows.specs.declared.feed_tables.FeedFault.TheVariants.{DuplicateKey}
+use Rattle.csv_rows.specs.declared.keys.Key.{Key}
+use Rattle.csv_rows.specs.First.{first_below}
+use Rattle.csv_rows.specs.Keys.{IsRising, has_twin, key_at, no_key}
+use Rattle.csv_rows.proofs.FirstLemmas.{any-false, first-none}
+use Rattle.csv_rows.proofs.SortLemmas.{AreKeys, IsOwn, key_of}
+use Rattle.stop_times.specs.declared.rows.TimedRow.{TimedRow}
+use Rattle.stop_times.specs.StopTimes.{row_at, trip_of, sequence_of, repeated_time}
+use Rattle.stop_times.specs.StopTimeKeys.{is_taken, IsRowBefore, AreRowsRising}
+
+before_on : (a b c : TimedRow) → IsRowBefore a b → IsRowBefore b c → IsRowBefore a c
+before_on a b c (inl low) (inl next) = inl (omega arith)
+before_on a b c (inl low) (inr next) = inl (omega (arith, next.0))
+before_on a b c (inr low) (inl next) = inl (omega (arith, low.0))
+before_on a b c (inr low) (inr next) = inr (low.0 ∙ next.0, omega (arith, low.1, next.1))
+
+-- the first m rows do
+abbrev pub RiseBelow : List TimedRow → ℕ → Type 0
+RiseBelow rows m = (j i : ℕ) → j < i → i < m → IsRowBefore (row_at rows j) (row_at rows i)
+
+-- one more row
+pub rising-next : (rows : List TimedRow) (i : ℕ) → RiseBelow rows i → IsRowBefore (row_at rows (i - 1)) (row_at rows i) → RiseBelow rows (i + 1)
+rising-next rows i rise last j k less inside = elim (cases_lt k i) [
+  | inl low ↦ rise j k less low
+  | inr end ↦
+      let here : i ≡ k = omega arith in
+      subst (λ (m : ℕ). IsRowBefore (row_at rows j) (row_at rows m)) here (elim (cases_lt j (i - 1)) [
+        | inl low ↦ before_on (row_at rows j) (row_at rows (i - 1)) (row_at rows i) (rise j (i - 1) low (omega arith)) last
+        | inr next ↦
+            let there : i - 1 ≡ j = omega arith in
+            subst (λ (m : ℕ). IsRowBefore (row_at rows m) (row_at rows i)) there last
+      ])
+]
+
+-- the keys of rows that rise do so in the order of the file
+pub keys_rise : (rows : List TimedRow) (keys : List Key) → AreRowsRising rows → AreKeys (is_taken false rows) (trip_of rows) (sequence_of rows) (length rows) keys → IsRising keys
+unfolding IsOwn key_of
+keys_rise rows keys rise own k l less inside =
+    let a = own.own k no_key (omega arith) in
+    let b = own.own l no_key inside in
+    let trip_a : (key_at keys k).group ≡ trip_of rows (key_at keys k).row = ap (λ (w : Key). w.group) a.0 in
+    let trip_b : (key_at keys l).group ≡ trip_of rows (key_at keys l).row = ap (λ (w : Key). w.group) b.0 in
+    let place_a : (key_at keys k).order ≡ sequence_of rows (key_at keys k).row = ap (λ (w : Key). w.order) a.0 in
+    let place_b : (key_at keys l).order ≡ sequence_of rows (key_at keys l).row = ap (λ (w : Key). w.order) b.0 in
+    elim (rise (key_at keys k).row (key_at keys l).row (own.rising k l no_key less inside) b.1) [
+      | inl low ↦ inl (omega (arith, trip_a, trip_b, low))
+      | inr same ↦ inr (trip_a ∙ same.0 ∙ sym trip_b, inl (omega (arith, place_a, place_b, same.1)))
+    ]
+
+-- and none of them is repeated
+pub rising_once : (rows : List TimedRow) → AreRowsRising rows → first_below (repeated_time rows) (length rows) ≡ None
+unfolding repeated_time
+rising_once rows rise = first-none (repeated_time rows) (length rows) (λ i inside.
+    let once : has_twin (trip_of rows) (sequence_of rows) i ≡ false =
+    any-false (λ j. (trip_of rows j == trip_of rows i) && (sequence_of rows j == sequence_of rows i)) i (λ j less twin.
+    let both = and_parts (trip_of rows j == trip_of rows i) (sequence_of rows j == sequence_of rows i) twin in
+    let trip = eqb-true (trip_of rows j) (trip_of rows i) both.0 in
+    let place = eqb-true (sequence_of rows j) (sequence_of rows i) both.1 in
+    elim (rise j i less inside) [
+      | inl low ↦ omega (arith, low, trip)
+      | inr same ↦ omega (arith, same.1, place)
+    ]) in
+    ap (λ (b : Bool). if b then Some (DuplicateKey StopTimes (i + 2)) else None) once)
