@@ -124,7 +124,10 @@ pub(crate) fn first_backward(rows: &[StoredRow], keys: &[Key]) -> Option<FeedFau
     let mut first: Option<(u32, FeedFault)> = None;
     for k in 0..keys.len() {
         let row = keys[k].row;
-        first = sooner(first, row, backward(rows, before_at(keys, k), row));
+        let Some(fault) = backward(rows, before_at(keys, k), row) else {
+            continue;
+        };
+        first = sooner(first, row, Some(fault));
     }
     match first {
         None => None,

@@ -1,4 +1,4 @@
-use Rattle.std.proofs.Common.{ℕ, true, sym, ap, ◌∙◌, length, arith, option_map}
+use Rattle.std.proofs.Common.{ℕ, true, sym, ap, ◌∙◌, length, arith, option_map, refl, Some, None}
 use Rattle.csv_rows.specs.declared.feed_tables.FeedFault.{FeedFault}
 use Rattle.csv_rows.proofs.KeyLemmas.{before_inside}
 use Rattle.csv_rows.proofs.SoonestLemmas.{soonest-next, soonest-first}
@@ -11,8 +11,15 @@ pub loop-k-preserved : goal.loop-k-preserved
 loop-k-preserved c = λ none.
     let k = c.loop-k.k in
     let rows = c.args.rows.now in
-    soonest-next (backward_time rows) (length rows) c.args.keys.now k c.loop-k.first c.sooner-first.result c.backward.result (c.requires.inside k (omega arith))
-    (back_is rows c.args.keys.now c.requires none k (omega arith) c.before_at.result c.before_at.ensures ∙ sym c.backward.ensures) c.sooner-first.ensures (c.loop-k.invariant none)
+    soonest-next (backward_time rows) (length rows) c.args.keys.now k c.loop-k.first c.sooner-first.result (Some c.in-Some.fault) (c.requires.inside k (omega arith))
+    (back_is rows c.args.keys.now c.requires none k (omega arith) c.before_at.result c.before_at.ensures ∙ sym c.backward.ensures ∙ c.in-Some.is) c.sooner-first.ensures (c.loop-k.invariant none)
+
+pub loop-k-preserved-in_default : goal.loop-k-preserved-in_default
+loop-k-preserved-in_default c = λ none.
+    let k = c.loop-k.k in
+    let rows = c.args.rows.now in
+    soonest-next (backward_time rows) (length rows) c.args.keys.now k c.loop-k.first c.loop-k.first None (c.requires.inside k (omega arith))
+    (back_is rows c.args.keys.now c.requires none k (omega arith) c.before_at.result c.before_at.ensures ∙ sym c.backward.ensures ∙ c.in_default.is) refl (c.loop-k.invariant none)
 
 pub backward-requires-clause-row : goal.backward-requires-clause-row
 backward-requires-clause-row c = c.requires.inside c.loop-k.k (omega arith)
@@ -28,8 +35,8 @@ returns-in-None c = λ none.
     soonest-first (backward_time rows) (length rows) c.args.keys.now (is_taken true rows) (trip_of rows) (sequence_of rows) c.requires (quiet rows) c.loop-k.k (omega arith)
     c.loop-k.first (c.loop-k.invariant none) ∙ ap (option_map (λ (x : ℕ × FeedFault). x.1)) c.in-None.is
 
-pub returns-in-Some : goal.returns-in-Some
-returns-in-Some c = λ none.
+pub returns-in-Some-first : goal.returns-in-Some-first
+returns-in-Some-first c = λ none.
     let rows = c.args.rows.now in
     soonest-first (backward_time rows) (length rows) c.args.keys.now (is_taken true rows) (trip_of rows) (sequence_of rows) c.requires (quiet rows) c.loop-k.k (omega arith)
-    c.loop-k.first (c.loop-k.invariant none) ∙ ap (option_map (λ (x : ℕ × FeedFault). x.1)) c.in-Some.is
+    c.loop-k.first (c.loop-k.invariant none) ∙ ap (option_map (λ (x : ℕ × FeedFault). x.1)) c.in-Some-first.is
