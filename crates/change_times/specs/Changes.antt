@@ -53,8 +53,8 @@ pub record ChangeParts : Type 0 where
   pub passed : ℕ
 
 -- the seconds that a change at a place takes
-abbrev pub change_seconds : ChangeParts → ℕ → ℕ
-change_seconds c place = change_seconds (lookup (nat_eq place) c.reported)
+abbrev pub place_seconds : ChangeParts → ℕ → ℕ
+place_seconds c place = change_seconds (lookup (nat_eq place) c.reported)
 
 -- the links into a place
 abbrev pub links_of : ChangeParts → ℕ → List Way
@@ -66,7 +66,7 @@ LinksComeFrom places c = (place : ℕ) → All (λ way. way.from.0 < places) (li
 
 -- these are the change times and the links of a table; a place that the feed does not have has no link into it
 pub record AreCollectedChanges (feed : FeedParts) (c : ChangeParts) (t : Records) : Type 0 where
-  pub seconds : (place : ℕ) → change_seconds c place ≡ change_time feed t place
+  pub seconds : (place : ℕ) → place_seconds c place ≡ change_time feed t place
   pub links : (place : ℕ) → place < length feed.stop_ids → links_of c place ≡ links_in feed t place
   pub few : length c.links ≤ length feed.stop_ids
   pub passed : c.passed ≡ passed_below feed t (row_count t)

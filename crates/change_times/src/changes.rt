@@ -15,7 +15,7 @@ ghost use Rattle.change_times.specs.Greatest.{greater};
 ghost use Rattle.plan_model.specs.Network.{AreLinksInto};
 ghost use Rattle.change_times.specs.Walks.{walks_of, most_to, seconds_between, link_between};
 ghost use Rattle.change_times.specs.TransfersSoFar.{AreCollected};
-ghost use Rattle.change_times.specs.Changes.{fault_of_transfers, change_seconds, links_of, transfers_in, AreCollectedChanges, AreReportedBySome, LinksComeFrom};
+ghost use Rattle.change_times.specs.Changes.{fault_of_transfers, place_seconds, links_of, transfers_in, AreCollectedChanges, AreReportedBySome, LinksComeFrom};
 
 use crate::links::{Walk, Ways, add_walk, links_of, no_walks};
 use crate::stops::FeedStops;
@@ -237,7 +237,7 @@ impl Changes {
     /// The seconds that a change at a place takes: the greatest `min_transfer_time` of the rows of type 2 that name no route
     /// and no trip and whose two stops have this place, 1 at least, and 120 if there is no such row.
     pub fn seconds(&self, place: PlaceId) -> u32
-        ensures value { result ≡ change_seconds self.now place.0 }
+        ensures value { result ≡ place_seconds self.now place.0 }
         ensures least { 1 ≤ result }
         ensures most { result ≤ seconds_per_day }
     {

@@ -4,7 +4,7 @@ use Rattle.csv_rows.specs.declared.limits.Limits.{Limits}
 use Rattle.csv_rows.specs.Lists.{list_below}
 use Rattle.plan_model.specs.NameLists.{NameLists}
 use Rattle.plan_model.specs.NetworkModel.{NetworkModel}
-use Rattle.change_times.specs.Changes.{ChangeParts, change_seconds, links_of}
+use Rattle.change_times.specs.Changes.{ChangeParts, place_seconds, links_of}
 use Rattle.delay_table.specs.DelayLists.{DelayLists}
 use Rattle.gtfs_tables.specs.Feeds.{FeedParts}
 use Rattle.service_days.specs.Services.{ServiceParts}
@@ -18,7 +18,7 @@ use Rattle.connections.specs.FeedNetworks.{IsNetworkOf}
 -- those of the delays
 abbrev pub IsNetworkFrom : FeedParts → ServiceParts → ChangeParts → DelayLists → (start horizon : ℕ) → NetworkModel → NameLists → Type 0
 IsNetworkFrom f s c d start horizon network names =
-    IsNetworkOf f s (list_below (change_seconds c) (length f.stop_ids)) (list_below (links_of c) (length f.stop_ids)) d (window_of start horizon) network names
+    IsNetworkOf f s (list_below (place_seconds c) (length f.stop_ids)) (list_below (links_of c) (length f.stop_ids)) d (window_of start horizon) network names
 
 -- how many connections the window has
 abbrev pub connection_count : FeedParts → ServiceParts → (start horizon : ℕ) → ℕ

@@ -2,7 +2,7 @@
 ghost use Rattle.std.specs.Prelude.{◌≡◌, ◌≢◌, ◌<◌, ◌≤◌, [], length, true, Some, None, OnOk, IfOk, IfErr};
 ghost use Rattle.std.specs.Result.{result_err};
 ghost use Rattle.csv_rows.specs.Lists.{list_below};
-ghost use Rattle.change_times.specs.Changes.{change_seconds, links_of, LinksComeFrom};
+ghost use Rattle.change_times.specs.Changes.{place_seconds, links_of, LinksComeFrom};
 ghost use Rattle.plan_model.specs.Bounds.{first_start, last_start, most_connections};
 ghost use Rattle.plan_model.specs.NameLists.{NamesFit};
 ghost use Rattle.connections.specs.Window.{most_hours};
@@ -129,7 +129,7 @@ fn count_within(trips: &FeedWindow<'_>, limits: &Limits) -> Result<u64, WindowFa
 /// The change seconds of each place.
 #[tactic(auto, using(crate::proofs::JoinLemmas::list_steps))]
 fn changes_of(alloc: Global, changes: &Changes, places: u32) -> Result<List<u32>, NoMemory>
-    ensures seconds { IfOk result (λ change. change ≡ list_below (change_seconds changes.now) places) }
+    ensures seconds { IfOk result (λ change. change ≡ list_below (place_seconds changes.now) places) }
     ensures fit { IfOk result AreChanges }
 {
     let mut change: List<u32> = List::new(alloc);
@@ -165,7 +165,7 @@ fn network_of(
         ≤ most_connections }
     requires links { LinksComeFrom (length trips.now.feed.now.stop_ids) trips.now.changes.now }
     ensures network { IfOk result (λ r. IsNetworkOf trips.now.feed.now trips.now.days.now.services
-        (list_below (change_seconds trips.now.changes.now) (length trips.now.feed.now.stop_ids))
+        (list_below (place_seconds trips.now.changes.now) (length trips.now.feed.now.stop_ids))
         (list_below (links_of trips.now.changes.now) (length trips.now.feed.now.stop_ids))
         delays.now trips.now.window r.0 r.1) }
     ensures fit { IfOk result (λ r. NamesFit r.1 r.0) }

@@ -10,7 +10,7 @@ use Rattle.table_files.specs.Required.{Records}
 use Rattle.gtfs_tables.specs.Feeds.{FeedParts, tables_in}
 use Rattle.service_days.specs.Services.{ServiceParts, runs}
 use Rattle.service_days.specs.Calendars.{Calendars, calendars_in, RunsBy}
-use Rattle.change_times.specs.Changes.{ChangeParts, AreCollectedChanges, change_seconds, links_of, transfers_in}
+use Rattle.change_times.specs.Changes.{ChangeParts, AreCollectedChanges, place_seconds, links_of, transfers_in}
 use Rattle.change_times.specs.Transfers.{place_of_stop}
 use Rattle.connections.specs.Cut.{IsNetworkFrom, connection_count, entry_count}
 use Rattle.connections.specs.Faults.{window_fault}
@@ -25,7 +25,7 @@ use Rattle.journey_problem.proofs.OneWindow.{SameDays, same_count, same_entries,
 pub record SameGtfsFolder (g h : GtfsFolder) : Type 0 where
   pub feed : g.feed ≡ h.feed
   pub days : SameDays g.services h.services
-  pub changes : (place : ℕ) → change_seconds g.changes place ≡ change_seconds h.changes place
+  pub changes : (place : ℕ) → place_seconds g.changes place ≡ place_seconds h.changes place
   pub links : (place : ℕ) → links_of g.changes place ≡ links_of h.changes place
 
 same_days : (r : Result Calendars FeedFault) (s t : ServiceParts) → IsOkAnd r (RunsBy (runs s)) → IsOkAnd r (RunsBy (runs t)) → SameDays s t
@@ -33,7 +33,7 @@ same_days (Ok c) s t a b = λ service day. a service day ∙ sym (b service day)
 same_days (Err fault) s t a b = absurd a
 
 same_changes : (r : Result Records FeedFault) (f : FeedParts) (c d : ChangeParts) → IsOkAnd r (AreCollectedChanges f c) → IsOkAnd r (AreCollectedChanges f d) → (place : ℕ)
-    → change_seconds c place ≡ change_seconds d place
+    → place_seconds c place ≡ place_seconds d place
 same_changes (Ok t) f c d a b = λ place. a.seconds place ∙ sym (b.seconds place)
 same_changes (Err fault) f c d a b = absurd a
 

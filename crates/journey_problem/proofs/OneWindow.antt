@@ -7,7 +7,7 @@ use Rattle.plan_model.specs.NameLists.{NameLists}
 use Rattle.plan_model.specs.NetworkModel.{NetworkModel}
 use Rattle.plan_model.proofs.SameParts.{same_parts}
 use Rattle.csv_rows.specs.Lists.{list_below}
-use Rattle.change_times.specs.Changes.{ChangeParts, change_seconds, links_of}
+use Rattle.change_times.specs.Changes.{ChangeParts, place_seconds, links_of}
 use Rattle.clock_text.proofs.OneDate.{one_date}
 use Rattle.delay_table.specs.DelayLists.{DelayLists}
 use Rattle.gtfs_tables.specs.Feeds.{FeedParts}
@@ -63,7 +63,7 @@ same_entries f s t c d start horizon e links =
     ∙ ap (λ (each : PlaceId → ℕ). window_sum each f t w) (fun_ext (λ place. ap (λ (ls : List Way). length ls + 1) (links place.0)))
 
 module _ (f : FeedParts) (s t : ServiceParts) (c d : ChangeParts) (lists : DelayLists) (start horizon : ℕ) (days : SameDays s t)
-    (changes : (place : ℕ) → change_seconds c place ≡ change_seconds d place) (links : (place : ℕ) → links_of c place ≡ links_of d place) where
+    (changes : (place : ℕ) → place_seconds c place ≡ place_seconds d place) (links : (place : ℕ) → links_of c place ≡ links_of d place) where
   pub one_window : (n m : NetworkModel) (names more : NameLists) → IsNetworkFrom f s c lists start horizon n names → IsNetworkFrom f t d lists start horizon m more → (n ≡ m) × (names ≡ more)
   one_window n m names more a b =
       let w = window_of start horizon in

@@ -227,7 +227,11 @@ fn plan_reported(alloc: Global, found: &Found<PlanGraph, Span>) -> Result<Report
 }
 
 /// What is said of the graph by place.
-pub(crate) fn planned_reported(alloc: Global, network: &Network, target: u32) -> Result<Reported, Fail> {
+pub(crate) fn planned_reported(
+    alloc: Global,
+    network: &Network,
+    target: u32,
+) -> Result<Reported, Fail> {
     let found = planned_to(alloc, network, target)?;
     plan_reported(alloc, &found)
 }
@@ -237,7 +241,11 @@ fn expansion_reported(alloc: Global, found: &Found<ExpandedGraph, Span>) -> Resu
 }
 
 /// What is said of the graph by ride.
-pub(crate) fn expanded_reported(alloc: Global, network: &Network, target: u32) -> Result<Reported, Fail> {
+pub(crate) fn expanded_reported(
+    alloc: Global,
+    network: &Network,
+    target: u32,
+) -> Result<Reported, Fail> {
     let found = expanded_to(alloc, network, target)?;
     expansion_reported(alloc, &found)
 }

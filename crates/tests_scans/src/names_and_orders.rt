@@ -205,7 +205,10 @@ fn at_once(alloc: Global) -> Result<(Vec<u32>, Option<ConnectionId>), Fail> {
 #[test]
 fn the_order_goes_backwards(rt: HostRuntime) -> Result<(), Fail> {
     let reported = at_once(rt.alloc())?;
-    assert_eq!(rt; (reported.0.as_slice(), reported.1), (BACKWARDS.as_slice(), None));
+    assert_eq!(rt;
+        (reported.0.as_slice(), reported.1),
+        (BACKWARDS.as_slice(), None)
+    );
     Ok(())
 }
 
@@ -229,6 +232,9 @@ fn again(alloc: Global) -> Result<(Vec<u32>, [Option<ConnectionId>; 2]), Fail> {
 fn the_order_begins_again(rt: HostRuntime) -> Result<(), Fail> {
     let reported = again(rt.alloc())?;
     let first = [Some(ConnectionId(3)), Some(ConnectionId(2))];
-    assert_eq!(rt; (reported.0.as_slice(), reported.1), (BACKWARDS.as_slice(), first));
+    assert_eq!(rt;
+        (reported.0.as_slice(), reported.1),
+        (BACKWARDS.as_slice(), first)
+    );
     Ok(())
 }

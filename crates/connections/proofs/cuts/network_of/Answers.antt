@@ -2,7 +2,7 @@ use Rattle.std.proofs.Common.{◌≡◌, [], length, ap, sym, subst, ◌∙◌, 
 use Rattle.csv_rows.specs.Lists.{list_below}
 use Rattle.csv_rows.proofs.ListLemmas.{length-list_below}
 use Rattle.plan_model.specs.Network.{AreLinksInto}
-use Rattle.change_times.specs.Changes.{change_seconds, links_of}
+use Rattle.change_times.specs.Changes.{place_seconds, links_of}
 use Rattle.connections.proofs.CountLemmas.{rides_counted}
 use Rattle.connections.proofs.LinkLemmas.{links_fit, names_fit}
 use Rattle.connections.proofs.RunLemmas.{runs_are}
@@ -26,7 +26,7 @@ network_of_runs-requires-clause-few c =
 pub with_links-requires-clause-each : goal.with_links-requires-clause-each
 with_links-requires-clause-each c =
     let places : length c.in_ok-network.network.change ≡ length c.args.trips.now.feed.now.stop_ids
-    = ap length c.in_ok-network.ensures.change ∙ ap length c.in_ok-change.ensures.seconds ∙ length-list_below (change_seconds c.args.trips.now.changes.now) c.args.trips.now.stops ∙ c.args.trips.now.stops_counted in
+    = ap length c.in_ok-network.ensures.change ∙ ap length c.in_ok-change.ensures.seconds ∙ length-list_below (place_seconds c.args.trips.now.changes.now) c.args.trips.now.stops ∙ c.args.trips.now.stops_counted in
     let links : c.in_ok-links.links ≡ list_below (links_of c.args.trips.now.changes.now) (length c.args.trips.now.feed.now.stop_ids)
     = c.in_ok-links.ensures ∙ ap (list_below (links_of c.args.trips.now.changes.now)) c.args.trips.now.stops_counted in
     λ r inside. subst (λ n. AreLinksInto n r (slice_index_or c.in_ok-links.links r [])) (sym places)
