@@ -4,6 +4,9 @@ ghost use Rattle.connections.specs.Origins.{origin_of_day, moment_of};
 
 use plan_model::SECONDS_PER_DAY;
 
+/// The seconds of a day.
+const DAY: i64 = SECONDS_PER_DAY as i64;
+
 /// A service day.
 #[derive(Clone, Copy)]
 pub(crate) struct ServiceDay {
@@ -32,8 +35,6 @@ impl Origin {
     pub(crate) fn plus(self, seconds: u32) -> i64
         ensures { result ≡ moment_of self seconds }
     {
-        i64::from(SECONDS_PER_DAY) * i64::from(self.day.number)
-            + i64::from(self.shift)
-            + i64::from(seconds)
+        DAY * i64::from(self.day.number) + i64::from(self.shift) + i64::from(seconds)
     }
 }
