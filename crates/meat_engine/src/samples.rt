@@ -72,12 +72,12 @@ fn sample_in(
     };
     let found = planned_of(alloc, &mut order, &asked)?;
     let connections = problem.timetable.network.count();
-    let text = sample_text(alloc, size.value, connections, &found.graph, found.bounds)?;
+    let text = sample_text(alloc, size.value, connections, &found.graph, found.value)?;
     let report = Report {
         query: Some(query),
         worst: Some(worst),
         graph: Some(found.graph),
-        bounds: Some(found.bounds),
+        bounds: Some(found.value),
         connections: Some(connections),
         ..Report::empty()
     };
