@@ -1,16 +1,16 @@
 //! Runs of the top call over files in memory, for the crates of tests: their words and files, what they print, and
-//! whether that is what is expected. The files of a small folder, Old Town, are in `old_town`, and scenes over them
+//! whether that is what is expected. The files of a small folder, Old Town, are in `folder`, and scenes over them
 //! in `scenes`.
 #![tactic(auto)]
 
-mod old_town;
+mod folder;
 mod scenes;
 
 ghost use Rattle.std.specs.Prelude.{◌<◌};
 
+pub use folder::{FOLDER_PLAN, FOLDER_PLAN_WORDS, old_town, source_of};
 use meat_engine::{Fault, run};
 use memory_ports::{MemoryFiles, MemorySink};
-pub use old_town::{FOLDER_PLAN, FOLDER_PLAN_WORDS, old_town};
 use plan_model::List;
 pub use scenes::{
     CALENDAR, CALENDAR_DATES, CHECK, CUT, DELAYS, FREQUENCIES, GRAPH, PLAN, PROOF, REPLAY, ROUTES,

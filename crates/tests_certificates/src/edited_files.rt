@@ -45,7 +45,7 @@ fn output_edited(
 }
 
 /// Stops where an edited field is not refused with this status, and with a line that begins like this.
-fn is_looked_at(rt: &impl Abort, reported: &Output, status: u8, front: &str, place: usize) {
+fn is_looked_at(rt: &impl Abort, output: &Output, status: u8, front: &str, place: usize) {
     let refused = output.status == status && output.out.is_empty();
     let so = refused && output.err.as_str().starts_with(front);
     let (status, line) = (output.status, output.err.as_str());

@@ -3,8 +3,8 @@ use std::alloc::Global;
 use std::process::Abort;
 use std::test::Fail;
 use test_runs::{
-    FOLDER_PLAN, FOLDER_PLAN_WORDS, Output, Source, USUAL_DELAYS, answers, files_of, is_output,
-    old_town, output_over, refuses,
+    CALENDAR, FOLDER_PLAN, FOLDER_PLAN_WORDS, Output, ROUTES, STOP_TIMES, STOPS, Source, TRIPS,
+    USUAL_DELAYS, answers, files_of, is_output, old_town, output_over, refuses, source_of,
 };
 
 const SAFE: &str = "safe --feed f --delays d --from MIL --to AIR --at 2024-06-03T08:00:00";
@@ -83,7 +83,7 @@ fn night_bus<'a>(delays: &'a str) -> [Source<'a>; 6] {
         NIGHT_ROUTES,
         NIGHT_TRIPS,
         NIGHT_TIMES,
-        CALENDAR,
+        source_of(CALENDAR),
         ("d", delays),
     ]
 }
@@ -131,11 +131,11 @@ fn reports_the_line_of_an_unknown_trip(rt: HostRuntime) -> Result<(), Fail> {
         &rt,
         rt.alloc(),
         [
-            STOPS,
-            ROUTES,
-            TRIPS,
+            source_of(STOPS),
+            source_of(ROUTES),
+            source_of(TRIPS),
             ("f/stop_times.txt", times),
-            CALENDAR,
+            source_of(CALENDAR),
             ("d", USUAL_DELAYS),
         ]
         .as_slice(),
@@ -167,22 +167,24 @@ fn reports_a_table_that_cannot_be_read(rt: HostRuntime) -> Result<(), Fail> {
 }
 
 /// The feed of Old Town with the graph of its plan.
-const WITH_PLAN: [Source<'static>; 7] = [
-    STOPS,
-    ROUTES,
-    TRIPS,
-    STOP_TIMES,
-    CALENDAR,
-    ("d", USUAL_DELAYS),
-    ("g", FOLDER_PLAN),
-];
+fn with_plan() -> [Source<'static>; 7] {
+    [
+        source_of(STOPS),
+        source_of(ROUTES),
+        source_of(TRIPS),
+        source_of(STOP_TIMES),
+        source_of(CALENDAR),
+        ("d", USUAL_DELAYS),
+        ("g", FOLDER_PLAN),
+    ]
+}
 
 #[test]
 fn replays_a_missed_connection(rt: HostRuntime) -> Result<(), Fail> {
     answers(
         &rt,
         rt.alloc(),
-        WITH_PLAN.as_slice(),
+        with_plan().as_slice(),
         "replay --feed f --delays d --from MIL --to AIR --at 2024-06-03T08:00:00 --graph g --late 300,900",
         "ride,20240603:t100,MIL,2024-06-03T08:00:00,\"S,1\",2024-06-03T08:20:00,300,2024-06-03T08:25:00\nride,20240603:b201,\"S,1\",2024-06-03T08:40:00,AIR,2024-06-03T09:06:00,900,2024-06-03T09:21:00\narrived,AIR,2024-06-03T09:21:00\n",
     )
@@ -204,7 +206,7 @@ fn refuses_delays_that_do_not_fit(rt: HostRuntime) -> Result<(), Fail> {
             "meat: too many delays: 2 ridden\n",
         ),
     ] {
-        refuses(&rt, rt.alloc(), WITH_PLAN.as_slice(), line, 11, err)?;
+        refuses(&rt, rt.alloc(), with_plan().as_slice(), line, 11, err)?;
     }
     Ok(())
 }

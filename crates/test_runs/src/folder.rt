@@ -8,8 +8,8 @@ pub const FOLDER_PLAN_WORDS: &str = PLAN_WORDS;
 /// What that plan prints.
 pub const FOLDER_PLAN: &str = PLAN_TEXT;
 
-/// The path and the text of a file.
-fn source_of(file: SceneFile) -> Source<'static> {
+/// The path and the text of a file of a scene.
+pub fn source_of(file: SceneFile) -> Source<'static> {
     (file.path, file.text)
 }
 
