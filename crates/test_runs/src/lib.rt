@@ -17,7 +17,6 @@ pub use scenes::{
     SAFE, SMALL_PLAN, STOP_TIMES, STOPS, Scene, SceneFile, TRANSFERS, TRIPS,
 };
 use std::alloc::Global;
-use std::process::Abort;
 use std::test::Fail;
 
 /// A file: its path and its text.
@@ -141,48 +140,43 @@ pub fn output_of(alloc: Global, sources: &[Source], line: &str) -> Result<Output
 }
 
 /// Fails unless a run had this status, answer and line.
-pub fn is_output(rt: &impl Abort, case: &str, output: &Output, status: u8, out: &str, err: &str) {
+pub fn is_output(
+    alloc: Global,
+    case: &str,
+    output: &Output,
+    status: u8,
+    out: &str,
+    err: &str,
+) -> Result<(), Fail> {
     let Output {
         status: found,
         out: answer,
         err: line,
         ..
     } = output;
-    let so = *found == status && answer.as_str() == out && line.as_str() == err;
-    assert!(rt; so, "{case}: {found} {answer} {line}");
+    if *found == status && answer.as_str() == out && line.as_str() == err {
+        return Ok(());
+    }
+    Err(format!(in alloc; "{case}: {found} {answer} {line}")?.into())
 }
 
 /// Fails unless a line of words over these files gives this answer.
-pub fn answers(
-    rt: &impl Abort,
-    alloc: Global,
-    sources: &[Source],
-    line: &str,
-    out: &str,
-) -> Result<(), Fail> {
+pub fn answers(alloc: Global, sources: &[Source], line: &str, out: &str) -> Result<(), Fail> {
     let output = output_of(alloc, sources, line)?;
-    is_output(rt, line, &output, 0, out, "");
-    Ok(())
+    is_output(alloc, line, &output, 0, out, "")
 }
 
 /// Fails unless a line of words over these files gives an answer that begins like this.
-pub fn begins(
-    rt: &impl Abort,
-    alloc: Global,
-    sources: &[Source],
-    line: &str,
-    front: &str,
-) -> Result<(), Fail> {
+pub fn begins(alloc: Global, sources: &[Source], line: &str, front: &str) -> Result<(), Fail> {
     let output = output_of(alloc, sources, line)?;
-    assert_eq!(rt; output.status, 0, "{line}");
-    assert!(rt; output.out.as_str().starts_with(front), "{line}");
-    assert!(rt; output.err.is_empty(), "{line}");
-    Ok(())
+    if output.out.as_str().starts_with(front) {
+        return is_output(alloc, line, &output, 0, output.out.as_str(), "");
+    }
+    Err(format!(in alloc; "{line}: {}", output.out)?.into())
 }
 
 /// Fails unless a line of words over these files is refused with this status and line.
 pub fn refuses(
-    rt: &impl Abort,
     alloc: Global,
     sources: &[Source],
     line: &str,
@@ -190,6 +184,5 @@ pub fn refuses(
     err: &str,
 ) -> Result<(), Fail> {
     let output = output_of(alloc, sources, line)?;
-    is_output(rt, line, &output, status, "", err);
-    Ok(())
+    is_output(alloc, line, &output, status, "", err)
 }

@@ -1,6 +1,5 @@
 //! Certificates by hand, and certificates that fail or do not read, through the top call.
 use std::alloc::Global;
-use std::process::Abort;
 use std::test::Fail;
 use test_runs::{CHANGE, CHANGE_PLAN, answers, is_output, output_of, refuses};
 
@@ -27,7 +26,7 @@ fn certificate(alloc: Global, third: &str) -> Result<String, Fail> {
 #[test]
 fn certifies_a_journey(rt: HostRuntime) -> Result<(), Fail> {
     let wanted = certificate(rt.alloc(), "09:07:30.000000000")?;
-    answers(&rt, rt.alloc(), CHANGE.as_slice(), CERTIFY, wanted.as_str())
+    answers(rt.alloc(), CHANGE.as_slice(), CERTIFY, wanted.as_str())
 }
 
 #[test]
@@ -35,7 +34,6 @@ fn certifies_that_one_is_there(rt: HostRuntime) -> Result<(), Fail> {
     let made = output_of(rt.alloc(), CHANGE.as_slice(), CERTIFY_THERE)?;
     assert_eq!(rt; made.status, 0);
     checks(
-        &rt,
         rt.alloc(),
         made.out.as_str(),
         CHECK_THERE,
@@ -47,7 +45,6 @@ fn certifies_that_one_is_there(rt: HostRuntime) -> Result<(), Fail> {
 
 /// Fails unless a check of this certificate has this status, answer and line.
 fn checks(
-    rt: &impl Abort,
     alloc: Global,
     proof: &str,
     line: &str,
@@ -58,21 +55,14 @@ fn checks(
     let [cut, delays] = CHANGE;
     let sources = [cut, delays, ("p", proof)];
     let output = output_of(alloc, sources.as_slice(), line)?;
-    is_output(rt, proof, &output, status, out, err);
+    is_output(alloc, proof, &output, status, out, err)?;
     Ok(())
 }
 
 /// Fails unless a check of the certificate with this value of r3 has this status, answer and line.
-fn checks_third(
-    rt: &impl Abort,
-    alloc: Global,
-    third: &str,
-    status: u8,
-    out: &str,
-    err: &str,
-) -> Result<(), Fail> {
+fn checks_third(alloc: Global, third: &str, status: u8, out: &str, err: &str) -> Result<(), Fail> {
     let proof = certificate(alloc, third)?;
-    checks(rt, alloc, proof.as_str(), CHECK, status, out, err)
+    checks(alloc, proof.as_str(), CHECK, status, out, err)
 }
 
 #[test]
@@ -93,7 +83,7 @@ fn checks_certificates(rt: HostRuntime) -> Result<(), Fail> {
             "meat: proof fails at r1 step 1\n",
         ),
     ] {
-        checks_third(&rt, rt.alloc(), third, status, out, err)?;
+        checks_third(rt.alloc(), third, status, out, err)?;
     }
     Ok(())
 }
@@ -127,7 +117,7 @@ fn refuses_proof_files(rt: HostRuntime) -> Result<(), Fail> {
             "meat: proof file line 2: does not agree\n",
         ),
     ] {
-        checks(&rt, rt.alloc(), proof, CHECK, status, "", err)?;
+        checks(rt.alloc(), proof, CHECK, status, "", err)?;
     }
     Ok(())
 }
@@ -135,7 +125,6 @@ fn refuses_proof_files(rt: HostRuntime) -> Result<(), Fail> {
 #[test]
 fn reports_that_a_proof_file_is_missing(rt: HostRuntime) -> Result<(), Fail> {
     refuses(
-        &rt,
         rt.alloc(),
         CHANGE.as_slice(),
         CHECK,
@@ -148,7 +137,6 @@ fn reports_that_a_proof_file_is_missing(rt: HostRuntime) -> Result<(), Fail> {
 fn refuses_a_proof_file_of_another_query(rt: HostRuntime) -> Result<(), Fail> {
     let whole = certificate(rt.alloc(), "09:07:30.000000000")?;
     checks(
-        &rt,
         rt.alloc(),
         whole.as_str(),
         CHECK_TO_B,
@@ -162,18 +150,11 @@ const CHECK_GRAPH: &str =
     "check --cut c --delays d --from A --to T --at 2024-06-03T08:00:00 --graph g";
 
 /// Fails unless a check of this graph has this status, answer and line.
-fn checks_graph(
-    rt: &impl Abort,
-    alloc: Global,
-    graph: &str,
-    status: u8,
-    out: &str,
-    err: &str,
-) -> Result<(), Fail> {
+fn checks_graph(alloc: Global, graph: &str, status: u8, out: &str, err: &str) -> Result<(), Fail> {
     let [cut, delays] = CHANGE;
     let sources = [cut, delays, ("g", graph)];
     let output = output_of(alloc, sources.as_slice(), CHECK_GRAPH)?;
-    is_output(rt, graph, &output, status, out, err);
+    is_output(alloc, graph, &output, status, out, err)?;
     Ok(())
 }
 
@@ -184,7 +165,6 @@ const UNSAFE_GRAPH: &str =
 #[test]
 fn reports_the_bounds_of_a_graph(rt: HostRuntime) -> Result<(), Fail> {
     checks_graph(
-        &rt,
         rt.alloc(),
         CHANGE_PLAN,
         0,
@@ -196,7 +176,6 @@ fn reports_the_bounds_of_a_graph(rt: HostRuntime) -> Result<(), Fail> {
 #[test]
 fn reports_where_a_graph_is_not_safe(rt: HostRuntime) -> Result<(), Fail> {
     checks_graph(
-        &rt,
         rt.alloc(),
         UNSAFE_GRAPH,
         15,

@@ -69,7 +69,6 @@ const THERE: &str =
 #[test]
 fn is_late_as_often_as_the_change_is(rt: HostRuntime) -> Result<(), Fail> {
     answers(
-        &rt,
         rt.alloc(),
         CHANGE.as_slice(),
         BY_NINE,
@@ -80,7 +79,6 @@ fn is_late_as_often_as_the_change_is(rt: HostRuntime) -> Result<(), Fail> {
 #[test]
 fn takes_what_is_surely_there_by_then(rt: HostRuntime) -> Result<(), Fail> {
     answers(
-        &rt,
         rt.alloc(),
         SURE.as_slice(),
         SURE_BY_NINE,
@@ -91,7 +89,6 @@ fn takes_what_is_surely_there_by_then(rt: HostRuntime) -> Result<(), Fail> {
 #[test]
 fn takes_the_change_where_that_is_late(rt: HostRuntime) -> Result<(), Fail> {
     begins(
-        &rt,
         rt.alloc(),
         SURE.as_slice(),
         SURE_BEFORE_NINE,
@@ -102,7 +99,6 @@ fn takes_the_change_where_that_is_late(rt: HostRuntime) -> Result<(), Fail> {
 #[test]
 fn promises_nothing_before_the_start(rt: HostRuntime) -> Result<(), Fail> {
     refuses(
-        &rt,
         rt.alloc(),
         SURE.as_slice(),
         BEFORE_THE_START,
@@ -114,7 +110,6 @@ fn promises_nothing_before_the_start(rt: HostRuntime) -> Result<(), Fail> {
 #[test]
 fn is_never_late_where_it_is_already(rt: HostRuntime) -> Result<(), Fail> {
     answers(
-        &rt,
         rt.alloc(),
         SURE.as_slice(),
         AT_ONCE,
@@ -125,14 +120,12 @@ fn is_never_late_where_it_is_already(rt: HostRuntime) -> Result<(), Fail> {
 #[test]
 fn reports_each_departure(rt: HostRuntime) -> Result<(), Fail> {
     answers(
-        &rt,
         rt.alloc(),
         CHANGE.as_slice(),
         BOTH,
         "departures,1,B,T,2024-06-03T08:00:00,2024-06-03T08:40:00,2024-06-03T10:42:00,2\nrow,2024-06-03T08:24:00,r2,1,2024-06-03T08:51:30.000000000,2024-06-03T08:51:30.000000000\nrow,2024-06-03T08:40:00,r3,1,2024-06-03T09:07:30.000000000,2024-06-03T09:07:30.000000000\n",
     )?;
     answers(
-        &rt,
         rt.alloc(),
         CHANGE.as_slice(),
         UP_TO_THE_FIRST,
@@ -143,7 +136,6 @@ fn reports_each_departure(rt: HostRuntime) -> Result<(), Fail> {
 #[test]
 fn reports_the_departure_after_the_last_moment(rt: HostRuntime) -> Result<(), Fail> {
     answers(
-        &rt,
         rt.alloc(),
         CHANGE.as_slice(),
         PAST_THE_LAST,
@@ -154,7 +146,6 @@ fn reports_the_departure_after_the_last_moment(rt: HostRuntime) -> Result<(), Fa
 #[test]
 fn reports_no_departure_that_is_not_safe(rt: HostRuntime) -> Result<(), Fail> {
     refuses(
-        &rt,
         rt.alloc(),
         CHANGE.as_slice(),
         TOO_LATE,
@@ -166,14 +157,12 @@ fn reports_no_departure_that_is_not_safe(rt: HostRuntime) -> Result<(), Fail> {
 #[test]
 fn reports_how_late_one_can_leave(rt: HostRuntime) -> Result<(), Fail> {
     answers(
-        &rt,
         rt.alloc(),
         CHANGE.as_slice(),
         SECOND,
         "latest,B,T,2024-06-03T08:00:00,2024-06-03T10:42:00,2024-06-03T08:40:00\n",
     )?;
     answers(
-        &rt,
         rt.alloc(),
         CHANGE.as_slice(),
         FIRST,
@@ -184,7 +173,6 @@ fn reports_how_late_one_can_leave(rt: HostRuntime) -> Result<(), Fail> {
 #[test]
 fn reports_that_one_can_leave_no_more(rt: HostRuntime) -> Result<(), Fail> {
     refuses(
-        &rt,
         rt.alloc(),
         CHANGE.as_slice(),
         NONE,
@@ -192,7 +180,6 @@ fn reports_that_one_can_leave_no_more(rt: HostRuntime) -> Result<(), Fail> {
         "meat: no safe strategy\n",
     )?;
     answers(
-        &rt,
         rt.alloc(),
         CHANGE.as_slice(),
         THERE,

@@ -1,6 +1,5 @@
 //! Journeys with delays by the hour and by the route, through the top call.
 use std::alloc::Global;
-use std::process::Abort;
 use std::test::Fail;
 use test_runs::{answers, begins, refuses};
 
@@ -20,16 +19,15 @@ const SAFE: &str = "safe --cut c --delays d --from A --to T --at 2024-06-03T08:0
 const PLAN: &str = "plan --cut c --delays d --from A --to T --at 2024-06-03T08:00:00";
 
 /// Fails unless a ride that is sure at nine arrives by this moment, and on average at that one.
-fn is_there(rt: &impl Abort, alloc: Global, cut: &str, safe: &str, plan: &str) -> Result<(), Fail> {
+fn is_there(alloc: Global, cut: &str, safe: &str, plan: &str) -> Result<(), Fail> {
     let sources = [("c", cut), ("d", SURE_AT_NINE)];
-    answers(rt, alloc, sources.as_slice(), SAFE, safe)?;
-    begins(rt, alloc, sources.as_slice(), PLAN, plan)
+    answers(alloc, sources.as_slice(), SAFE, safe)?;
+    begins(alloc, sources.as_slice(), PLAN, plan)
 }
 
 #[test]
 fn is_sure_in_the_hour_of_its_arrival(rt: HostRuntime) -> Result<(), Fail> {
     is_there(
-        &rt,
         rt.alloc(),
         AT_NINE,
         "safe,A,T,2024-06-03T08:00:00,2024-06-03T09:00:00,2024-06-03T10:00:00\n",
@@ -40,7 +38,6 @@ fn is_sure_in_the_hour_of_its_arrival(rt: HostRuntime) -> Result<(), Fail> {
 #[test]
 fn is_late_a_second_before_that_hour(rt: HostRuntime) -> Result<(), Fail> {
     is_there(
-        &rt,
         rt.alloc(),
         BEFORE_NINE,
         "safe,A,T,2024-06-03T08:00:00,2024-06-03T09:14:59,2024-06-03T10:29:58\n",
@@ -53,7 +50,6 @@ fn is_of_no_route_in_a_cut_file(rt: HostRuntime) -> Result<(), Fail> {
     let by_route =
         "class,delay,weight,route_id\n*,0,8000,\n*,300,1500,\n*,900,500,\n*,0,10000,r1\n";
     answers(
-        &rt,
         rt.alloc(),
         [("c", AT_NINE), ("d", by_route)].as_slice(),
         SAFE,
@@ -74,7 +70,7 @@ fn reports_the_line_of_a_group(rt: HostRuntime) -> Result<(), Fail> {
         ),
     ] {
         let sources = [("c", AT_NINE), ("d", delays)];
-        refuses(&rt, rt.alloc(), sources.as_slice(), SAFE, 4, line)?;
+        refuses(rt.alloc(), sources.as_slice(), SAFE, 4, line)?;
     }
     Ok(())
 }
@@ -120,7 +116,7 @@ fn refuses_more_rows_and_groups_than_there_may_be(rt: HostRuntime) -> Result<(),
     ] {
         let delays = with_rows(rt.alloc(), head, start, end, count)?;
         let sources = [("c", AT_NINE), ("d", delays.as_str())];
-        refuses(&rt, rt.alloc(), sources.as_slice(), SAFE, 4, line)?;
+        refuses(rt.alloc(), sources.as_slice(), SAFE, 4, line)?;
     }
     Ok(())
 }

@@ -1,6 +1,5 @@
 //! Journeys over feeds, trips by their graphs, and made timetables, through the top call.
 use std::alloc::Global;
-use std::process::Abort;
 use std::test::Fail;
 use test_runs::{
     CALENDAR, FOLDER_PLAN, FOLDER_PLAN_WORDS, Output, ROUTES, STOP_TIMES, STOPS, Source, TRIPS,
@@ -12,7 +11,6 @@ const SAFE: &str = "safe --feed f --delays d --from MIL --to AIR --at 2024-06-03
 #[test]
 fn plans_over_a_small_folder(rt: HostRuntime) -> Result<(), Fail> {
     answers(
-        &rt,
         rt.alloc(),
         old_town(USUAL_DELAYS).as_slice(),
         FOLDER_PLAN_WORDS,
@@ -31,14 +29,12 @@ const SURE_TRAM_PLAN: &str =
 fn plans_with_the_delays_of_a_route(rt: HostRuntime) -> Result<(), Fail> {
     let files = old_town(SURE_TRAM);
     answers(
-        &rt,
         rt.alloc(),
         files.as_slice(),
         SAFE,
         "safe,MIL,AIR,2024-06-03T08:00:00,2024-06-03T09:05:00,2024-06-03T10:10:00\n",
     )?;
     answers(
-        &rt,
         rt.alloc(),
         files.as_slice(),
         FOLDER_PLAN_WORDS,
@@ -54,13 +50,7 @@ fn plans_as_before_with_groups_that_no_trip_has(rt: HostRuntime) -> Result<(), F
         "class,delay,weight,hour\n*,0,8000,\n*,300,1500,\n*,900,500,\n*,0,10000,10\n",
     ] {
         let files = old_town(delays);
-        answers(
-            &rt,
-            rt.alloc(),
-            files.as_slice(),
-            FOLDER_PLAN_WORDS,
-            FOLDER_PLAN,
-        )?;
+        answers(rt.alloc(), files.as_slice(), FOLDER_PLAN_WORDS, FOLDER_PLAN)?;
     }
     Ok(())
 }
@@ -101,7 +91,6 @@ fn is_sure_in_the_first_hour_of_the_next_day(rt: HostRuntime) -> Result<(), Fail
         ),
     ] {
         answers(
-            &rt,
             rt.alloc(),
             night_bus(delays).as_slice(),
             "safe --feed f --delays d --from MIL --to AIR --at 2024-06-04T00:40:00",
@@ -114,7 +103,6 @@ fn is_sure_in_the_first_hour_of_the_next_day(rt: HostRuntime) -> Result<(), Fail
 #[test]
 fn refuses_stops_that_a_feed_lacks(rt: HostRuntime) -> Result<(), Fail> {
     refuses(
-        &rt,
         rt.alloc(),
         old_town(USUAL_DELAYS).as_slice(),
         "safe --feed f --delays d --from MIL --to XXX --at 2024-06-03T08:00:00",
@@ -128,7 +116,6 @@ fn reports_the_line_of_an_unknown_trip(rt: HostRuntime) -> Result<(), Fail> {
     let times =
         "trip_id,arrival_time,departure_time,stop_id,stop_sequence\nt100,8:00:00,8:00:00,MIL,1\nt999,8:20:00,8:20:00,AIR,2\n";
     refuses(
-        &rt,
         rt.alloc(),
         [
             source_of(STOPS),
@@ -156,13 +143,13 @@ fn output_without_times(alloc: Global) -> Result<Output, Fail> {
 fn reports_a_table_that_cannot_be_read(rt: HostRuntime) -> Result<(), Fail> {
     let output = output_without_times(rt.alloc())?;
     is_output(
-        &rt,
+        rt.alloc(),
         SAFE,
         &output,
         7,
         "",
         "meat: cannot read stop_times.txt\n",
-    );
+    )?;
     Ok(())
 }
 
@@ -182,7 +169,6 @@ fn with_plan() -> [Source<'static>; 7] {
 #[test]
 fn replays_a_missed_connection(rt: HostRuntime) -> Result<(), Fail> {
     answers(
-        &rt,
         rt.alloc(),
         with_plan().as_slice(),
         "replay --feed f --delays d --from MIL --to AIR --at 2024-06-03T08:00:00 --graph g --late 300,900",
@@ -206,7 +192,7 @@ fn refuses_delays_that_do_not_fit(rt: HostRuntime) -> Result<(), Fail> {
             "meat: too many delays: 2 ridden\n",
         ),
     ] {
-        refuses(&rt, rt.alloc(), with_plan().as_slice(), line, 11, err)?;
+        refuses(rt.alloc(), with_plan().as_slice(), line, 11, err)?;
     }
     Ok(())
 }
@@ -214,7 +200,6 @@ fn refuses_delays_that_do_not_fit(rt: HostRuntime) -> Result<(), Fail> {
 #[test]
 fn samples_a_made_timetable(rt: HostRuntime) -> Result<(), Fail> {
     answers(
-        &rt,
         rt.alloc(),
         [].as_slice(),
         "sample --size 10",

@@ -1,6 +1,5 @@
 //! Journeys with every number of their answers worked by hand, and refusals of words and files, through the top call.
 use std::alloc::Global;
-use std::process::Abort;
 use std::test::Fail;
 use test_runs::{USUAL_DELAYS, answers, begins, refuses};
 
@@ -34,11 +33,11 @@ fn line_of(alloc: Global, command: &str, journey: &Journey) -> Result<String, Fa
 }
 
 /// Stops where the least worst arrival of a journey or its deadline is another.
-fn has_worst(rt: &impl Abort, alloc: Global, journey: &Journey) -> Result<(), Fail> {
+fn has_worst(alloc: Global, journey: &Journey) -> Result<(), Fail> {
     let line = line_of(alloc, "safe", journey)?;
     let out = worst_text(alloc, journey)?;
     let files = [("c", journey.cut), ("d", journey.delays)];
-    answers(rt, alloc, files.as_slice(), line.as_str(), out.as_str())
+    answers(alloc, files.as_slice(), line.as_str(), out.as_str())
 }
 
 /// What `safe` prints of a journey.
@@ -74,24 +73,18 @@ fn graph_front(alloc: Global, kind: &str, journey: &Journey) -> Result<String, F
 }
 
 /// Stops where the bounds or the start of a journey's graph are others.
-fn has_graph(
-    rt: &impl Abort,
-    alloc: Global,
-    journey: &Journey,
-    command: &str,
-    kind: &str,
-) -> Result<(), Fail> {
+fn has_graph(alloc: Global, journey: &Journey, command: &str, kind: &str) -> Result<(), Fail> {
     let line = line_of(alloc, command, journey)?;
     let front = graph_front(alloc, kind, journey)?;
     let files = [("c", journey.cut), ("d", journey.delays)];
-    begins(rt, alloc, files.as_slice(), line.as_str(), front.as_str())
+    begins(alloc, files.as_slice(), line.as_str(), front.as_str())
 }
 
 /// Fails unless the commands print these numbers of a journey.
-fn agrees(rt: &impl Abort, alloc: Global, journey: &Journey) -> Result<(), Fail> {
-    has_worst(rt, alloc, journey)?;
-    has_graph(rt, alloc, journey, "expand", "expanded")?;
-    has_graph(rt, alloc, journey, "plan", "graph")
+fn agrees(alloc: Global, journey: &Journey) -> Result<(), Fail> {
+    has_worst(alloc, journey)?;
+    has_graph(alloc, journey, "expand", "expanded")?;
+    has_graph(alloc, journey, "plan", "graph")
 }
 
 fn two_buses<'a>(cut: &'a str) -> Journey<'a> {
@@ -136,9 +129,8 @@ fn changes_that_are_just_caught_or_missed(rt: HostRuntime) -> Result<(), Fail> {
         "run,step,from,to,dep,arr\nr1,1,A,B,2024-06-03T08:00:00,2024-06-03T08:20:00\nr2,1,B,T,2024-06-03T08:22:00,2024-06-03T08:50:00\nr3,1,B,T,2024-06-03T08:40:00,2024-06-03T09:06:00\n";
     let missed =
         "run,step,from,to,dep,arr\nr1,1,A,B,2024-06-03T08:00:00,2024-06-03T08:20:00\nr2,1,B,T,2024-06-03T08:21:59,2024-06-03T08:50:00\nr3,1,B,T,2024-06-03T08:40:00,2024-06-03T09:06:00\n";
-    agrees(&rt, rt.alloc(), &two_buses(caught))?;
+    agrees(rt.alloc(), &two_buses(caught))?;
     agrees(
-        &rt,
         rt.alloc(),
         &Journey {
             lower: "09:07:30.000000000",
@@ -150,14 +142,13 @@ fn changes_that_are_just_caught_or_missed(rt: HostRuntime) -> Result<(), Fail> {
 
 #[test]
 fn deadlines_to_the_second(rt: HostRuntime) -> Result<(), Fail> {
-    agrees(&rt, rt.alloc(), &beside_direct("100", "09:00:00"))?;
-    agrees(&rt, rt.alloc(), &beside_direct("134", "09:20:24"))
+    agrees(rt.alloc(), &beside_direct("100", "09:00:00"))?;
+    agrees(rt.alloc(), &beside_direct("134", "09:20:24"))
 }
 
 #[test]
 fn a_deadline_that_the_buses_just_meet(rt: HostRuntime) -> Result<(), Fail> {
     agrees(
-        &rt,
         rt.alloc(),
         &Journey {
             delays: DIRECT_IS_SURE,
@@ -176,7 +167,6 @@ const LATE_BUS: &str =
 #[test]
 fn a_deadline_that_a_bus_misses_by_a_second(rt: HostRuntime) -> Result<(), Fail> {
     agrees(
-        &rt,
         rt.alloc(),
         &Journey {
             cut: LATE_BUS,
@@ -192,7 +182,6 @@ const LONGER_DIRECT: &str =
 #[test]
 fn a_deadline_by_a_second_more(rt: HostRuntime) -> Result<(), Fail> {
     agrees(
-        &rt,
         rt.alloc(),
         &Journey {
             cut: LONGER_DIRECT,
@@ -211,7 +200,6 @@ fn bounds_are_rounded_outward(rt: HostRuntime) -> Result<(), Fail> {
         "run,step,from,to,dep,arr,class,change\na,1,S,P,2024-06-03T08:00:00,2024-06-03T08:30:00,1,60\nb,1,P,R,2024-06-03T08:31:00,2024-06-03T09:00:00,1,60\nc,1,P,R,2024-06-03T08:40:00,2024-06-03T09:20:00,1,60\nd,1,R,T,2024-06-03T09:01:00,2024-06-03T10:00:00,*,60\ne,1,R,T,2024-06-03T09:10:00,2024-06-03T10:10:00,2,60\nf,1,R,T,2024-06-03T09:30:00,2024-06-03T10:10:07,*,60\n";
     let delays = "class,delay,weight\n*,0,10000\n1,0,9999\n1,60,1\n2,0,9999\n2,1,1\n";
     agrees(
-        &rt,
         rt.alloc(),
         &Journey {
             cut,
@@ -235,7 +223,6 @@ const SEATED: &str =
 #[test]
 fn staying_seated(rt: HostRuntime) -> Result<(), Fail> {
     agrees(
-        &rt,
         rt.alloc(),
         &Journey {
             worst: "09:30:00",
@@ -255,7 +242,6 @@ const AT_ONCE: &str =
 #[test]
 fn staying_seated_for_no_time(rt: HostRuntime) -> Result<(), Fail> {
     agrees(
-        &rt,
         rt.alloc(),
         &Journey {
             from: "B",
@@ -277,7 +263,6 @@ const FORBIDDEN: &str =
 #[test]
 fn what_may_not_be_boarded_or_left(rt: HostRuntime) -> Result<(), Fail> {
     agrees(
-        &rt,
         rt.alloc(),
         &Journey {
             worst: "09:15:00",
@@ -316,7 +301,7 @@ fn cut_files_are_refused_by_line(rt: HostRuntime) -> Result<(), Fail> {
         ),
     ] {
         let files = [("c", cut), ("d", USUAL_DELAYS)];
-        refuses(&rt, rt.alloc(), files.as_slice(), PLAN, 3, line)?;
+        refuses(rt.alloc(), files.as_slice(), PLAN, 3, line)?;
     }
     Ok(())
 }
@@ -347,7 +332,7 @@ fn delay_files_are_refused_by_line_or_class(rt: HostRuntime) -> Result<(), Fail>
         ("", "meat: delay file has no column class\n"),
     ] {
         let files = [("c", DIRECT), ("d", delays)];
-        refuses(&rt, rt.alloc(), files.as_slice(), PLAN, 4, line)?;
+        refuses(rt.alloc(), files.as_slice(), PLAN, 4, line)?;
     }
     Ok(())
 }
@@ -372,7 +357,7 @@ fn words_are_refused_by_their_first_reason(rt: HostRuntime) -> Result<(), Fail> 
         ("sample", "meat: missing option --size\n"),
         ("sample --size 401", "meat: bad value of --size\n"),
     ] {
-        refuses(&rt, rt.alloc(), [].as_slice(), words, 2, line)?;
+        refuses(rt.alloc(), [].as_slice(), words, 2, line)?;
     }
     Ok(())
 }

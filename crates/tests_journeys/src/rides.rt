@@ -47,7 +47,7 @@ fn reports_the_least_worst_arrival(rt: HostRuntime) -> Result<(), Fail> {
             "safe,A,A,2024-06-03T08:00:00,2024-06-03T08:00:00,2024-06-03T08:00:00\n",
         ),
     ] {
-        answers(&rt, rt.alloc(), files, line, out)?;
+        answers(rt.alloc(), files, line, out)?;
     }
     Ok(())
 }
@@ -75,7 +75,7 @@ fn reports_that_there_is_none(rt: HostRuntime) -> Result<(), Fail> {
             "meat: unknown stop of --to\n",
         ),
     ] {
-        refuses(&rt, rt.alloc(), files, line, status, err)?;
+        refuses(rt.alloc(), files, line, status, err)?;
     }
     Ok(())
 }
@@ -93,7 +93,7 @@ fn prints_decision_graphs(rt: HostRuntime) -> Result<(), Fail> {
             "expanded,1,A,A,2024-06-03T08:00:00,2024-06-03T08:00:00,2024-06-03T08:00:00.000000000,2024-06-03T08:00:00.000000000\n",
         ),
     ] {
-        answers(&rt, rt.alloc(), CHANGE.as_slice(), line, out)?;
+        answers(rt.alloc(), CHANGE.as_slice(), line, out)?;
     }
     Ok(())
 }
@@ -101,7 +101,6 @@ fn prints_decision_graphs(rt: HostRuntime) -> Result<(), Fail> {
 #[test]
 fn reports_that_the_delay_file_is_missing(rt: HostRuntime) -> Result<(), Fail> {
     refuses(
-        &rt,
         rt.alloc(),
         [DIRECT].as_slice(),
         PLAN,
@@ -120,13 +119,13 @@ fn output_unwritten(alloc: Global) -> Result<Output, Fail> {
 fn reports_that_it_cannot_write(rt: HostRuntime) -> Result<(), Fail> {
     let output = output_unwritten(rt.alloc())?;
     is_output(
-        &rt,
+        rt.alloc(),
         PLAN,
         &output,
         8,
         "graph,1,A,T,2024-06-03T08:00:00,2024-06-03T10:30:00,2024-06-03T0",
         "meat: cannot write\n",
-    );
+    )?;
     Ok(())
 }
 
@@ -140,6 +139,13 @@ fn output_unread(alloc: Global) -> Result<Output, Fail> {
 #[test]
 fn reports_that_it_cannot_read(rt: HostRuntime) -> Result<(), Fail> {
     let output = output_unread(rt.alloc())?;
-    is_output(&rt, PLAN, &output, 7, "", "meat: cannot read cut file\n");
+    is_output(
+        rt.alloc(),
+        PLAN,
+        &output,
+        7,
+        "",
+        "meat: cannot read cut file\n",
+    )?;
     Ok(())
 }

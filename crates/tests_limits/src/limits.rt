@@ -69,7 +69,7 @@ pub(crate) fn answers_within(
 ) -> Result<(), Fail> {
     let output = output_within(alloc, sources, line, limits)?;
     assert_eq!(rt; output.fault, None, "{line}");
-    is_output(rt, line, &output, 0, out, "");
+    is_output(alloc, line, &output, 0, out, "")?;
     Ok(())
 }
 
@@ -86,7 +86,7 @@ pub(crate) fn ends_within(
 ) -> Result<(), Fail> {
     let output = output_within(alloc, sources, line, limits)?;
     assert_eq!(rt; output.fault, Some(fault), "{err}");
-    is_output(rt, err, &output, status, "", err);
+    is_output(alloc, err, &output, status, "", err)?;
     Ok(())
 }
 

@@ -57,13 +57,12 @@ fn feed(transfers: Source<'static>) -> [Source<'static>; 7] {
 
 #[test]
 fn walks_from_one_place_to_another(rt: HostRuntime) -> Result<(), Fail> {
-    answers(&rt, rt.alloc(), feed(JUST_TIME).as_slice(), WORDS, PLAN)
+    answers(rt.alloc(), feed(JUST_TIME).as_slice(), WORDS, PLAN)
 }
 
 #[test]
 fn misses_a_ride_by_a_second_of_walking(rt: HostRuntime) -> Result<(), Fail> {
     refuses(
-        &rt,
         rt.alloc(),
         feed(NO_TIME).as_slice(),
         WORDS,
@@ -75,7 +74,6 @@ fn misses_a_ride_by_a_second_of_walking(rt: HostRuntime) -> Result<(), Fail> {
 #[test]
 fn walks_in_one_direction(rt: HostRuntime) -> Result<(), Fail> {
     refuses(
-        &rt,
         rt.alloc(),
         feed(BACK).as_slice(),
         WORDS,
