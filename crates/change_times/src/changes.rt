@@ -40,9 +40,9 @@ impl Drop for Changes {
     /// Drops its parts here, so that a caller drops one value.
     fn drop(self) {
         let Changes {
-            seconds: _seconds,
-            links: _links,
-            passed: _passed,
+            seconds,
+            links,
+            passed,
         } = self;
     }
 }

@@ -26,10 +26,7 @@ pub struct Ids {
 impl Drop for Ids {
     /// Drops its parts here, so that a caller drops one value.
     fn drop(self) {
-        let Ids {
-            key: _key,
-            ids: _ids,
-        } = self;
+        let Ids { key, ids } = self;
     }
 }
 

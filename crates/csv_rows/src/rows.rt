@@ -23,11 +23,7 @@ pub struct Rows {
 impl Drop for Rows {
     /// Drops its parts here, so that a caller drops one value.
     fn drop(self) {
-        let Rows {
-            fields: _fields,
-            ends: _ends,
-            key: _key,
-        } = self;
+        let Rows { fields, ends, key } = self;
     }
 }
 

@@ -26,11 +26,7 @@ pub struct CutTable {
 impl Drop for CutTable {
     /// Drops its parts here, so that a caller drops one value.
     fn drop(self) {
-        let CutTable {
-            names: _names,
-            rows: _rows,
-            keys: _keys,
-        } = self;
+        let CutTable { names, rows, keys } = self;
     }
 }
 

@@ -25,10 +25,7 @@ pub(crate) struct NumberedGroups {
 impl Drop for NumberedGroups {
     /// Drops its parts here, so that a caller drops one value.
     fn drop(self) {
-        let NumberedGroups {
-            list: _list,
-            indexes: _indexes,
-        } = self;
+        let NumberedGroups { list, indexes } = self;
     }
 }
 

@@ -88,10 +88,7 @@ pub(crate) struct OtherGroups {
 impl Drop for OtherGroups {
     /// Drops its parts here, so that a caller drops one value.
     fn drop(self) {
-        let OtherGroups {
-            routes: _routes,
-            groups: _groups,
-        } = self;
+        let OtherGroups { routes, groups } = self;
     }
 }
 

@@ -32,9 +32,9 @@ impl Drop for DelayTable {
     /// Drops its parts here, so that a caller drops one value.
     fn drop(self) {
         let DelayTable {
-            types: _types,
-            others: _others,
-            classes: _classes,
+            types,
+            others,
+            classes,
         } = self;
     }
 }

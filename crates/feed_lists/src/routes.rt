@@ -25,10 +25,7 @@ pub struct Routes {
 impl Drop for Routes {
     /// Drops its parts here, so that a caller drops one value.
     fn drop(self) {
-        let Routes {
-            ids: _ids,
-            types: _types,
-        } = self;
+        let Routes { ids, types } = self;
     }
 }
 

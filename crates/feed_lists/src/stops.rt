@@ -25,10 +25,7 @@ pub struct Stops {
 impl Drop for Stops {
     /// Drops its parts here, so that a caller drops one value.
     fn drop(self) {
-        let Stops {
-            ids: _ids,
-            places: _places,
-        } = self;
+        let Stops { ids, places } = self;
     }
 }
 

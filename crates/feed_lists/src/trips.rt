@@ -27,10 +27,7 @@ pub struct Trips {
 impl Drop for Trips {
     /// Drops its parts here, so that a caller drops one value.
     fn drop(self) {
-        let Trips {
-            ids: _ids,
-            of_trips: _of_trips,
-        } = self;
+        let Trips { ids, of_trips } = self;
     }
 }
 
@@ -48,9 +45,9 @@ impl Drop for OfTrips {
     /// Drops its parts here, so that a caller drops one value.
     fn drop(self) {
         let OfTrips {
-            services: _services,
-            types: _types,
-            routes: _routes,
+            services,
+            types,
+            routes,
         } = self;
     }
 }

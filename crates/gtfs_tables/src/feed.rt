@@ -22,10 +22,7 @@ pub struct Feed {
 impl Drop for Feed {
     /// Drops its parts here, so that a caller drops one value.
     fn drop(self) {
-        let Feed {
-            lists: _lists,
-            times: _times,
-        } = self;
+        let Feed { lists, times } = self;
     }
 }
 

@@ -21,9 +21,9 @@ impl Drop for FeedLists {
     /// Drops its parts here, so that a caller drops one value.
     fn drop(self) {
         let FeedLists {
-            stops: _stops,
-            routes: _routes,
-            trips: _trips,
+            stops,
+            routes,
+            trips,
         } = self;
     }
 }

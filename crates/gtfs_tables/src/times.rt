@@ -22,10 +22,7 @@ pub(crate) struct TripTimes {
 impl Drop for TripTimes {
     /// Drops its parts here, so that a caller drops one value.
     fn drop(self) {
-        let TripTimes {
-            visits: _visits,
-            repeats: _repeats,
-        } = self;
+        let TripTimes { visits, repeats } = self;
     }
 }
 

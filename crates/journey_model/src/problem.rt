@@ -21,9 +21,9 @@ impl Drop for Problem {
     /// Drops its parts here, so that a caller drops one value.
     fn drop(self) {
         let Problem {
-            timetable: _timetable,
-            source: _source,
-            target: _target,
+            timetable,
+            source,
+            target,
         } = self;
     }
 }

@@ -23,9 +23,6 @@ pub(crate) struct FeedTables {
 impl Drop for FeedTables {
     /// Drops its parts here, so that a caller drops one value.
     fn drop(self) {
-        let FeedTables {
-            feed: _feed,
-            rules: _rules,
-        } = self;
+        let FeedTables { feed, rules } = self;
     }
 }

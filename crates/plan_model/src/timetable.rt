@@ -22,10 +22,7 @@ pub struct Timetable {
 impl Drop for Timetable {
     /// Drops its parts here, so that a caller drops one value.
     fn drop(self) {
-        let Timetable {
-            network: _network,
-            names: _names,
-        } = self;
+        let Timetable { network, names } = self;
     }
 }
 

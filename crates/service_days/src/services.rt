@@ -27,9 +27,9 @@ impl Drop for Services {
     /// Drops its parts here, so that a caller drops one value.
     fn drop(self) {
         let Services {
-            ids: _ids,
-            periods: _periods,
-            exceptions: _exceptions,
+            ids,
+            periods,
+            exceptions,
         } = self;
     }
 }

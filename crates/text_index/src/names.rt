@@ -29,10 +29,7 @@ pub struct NameIndex<'a> {
 impl<'a> Drop for NameIndex<'a> {
     /// Drops its parts here, so that a caller drops one value.
     fn drop(self) {
-        let NameIndex {
-            places: _places,
-            runs: _runs,
-        } = self;
+        let NameIndex { places, runs } = self;
     }
 }
 

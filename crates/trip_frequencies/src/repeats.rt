@@ -26,10 +26,7 @@ pub struct Repeats {
 impl Drop for Repeats {
     /// Drops its parts here, so that a caller drops one value.
     fn drop(self) {
-        let Repeats {
-            trips: _trips,
-            rows: _rows,
-        } = self;
+        let Repeats { trips, rows } = self;
     }
 }
 
