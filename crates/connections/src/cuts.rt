@@ -38,17 +38,6 @@ pub enum WindowFault {
     NoMemory,
 }
 
-impl From<NoMemory> for WindowFault {
-    ghost use Rattle.std.specs.Prelude.{◌≡◌};
-    ghost use Rattle.connections.specs.declared.cuts.WindowFault.TheVariants.{NoMemory as NoMemoryFault};
-
-    ghost from_gives = { λ _ fault. fault ≡ NoMemoryFault };
-
-    fn from(_: NoMemory) -> Self {
-        WindowFault::NoMemory
-    }
-}
-
 /// The network of the rides of these runs in the window, and its names.
 fn network_of_runs(
     alloc: Global,
@@ -248,4 +237,15 @@ pub fn cut(
 {
     let days = TripDays::of(alloc, feed, services)?;
     network_within(alloc, &days, changes, delays, start, horizon, limits)
+}
+
+impl From<NoMemory> for WindowFault {
+    ghost use Rattle.std.specs.Prelude.{◌≡◌};
+    ghost use Rattle.connections.specs.declared.cuts.WindowFault.TheVariants.{NoMemory as NoMemoryFault};
+
+    ghost from_gives = { λ _ fault. fault ≡ NoMemoryFault };
+
+    fn from(_: NoMemory) -> Self {
+        WindowFault::NoMemory
+    }
 }

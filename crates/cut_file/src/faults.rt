@@ -24,6 +24,30 @@ pub enum CutFault {
     NoMemory,
 }
 
+impl fmt::Display for CutFault {
+    ghost use Rattle.std.specs.Prelude.{Some};
+    ghost use Rattle.cut_file.specs.FaultTexts.{cut_fault_text};
+
+    ghost output = { λ fault. Some (cut_fault_text fault) };
+
+    fn fmt<W: fmt::Write>(&self, f: &mut fmt::Formatter<W>) -> fmt::Result {
+        match *self {
+            CutFault::MissingColumn(column) => {
+                let name = column.name();
+                write!(f, "cut file has no column {name}")
+            }
+            CutFault::TooManyRows(count) => too_many_rows(f, "cut file", count),
+            CutFault::BadField(line, column) => {
+                at_line_of(f, "cut file", line, "bad", column.name())
+            }
+            CutFault::DuplicateStep(line) => at_line(f, "cut file", line, "repeated step"),
+            CutFault::Backward(line) => at_line(f, "cut file", line, "time goes back"),
+            CutFault::Broken(line) => at_line(f, "cut file", line, "run is broken"),
+            CutFault::NoMemory => f.write_str("out of memory"),
+        }
+    }
+}
+
 impl From<NoMemory> for CutFault {
     ghost use Rattle.std.specs.Prelude.{◌≡◌};
     ghost use Rattle.cut_file.specs.declared.faults.CutFault.TheVariants.{NoMemory as NoMemoryFault};
@@ -54,29 +78,5 @@ impl<T: Drop> From<AllocFailed<T>> for CutFault {
 
     fn from(_: AllocFailed<T>) -> Self {
         CutFault::NoMemory
-    }
-}
-
-impl fmt::Display for CutFault {
-    ghost use Rattle.std.specs.Prelude.{Some};
-    ghost use Rattle.cut_file.specs.FaultTexts.{cut_fault_text};
-
-    ghost output = { λ fault. Some (cut_fault_text fault) };
-
-    fn fmt<W: fmt::Write>(&self, f: &mut fmt::Formatter<W>) -> fmt::Result {
-        match *self {
-            CutFault::MissingColumn(column) => {
-                let name = column.name();
-                write!(f, "cut file has no column {name}")
-            }
-            CutFault::TooManyRows(count) => too_many_rows(f, "cut file", count),
-            CutFault::BadField(line, column) => {
-                at_line_of(f, "cut file", line, "bad", column.name())
-            }
-            CutFault::DuplicateStep(line) => at_line(f, "cut file", line, "repeated step"),
-            CutFault::Backward(line) => at_line(f, "cut file", line, "time goes back"),
-            CutFault::Broken(line) => at_line(f, "cut file", line, "run is broken"),
-            CutFault::NoMemory => f.write_str("out of memory"),
-        }
     }
 }

@@ -60,39 +60,6 @@ pub enum DelayFault {
     NoMemory,
 }
 
-impl From<NoMemory> for DelayFault {
-    ghost use Rattle.std.specs.Prelude.{◌≡◌};
-    ghost use Rattle.delay_table.specs.declared.faults.DelayFault.TheVariants.{NoMemory as NoMemoryFault};
-
-    ghost from_gives = { λ _ fault. fault ≡ NoMemoryFault };
-
-    fn from(_: NoMemory) -> Self {
-        DelayFault::NoMemory
-    }
-}
-
-impl From<AllocError> for DelayFault {
-    ghost use Rattle.std.specs.Prelude.{◌≡◌};
-    ghost use Rattle.delay_table.specs.declared.faults.DelayFault.TheVariants.{NoMemory as NoMemoryFault};
-
-    ghost from_gives = { λ _ fault. fault ≡ NoMemoryFault };
-
-    fn from(_: AllocError) -> Self {
-        DelayFault::NoMemory
-    }
-}
-
-impl<T: Drop> From<AllocFailed<T>> for DelayFault {
-    ghost use Rattle.std.specs.Prelude.{◌≡◌};
-    ghost use Rattle.delay_table.specs.declared.faults.DelayFault.TheVariants.{NoMemory as NoMemoryFault};
-
-    ghost from_gives = { λ _ fault. fault ≡ NoMemoryFault };
-
-    fn from(_: AllocFailed<T>) -> Self {
-        DelayFault::NoMemory
-    }
-}
-
 impl fmt::Display for DelayFault {
     ghost use Rattle.std.specs.Prelude.{Some};
     ghost use Rattle.delay_table.specs.FaultTexts.{delay_fault_text};
@@ -123,5 +90,38 @@ impl fmt::Display for DelayFault {
             DelayFault::NoDefault => f.write_str("delay class * is missing"),
             DelayFault::NoMemory => f.write_str("out of memory"),
         }
+    }
+}
+
+impl From<NoMemory> for DelayFault {
+    ghost use Rattle.std.specs.Prelude.{◌≡◌};
+    ghost use Rattle.delay_table.specs.declared.faults.DelayFault.TheVariants.{NoMemory as NoMemoryFault};
+
+    ghost from_gives = { λ _ fault. fault ≡ NoMemoryFault };
+
+    fn from(_: NoMemory) -> Self {
+        DelayFault::NoMemory
+    }
+}
+
+impl From<AllocError> for DelayFault {
+    ghost use Rattle.std.specs.Prelude.{◌≡◌};
+    ghost use Rattle.delay_table.specs.declared.faults.DelayFault.TheVariants.{NoMemory as NoMemoryFault};
+
+    ghost from_gives = { λ _ fault. fault ≡ NoMemoryFault };
+
+    fn from(_: AllocError) -> Self {
+        DelayFault::NoMemory
+    }
+}
+
+impl<T: Drop> From<AllocFailed<T>> for DelayFault {
+    ghost use Rattle.std.specs.Prelude.{◌≡◌};
+    ghost use Rattle.delay_table.specs.declared.faults.DelayFault.TheVariants.{NoMemory as NoMemoryFault};
+
+    ghost from_gives = { λ _ fault. fault ≡ NoMemoryFault };
+
+    fn from(_: AllocFailed<T>) -> Self {
+        DelayFault::NoMemory
     }
 }

@@ -19,17 +19,6 @@ pub enum LoadFault {
     NoMemory,
 }
 
-impl From<AllocError> for LoadFault {
-    ghost use Rattle.std.specs.Prelude.{◌≡◌};
-    ghost use Rattle.file_ports.specs.declared.loading.LoadFault.TheVariants.{NoMemory as NoMemoryFault};
-
-    ghost from_gives = { λ _ fault. fault ≡ NoMemoryFault };
-
-    fn from(_: AllocError) -> Self {
-        LoadFault::NoMemory
-    }
-}
-
 /// The most bytes of one read.
 const CHUNK: usize = 4096;
 
@@ -108,4 +97,15 @@ pub fn put_all<S: Sink>(sink: &mut S, bytes: &[u8]) -> Result<(), Failed>
         done += sink.write(&bytes[done..])?;
     }
     Ok(())
+}
+
+impl From<AllocError> for LoadFault {
+    ghost use Rattle.std.specs.Prelude.{◌≡◌};
+    ghost use Rattle.file_ports.specs.declared.loading.LoadFault.TheVariants.{NoMemory as NoMemoryFault};
+
+    ghost from_gives = { λ _ fault. fault ≡ NoMemoryFault };
+
+    fn from(_: AllocError) -> Self {
+        LoadFault::NoMemory
+    }
 }
