@@ -1,13 +1,13 @@
 -- The legs of a graph that fit, and those that do not.
 use Rattle.std.proofs.Common.{◌≡◌, ℕ, ◌+◌, ◌<◌, List, [], ◌∷◌, ◌++◌, length, map, take, drop, Option, Some, None, All, arith, sym, subst, ◌∙◌, ap}
-use Rattle.std.proofs.Common.{slice_index_or, MatchOption, flat_map, take-append-drop, length-take, length-take-le, get_or-take}
+use Rattle.std.proofs.Common.{refl, Contains, slice_index_or, MatchOption, flat_map, take-append-drop, length-take, length-take-le, get_or-take}
 use Rattle.std.specs.List.{AllWithin}
 use Rattle.std.proofs.lemmas.List.{drop_more}
 use Rattle.std.proofs.lemmas.List.Elements.{All-append, All-contains, All-map, All-nil, All-tail, All-cons, Contains-append_left, Contains-append_right}
 use Rattle.plan_model.specs.declared.model.Leg.{Leg}
 use Rattle.plan_model.specs.declared.model.Query.{Query}
 use Rattle.plan_model.specs.NetworkModel.{NetworkModel}
-use Rattle.plan_model.specs.Network.{IsValid}
+use Rattle.plan_model.specs.Network.{IsValid, count}
 use Rattle.plan_model.proofs.Boarding.{limit_of-some, way_takes}
 use Rattle.plan_graph.specs.declared.GraphRow.{GraphRow}
 use Rattle.plan_graph.specs.declared.PlaceTable.{PlaceTable}
@@ -16,6 +16,7 @@ use Rattle.plan_graph.specs.Tidy.{IsFit, IsFitStart, IsFitRow}
 use Rattle.plan_model.proofs.Lists.{Contains-head, Contains-map, All-from_contains}
 use Rattle.graph_score.specs.declared.legs.GraphLeg.{GraphLeg}
 use Rattle.graph_score.specs.declared.legs.GraphLeg.TheVariants.{Start, Row}
+use Rattle.graph_score.specs.Exits.{exit_of}
 use Rattle.graph_score.specs.Legs.{IsFitLeg, IsFirstWrong, start_leg, legs_in, legs_of}
 use Rattle.graph_score.specs.Steps.{AreFitRows}
 
@@ -56,16 +57,29 @@ each_right P xs ys each = All-from_contains P ys (λ y has. All-contains P (xs +
 each_unmapped : {X Y : Type 0} (P : Y → Type 0) (f : X → Y) (xs : List X) → All P (map f xs) → All (λ x. P (f x)) xs
 each_unmapped P f xs each = All-from_contains (λ x. P (f x)) xs (λ x has. All-contains P (map f xs) (f x) each (Contains-map f xs x has))
 
-tables_fit : (n : NetworkModel) (q : Query) (tables : List PlaceTable) → All (IsFitLeg n q) (flat_map legs_in tables) → AreFitRows n tables
-tables_fit n q [] each = All-nil (λ (t : PlaceTable). All (IsFitRow n t.place.0) t.rows)
-tables_fit n q (table ∷ tables) each =
-    let here = each_unmapped (IsFitLeg n q) (λ row. Row table.place row) table.rows (each_left (IsFitLeg n q) (legs_in table) (flat_map legs_in tables) each) in
-    All-cons (λ (t : PlaceTable). All (IsFitRow n t.place.0) t.rows) table tables (λ k d within. (here k d within).1)
-    (tables_fit n q tables (each_right (IsFitLeg n q) (legs_in table) (flat_map legs_in tables) each))
+-- what holds of all legs of rows holds of each table's
+pub each_row : (P : GraphLeg → Type 0) (tables : List PlaceTable) → All P (flat_map legs_in tables) → All (λ t. All (λ row. P (Row t.place row)) t.rows) tables
+each_row P [] each = All-nil (λ (t : PlaceTable). All (λ row. P (Row t.place row)) t.rows)
+each_row P (table ∷ tables) each =
+    All-cons (λ (t : PlaceTable). All (λ row. P (Row t.place row)) t.rows) table tables
+    (each_unmapped P (λ row. Row table.place row) table.rows (each_left P (legs_in table) (flat_map legs_in tables) each))
+    (each_row P tables (each_right P (legs_in table) (flat_map legs_in tables) each))
+
+-- and of each row of a graph
+pub each_row_of : (P : GraphLeg → Type 0) (graph : PlanGraph) → All P (legs_of graph) → All (λ t. All (λ row. P (Row t.place row)) t.rows) graph.tables
+each_row_of P graph each = each_row P graph.tables (each_right P (start_leg graph.start) (flat_map legs_in graph.tables) each)
 
 -- where all legs fit, so do all rows
 pub rows_fit : (n : NetworkModel) (q : Query) (graph : PlanGraph) → All (IsFitLeg n q) (legs_of graph) → AreFitRows n graph.tables
-rows_fit n q graph each = tables_fit n q graph.tables (each_right (IsFitLeg n q) (start_leg graph.start) (flat_map legs_in graph.tables) each)
+rows_fit n q graph each k d within i e inside = (each_row_of (IsFitLeg n q) graph each k d within i e inside).1
+
+-- each leg ends with a connection of the network
+pub exits_there : (n : NetworkModel) (q : Query) (legs : List GraphLeg) → All (IsFitLeg n q) legs → All (λ leg. (exit_of leg).0 < count n) legs
+exits_there n q legs each k d within = there (slice_index_or legs k d) (each k d within)
+  where
+    there : (leg : GraphLeg) → IsFitLeg n q leg → (exit_of leg).0 < count n
+    there (Start leg) fit = fit.is_leg.exit
+    there (Row place row) fit = fit.1.is_leg.exit
 
 -- and the start leg, where there is one
 pub start_fits : (n : NetworkModel) (q : Query) (graph : PlanGraph) (leg : Leg) → All (IsFitLeg n q) (legs_of graph) → graph.start ≡ Some leg → IsFitStart n q leg
@@ -89,3 +103,7 @@ pub none_wrong : (n : NetworkModel) (q : Query) (legs : List GraphLeg) (k : ℕ)
 none_wrong n q legs k each wrong =
     let there = Contains-append_right wrong.before (wrong.wrong ∷ wrong.others) wrong.wrong (Contains-head wrong.wrong wrong.others) in
     wrong.breaks (All-contains (IsFitLeg n q) (wrong.before ++ wrong.wrong ∷ wrong.others) wrong.wrong (subst (All (IsFitLeg n q)) wrong.split each) there)
+
+-- the start leg is one that ends with its exit
+pub start_exits : (graph : PlanGraph) (leg : Leg) → graph.start ≡ Some leg → Contains (map exit_of (legs_of graph)) leg.exit
+start_exits graph leg is = subst (λ start. Contains (map exit_of (start_leg start ++ flat_map legs_in graph.tables)) leg.exit) (sym is) (0, omega arith, refl)

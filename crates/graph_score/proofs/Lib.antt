@@ -2,5 +2,6 @@ mod GraphLegs
 mod Failures
 mod Trees
 mod Means
+mod ExitLemmas
 mod Looks
 mod Scored

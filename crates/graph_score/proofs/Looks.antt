@@ -1,34 +1,37 @@
--- What is known of the connections that were looked at, the last ones first.
-use Rattle.std.proofs.Common.{◌≡◌, ◌≢◌, ℕ, zero, suc, ◌+◌, ◌-◌, ◌<◌, ◌≤◌, true, false, List, [], ◌∷◌, ◌++◌, length, set, Option, Some, None, arith, sym, subst}
+-- What is known of the exits that were looked at, the last ones first.
+use Rattle.std.proofs.Common.{◌≡◌, ◌≢◌, ℕ, zero, suc, ◌+◌, ◌-◌, ◌<◌, ◌≤◌, true, false, List, [], ◌∷◌, ◌++◌, length, set, Option, Some, None, All, Contains, arith, sym, subst}
 use Rattle.std.proofs.Common.{refl, inl, inr, ◌∙◌, ap, append_assoc, slice_index_or, ◌==◌, get_or-set_other, get_or-set_same, append-nil, length-set}
 use Rattle.std.proofs.lemmas.Bool.{cases_lt, cases_eq}
 use Rattle.std.proofs.lemmas.Bool.Decides.{nat_tests}
+use Rattle.std.proofs.lemmas.List.Elements.{All-contains, Contains-append_right}
 use Rattle.plan_model.specs.declared.model.ConnectionId.{ConnectionId}
 use Rattle.plan_model.specs.declared.model.Leg.{Leg}
 use Rattle.plan_model.specs.declared.model.Outcome.{Outcome}
 use Rattle.plan_model.specs.declared.model.Query.{Query}
 use Rattle.plan_model.specs.NetworkModel.{NetworkModel}
 use Rattle.plan_model.specs.Network.{IsValid, count, dep_of, arr_of}
-use Rattle.plan_model.specs.Order.{IsScanOrder}
 use Rattle.plan_model.specs.DelayRows.{EachKid}
 use Rattle.plan_model.specs.Tree.{Tree, Done, Stuck}
 use Rattle.plan_model.specs.Unfold.{end_of, outcomes_of, kids_after}
 use Rattle.plan_model.proofs.Boarding.{boards_later}
-use Rattle.plan_model.proofs.ScanOrders.{has_each_id, Known, Never, whole_order, IsNext, next_of, all_known}
+use Rattle.plan_model.proofs.Lists.{Contains-cons_cases, Contains-from_map}
 use Rattle.plan_graph.specs.declared.PlaceTable.{PlaceTable}
-use Rattle.plan_graph.specs.PickedRows.{pick_at}
+use Rattle.plan_graph.specs.declared.PlanGraph.{PlanGraph}
+use Rattle.plan_graph.specs.PickedRows.{pick_at, rows_of_place}
 use Rattle.plan_graph.specs.Ready.{IsLegOf}
+use Rattle.plan_graph.proofs.Picked.{rows_of_place-by, row_of_pick}
+use Rattle.graph_score.specs.declared.exits.Exit.{Exit}
+use Rattle.graph_score.specs.declared.legs.GraphLeg.{GraphLeg}
 use Rattle.graph_score.specs.declared.outlooks.Outlook.{Outlook}
 use Rattle.graph_score.specs.declared.outlooks.Outlook.TheVariants.{Failing}
+use Rattle.graph_score.specs.Exits.{exit_of, exit_at, AreExits}
+use Rattle.graph_score.specs.Legs.{IsFitLeg, legs_of}
 use Rattle.graph_score.specs.Steps.{AreFitRows, AreOutlooks, IsOutlook, arrived_outlook, by_leg, failure, no_outlook}
 use Rattle.graph_score.specs.Steps.{outlook_at, outlook_of, outlooks_after, ride_by_rows}
+use Rattle.graph_score.proofs.ExitLemmas.{later, later_few, later_fewer, later_taken}
 use Rattle.graph_score.proofs.Failures.{blend_reported}
+use Rattle.graph_score.proofs.GraphLegs.{each_row_of, rows_fit}
 use Rattle.graph_score.proofs.Trees.{taken_row, next_after, after-there, after-stuck, after-ride}
-
--- one is known, so one was looked at
-some_known : (taken : List ConnectionId) (i : ℕ) → Known Never taken i → 1 ≤ length taken
-some_known [] i known = absurd known
-some_known (id ∷ taken) i known = omega arith
 
 -- where source and target are one place, or one has arrived
 pub arrived_reported : (n : NetworkModel) (q : Query) (p x : ℕ) → p ≡ q.target.0 → IsOutlook n q (arrived_outlook q.deadline.0 p x) (Done x)
@@ -38,28 +41,29 @@ arrived_reported n q p x there = grind (arith, cases_lt)
 pub stuck_reported : (n : NetworkModel) (q : Query) (p x : ℕ) → IsOutlook n q (Failing (failure p x)) (Stuck p x)
 stuck_reported n q p x = record { fails = (refl, refl); first = λ r y fails. inr (sym fails.1, omega (arith, fails.0)) }
 
--- of each connection that was looked at it is known what comes of leaving by it, over enough rides
-abbrev AreRight : NetworkModel → Query → List PlaceTable → List Outlook → List ConnectionId → Type 0
-AreRight n q tables outlooks taken = (leg : Leg) (rides : ℕ) → Known Never taken leg.exit.0 → length taken ≤ suc rides
+-- each row's leg ends with one of these
+abbrev pub AreAmong : NetworkModel → List Exit → List PlaceTable → Type 0
+AreAmong n exits tables = All (λ table. All (λ row. Contains exits (exit_at n row.leg.exit)) table.rows) tables
+
+-- of each exit that was looked at it is known what comes of it, over enough rides
+abbrev AreRight : NetworkModel → Query → List PlaceTable → List Outlook → List Exit → Type 0
+AreRight n q tables outlooks taken = (leg : Leg) (rides : ℕ) → Contains taken (exit_at n leg.exit) → later n leg.exit.0 ≤ rides
     → IsOutlook n q (slice_index_or outlooks leg.exit.0 no_outlook) (ride_by_rows n q tables rides leg)
 
--- the rest of the scan order was not looked at
-pub record AreCollected (n : NetworkModel) (q : Query) (tables : List PlaceTable) (order rest : List ConnectionId) (outlooks : List Outlook) : Type 0 where
-  pub taken : List ConnectionId
-  pub split : rest ++ taken ≡ order
+-- the rest of the exits was not looked at
+pub record AreCollected (n : NetworkModel) (q : Query) (tables : List PlaceTable) (exits rest : List Exit) (outlooks : List Outlook) : Type 0 where
+  pub taken : List Exit
+  pub split : rest ++ taken ≡ exits
   pub as_many : length outlooks ≡ count n
   pub right : AreRight n q tables outlooks taken
 
 module _ (n : NetworkModel) (valid : IsValid n) (q : Query) (tables : List PlaceTable) (fit : AreFitRows n tables) where
-  module _ (order : List ConnectionId) (whole : IsScanOrder n order) where
-    next_taken : (rest taken : List ConnectionId) (id : ConnectionId) → (rest ++ id ∷ []) ++ taken ≡ order → IsNext n (Known Never taken) id.0
-    next_taken rest taken id split = next_of n valid Never order (whole_order n order whole) rest taken id split
-
-    -- what comes of an arrival after the next connection
-    arrival_reported : (outlooks : List Outlook) (rest taken : List ConnectionId) (id : ConnectionId) → (rest ++ id ∷ []) ++ taken ≡ order → AreRight n q tables outlooks taken → id.0 < count n
-        → (leg : Leg) (rides x : ℕ) → leg.exit.0 ≡ id.0 → length taken ≤ rides → arr_of n id.0 ≤ x
+  module _ {legs : List GraphLeg} (exits : List Exit) (whole : AreExits n legs exits) (among : AreAmong n exits tables) where
+    -- what comes of an arrival after the next exit
+    arrival_reported : (outlooks : List Outlook) (rest taken : List Exit) (exit : Exit) → (rest ++ exit ∷ []) ++ taken ≡ exits → exit ≡ exit_at n exit.id → exit.id.0 < count n → AreRight n q tables outlooks taken
+        → (leg : Leg) (rides x : ℕ) → leg.exit ≡ exit.id → later n exit.id.0 ≤ rides → arr_of n exit.id.0 ≤ x
         → IsOutlook n q (outlook_at tables q outlooks (end_of n leg) x) (next_after n q tables fit rides leg x)
-    arrival_reported outlooks rest taken id split right there leg rides x of_id enough late = elim (cases_eq (end_of n leg) q.target.0) [
+    arrival_reported outlooks rest taken exit split is there right leg rides x of_exit enough late = elim (cases_eq (end_of n leg) q.target.0) [
       | inl here ↦
           let e : (end_of n leg == q.target.0) ≡ true = grind (arith, nat_tests) in
           rw e (subst (IsOutlook n q (arrived_outlook q.deadline.0 (end_of n leg) x)) (sym (after-there n q tables fit rides leg x here)) (arrived_reported n q (end_of n leg) x here))
@@ -80,80 +84,114 @@ module _ (n : NetworkModel) (valid : IsValid n) (q : Query) (tables : List Place
           ]
         ]
 
-        over : (rides : ℕ) → length taken ≤ rides → end_of n leg ≢ q.target.0 → (next : Leg) → pick_at tables (end_of n leg) x ≡ Some next
-            → Known Never taken next.exit.0 → IsOutlook n q (slice_index_or outlooks next.exit.0 no_outlook) (next_after n q tables fit rides leg x)
-        over zero enough away next is known = absurd (omega (arith, some_known taken next.exit.0 known, enough))
-        over (suc rides) enough away next is known = subst (IsOutlook n q (slice_index_or outlooks next.exit.0 no_outlook))
-            (sym (after-ride n q tables fit rides leg x next away is)) (right next rides known enough)
+        -- the next leg departs later, and ends with an exit that was looked at
+        over : (rides : ℕ) → later n exit.id.0 ≤ rides → end_of n leg ≢ q.target.0 → (next : Leg) → pick_at tables (end_of n leg) x ≡ Some next
+            → next.exit.0 < count n → dep_of n exit.id.0 < dep_of n next.exit.0 → Contains taken (exit_at n next.exit)
+            → IsOutlook n q (slice_index_or outlooks next.exit.0 no_outlook) (next_after n q tables fit rides leg x)
+        over zero enough away next picks inside after known = absurd (omega (arith, later_fewer n exit.id.0 next.exit.0 inside after, enough))
+        over (suc rides) enough away next picks inside after known = subst (IsOutlook n q (slice_index_or outlooks next.exit.0 no_outlook))
+            (sym (after-ride n q tables fit rides leg x next away picks)) (right next rides known (omega (arith, later_fewer n exit.id.0 next.exit.0 inside after, enough)))
 
-        by_next : (rides : ℕ) → length taken ≤ rides → end_of n leg ≢ q.target.0 → (next : Option Leg) → pick_at tables (end_of n leg) x ≡ next
+        by_next : (rides : ℕ) → later n exit.id.0 ≤ rides → end_of n leg ≢ q.target.0 → (next : Option Leg) → pick_at tables (end_of n leg) x ≡ next
             → IsOutlook n q (by_leg outlooks (end_of n leg) x next) (next_after n q tables fit rides leg x)
-        by_next rides enough away None is = subst (IsOutlook n q (Failing (failure (end_of n leg) x))) (sym (after-stuck n q tables fit rides leg x away is)) (stuck_reported n q (end_of n leg) x)
-        by_next rides enough away (Some next) is =
-            let row = taken_row n tables fit (end_of n leg) x next is in
+        by_next rides enough away None picks = subst (IsOutlook n q (Failing (failure (end_of n leg) x))) (sym (after-stuck n q tables fit rides leg x away picks)) (stuck_reported n q (end_of n leg) x)
+        by_next rides enough away (Some next) picks =
+            let row = taken_row n tables fit (end_of n leg) x next picks in
             let boards = boards_later n valid (end_of n leg) x next.enter.0 row.0.enter row.1 in
             let onward : dep_of n next.enter.0 ≤ dep_of n next.exit.0 = onward_in next row.0 in
-            let known = (next_taken rest taken id split).after next.exit.0 row.0.exit (inl (omega (arith, boards, onward, late, (valid.connections id.0 there).forward))) in
-            over rides enough away next is known
+            let after : dep_of n exit.id.0 < dep_of n next.exit.0 = omega (arith, boards, onward, late, (valid.connections exit.id.0 there).forward) in
+            let (found, has, soon, same) = row_of_pick (λ row. Contains exits (exit_at n row.leg.exit)) (rows_of_place tables (end_of n leg)) x next
+            (rows_of_place-by (λ p rows. All (λ row. Contains exits (exit_at n row.leg.exit)) rows) tables (end_of n leg) (λ k d within. absurd (omega (arith, within))) among) picks in
+            let known : Contains exits (exit_at n next.exit) = subst (λ (l : Leg). Contains exits (exit_at n l.exit)) same has in
+            let departs = ap (λ (e : Exit). e.dep.0) is in
+            over rides enough away next picks row.0.exit after (later_taken exits rest taken exit (exit_at n next.exit) whole.rising split known (omega (arith, departs, after)))
 
     kids_reported : (outlooks : List Outlook) (p scheduled : ℕ) (next : ℕ → Tree) → ((x : ℕ) → scheduled ≤ x → IsOutlook n q (outlook_at tables q outlooks p x) (next x)) → (row : List Outcome)
         → EachKid (IsOutlook n q) row (outlooks_after tables q outlooks p scheduled row) (kids_after next scheduled row)
     kids_reported outlooks p scheduled next each [] = tt
     kids_reported outlooks p scheduled next each (o ∷ row) = (refl, each (scheduled + o.delay) (omega arith), kids_reported outlooks p scheduled next each row)
 
-    -- what comes of leaving by the next connection
-    ride_reported : (outlooks : List Outlook) (rest taken : List ConnectionId) (id : ConnectionId) → (rest ++ id ∷ []) ++ taken ≡ order → AreRight n q tables outlooks taken → id.0 < count n
-        → (leg : Leg) (rides : ℕ) → leg.exit.0 ≡ id.0 → length taken ≤ rides → IsOutlook n q (outlook_of n tables q outlooks id.0) (ride_by_rows n q tables rides leg)
-    ride_reported outlooks rest taken id split right there leg rides of_id enough =
-        let late = ap (arr_of n) of_id in
+    -- what comes of the next exit
+    ride_reported : (outlooks : List Outlook) (rest taken : List Exit) (exit : Exit) → (rest ++ exit ∷ []) ++ taken ≡ exits → exit ≡ exit_at n exit.id → exit.id.0 < count n → AreRight n q tables outlooks taken
+        → (leg : Leg) (rides : ℕ) → leg.exit ≡ exit.id → later n exit.id.0 ≤ rides → IsOutlook n q (outlook_of n tables q outlooks exit.id.0) (ride_by_rows n q tables rides leg)
+    ride_reported outlooks rest taken exit split is there right leg rides of_exit enough =
+        let late = ap (λ (id : ConnectionId). arr_of n id.0) of_exit in
         let each = kids_reported outlooks (end_of n leg) (arr_of n leg.exit.0) (next_after n q tables fit rides leg)
-        (λ x from. arrival_reported outlooks rest taken id split right there leg rides x of_id enough (omega (arith, late, from))) (outcomes_of n leg) in
+        (λ x from. arrival_reported outlooks rest taken exit split is there right leg rides x of_exit enough (omega (arith, late, from))) (outcomes_of n leg) in
         let own = blend_reported n q leg.enter.0 leg.exit.0 (outlooks_after tables q outlooks (end_of n leg) (arr_of n leg.exit.0) (outcomes_of n leg))
         (kids_after (next_after n q tables fit rides leg) (arr_of n leg.exit.0) (outcomes_of n leg)) each in
-        subst (λ j. IsOutlook n q (outlook_of n tables q outlooks j) (ride_by_rows n q tables rides leg)) of_id own
+        subst (λ (id : ConnectionId). IsOutlook n q (outlook_of n tables q outlooks id.0) (ride_by_rows n q tables rides leg)) of_exit own
 
-    -- with the next connection
-    right_next : (outlooks : List Outlook) (rest taken : List ConnectionId) (id : ConnectionId) → (rest ++ id ∷ []) ++ taken ≡ order → length outlooks ≡ count n → AreRight n q tables outlooks taken
-        → AreRight n q tables (set outlooks id.0 (outlook_of n tables q outlooks id.0)) (id ∷ taken)
-    right_next outlooks rest taken id split many right leg rides known enough = elim (cases_eq leg.exit.0 id.0) [
+    -- with the next exit
+    right_next : (outlooks : List Outlook) (rest taken : List Exit) (exit : Exit) → (rest ++ exit ∷ []) ++ taken ≡ exits → exit ≡ exit_at n exit.id → exit.id.0 < count n → length outlooks ≡ count n
+        → AreRight n q tables outlooks taken → AreRight n q tables (set outlooks exit.id.0 (outlook_of n tables q outlooks exit.id.0)) (exit ∷ taken)
+    right_next outlooks rest taken exit split is there many right leg rides known enough = elim (cases_eq leg.exit.0 exit.id.0) [
       | inl same ↦
-          let there = (next_taken rest taken id split).there in
-          let own = ride_reported outlooks rest taken id split right there leg rides same (omega (arith, enough)) in
-          let at : slice_index_or (set outlooks id.0 (outlook_of n tables q outlooks id.0)) leg.exit.0 no_outlook ≡ outlook_of n tables q outlooks id.0 =
-          ap (λ j. slice_index_or (set outlooks id.0 (outlook_of n tables q outlooks id.0)) j no_outlook) same
-          ∙ get_or-set_same outlooks id.0 (outlook_of n tables q outlooks id.0) no_outlook (omega (arith, there, many)) in
+          let of_exit : leg.exit ≡ exit.id = ap (λ (k : ℕ). record { 0 = k }) same in
+          let own = ride_reported outlooks rest taken exit split is there right leg rides of_exit (subst (λ k. later n k ≤ rides) same enough) in
+          let at : slice_index_or (set outlooks exit.id.0 (outlook_of n tables q outlooks exit.id.0)) leg.exit.0 no_outlook ≡ outlook_of n tables q outlooks exit.id.0 =
+          ap (λ j. slice_index_or (set outlooks exit.id.0 (outlook_of n tables q outlooks exit.id.0)) j no_outlook) same
+          ∙ get_or-set_same outlooks exit.id.0 (outlook_of n tables q outlooks exit.id.0) no_outlook (omega (arith, there, many)) in
           subst (λ o. IsOutlook n q o (ride_by_rows n q tables rides leg)) (sym at) own
       | inr other ↦
           subst (λ o. IsOutlook n q o (ride_by_rows n q tables rides leg))
-          (sym (get_or-set_other outlooks id.0 leg.exit.0 (outlook_of n tables q outlooks id.0) no_outlook other))
-          (right leg rides (before known other) (omega (arith, enough)))
+          (sym (get_or-set_other outlooks exit.id.0 leg.exit.0 (outlook_of n tables q outlooks exit.id.0) no_outlook other))
+          (right leg rides (before other) enough)
     ]
       where
-        before : Known Never (id ∷ taken) leg.exit.0 → leg.exit.0 ≢ id.0 → Known Never taken leg.exit.0
-        before (inl is) other = absurd (other is)
-        before (inr earlier) other = earlier
+        before : leg.exit.0 ≢ exit.id.0 → Contains taken (exit_at n leg.exit)
+        before other = elim (Contains-cons_cases exit taken (exit_at n leg.exit) known) [
+          | inl here ↦ absurd (other (sym (ap (λ (e : Exit). e.id.0) here)))
+          | inr earlier ↦ earlier
+        ]
 
-module _ {n : NetworkModel} (valid : IsValid n) {q : Query} {tables : List PlaceTable} (fit : AreFitRows n tables) {order : List ConnectionId}
-    (whole : IsScanOrder n order) where
-  -- none was looked at
-  pub reported_first : (outlooks : List Outlook) → length outlooks ≡ count n → AreCollected n q tables order order outlooks
-  reported_first outlooks many = record { taken = []; split = append-nil order; as_many = many; right = λ leg rides known. absurd known }
+-- the network is one, the graph's rows fit, and the exits are those of its legs
+pub record AreReady (n : NetworkModel) (q : Query) (graph : PlanGraph) (exits : List Exit) : Type 0 where
+  pub valid : IsValid n
+  pub fit : AreFitRows n graph.tables
+  pub whole : AreExits n (legs_of graph) exits
+  pub among : AreAmong n exits graph.tables
 
-  module _ (rest : List ConnectionId) (id : ConnectionId) {outlooks : List Outlook} (reported : AreCollected n q tables order (rest ++ id ∷ []) outlooks) where
-    pub reported_there : id.0 < count n
-    reported_there = (next_taken n valid q tables fit order whole rest reported.taken id reported.split).there
-
-    pub reported_next : AreCollected n q tables order rest (set outlooks id.0 (outlook_of n tables q outlooks id.0))
-    reported_next = record {
-      taken = id ∷ reported.taken;
-      split = sym (append_assoc rest (id ∷ []) reported.taken) ∙ reported.split;
-      as_many = length-set outlooks id.0 (outlook_of n tables q outlooks id.0) ∙ reported.as_many;
-      right = right_next n valid q tables fit order whole outlooks rest reported.taken id reported.split reported.as_many reported.right;
+pub are_ready : {n : NetworkModel} {q : Query} {graph : PlanGraph} {exits : List Exit} (legs : List GraphLeg) → legs ≡ legs_of graph → IsValid n → All (IsFitLeg n q) legs → AreExits n legs exits
+    → AreReady n q graph exits
+are_ready {n} {q} {graph} {exits} legs is valid each whole =
+    let of_graph = subst (λ (legs : List GraphLeg). AreExits n legs exits) is whole in
+    record {
+      valid = valid;
+      fit = rows_fit n q graph (subst (All (IsFitLeg n q)) is each);
+      whole = of_graph;
+      among = each_row_of (λ leg. Contains exits (exit_at n (exit_of leg))) graph of_graph.all;
     }
 
-  pub reported_last : {rest : List ConnectionId} {outlooks : List Outlook} → rest ≡ [] → AreCollected n q tables order rest outlooks → AreOutlooks n q tables outlooks
-  reported_last {rest} none reported leg there =
-      let taken_all : reported.taken ≡ order = ap (λ (ids : List ConnectionId). ids ++ reported.taken) (sym none) ∙ reported.split in
-      let many = ap (λ (ids : List ConnectionId). length ids) taken_all in
-      let has = has_each_id n order whole in
-      reported.right leg (count n - 1) (all_known n valid Never order (whole_order n order whole) rest reported.taken none reported.split leg.exit.0 there) (omega (arith, many, has.as_many, there))
+module _ {n : NetworkModel} {q : Query} {graph : PlanGraph} {exits : List Exit} (ready : AreReady n q graph exits) where
+  -- none was looked at
+  pub reported_first : (outlooks : List Outlook) → length outlooks ≡ count n → AreCollected n q graph.tables exits exits outlooks
+  reported_first outlooks many = record { taken = []; split = append-nil exits; as_many = many; right = λ leg rides (k, within, at) enough. absurd (omega (arith, within)) }
+
+  exit_there : (e : Exit) → Contains exits e → (e.id.0 < count n) × (e ≡ exit_at n e.id)
+  exit_there e has = All-contains (λ (e : Exit). (e.id.0 < count n) × (e ≡ exit_at n e.id)) exits e ready.whole.each has
+
+  module _ (rest : List Exit) (exit : Exit) {outlooks : List Outlook} (reported : AreCollected n q graph.tables exits (rest ++ exit ∷ []) outlooks) where
+    next_there : (exit.id.0 < count n) × (exit ≡ exit_at n exit.id)
+    next_there = exit_there exit (subst (λ (es : List Exit). Contains es exit) (sym (append_assoc rest (exit ∷ []) reported.taken) ∙ reported.split)
+        (Contains-append_right rest (exit ∷ reported.taken) exit (0, omega arith, refl)))
+
+    pub reported_there : exit.id.0 < count n
+    reported_there = next_there.0
+
+    pub reported_next : AreCollected n q graph.tables exits rest (set outlooks exit.id.0 (outlook_of n graph.tables q outlooks exit.id.0))
+    reported_next = record {
+      taken = exit ∷ reported.taken;
+      split = sym (append_assoc rest (exit ∷ []) reported.taken) ∙ reported.split;
+      as_many = length-set outlooks exit.id.0 (outlook_of n graph.tables q outlooks exit.id.0) ∙ reported.as_many;
+      right = right_next n ready.valid q graph.tables ready.fit exits ready.whole ready.among outlooks rest reported.taken exit reported.split next_there.1 next_there.0 reported.as_many reported.right;
+    }
+
+  -- all were
+  pub reported_last : {rest : List Exit} {outlooks : List Outlook} → rest ≡ [] → AreCollected n q graph.tables exits rest outlooks → AreOutlooks n q graph outlooks
+  reported_last {rest} none reported leg has =
+      let all : exits ≡ reported.taken = sym reported.split ∙ ap (λ (es : List Exit). es ++ reported.taken) none in
+      let (of_leg, listed, is) = Contains-from_map exit_of (legs_of graph) leg.exit has in
+      let known = subst (λ i. Contains exits (exit_at n i)) is (All-contains (λ leg. Contains exits (exit_at n (exit_of leg))) (legs_of graph) of_leg ready.whole.all listed) in
+      let there = (exit_there (exit_at n leg.exit) known).0 in
+      reported.right leg (count n - 1) (subst (λ (es : List Exit). Contains es (exit_at n leg.exit)) all known) (omega (arith, later_few n leg.exit.0 there))

@@ -1,4 +1,5 @@
 pub mod Legs
+pub mod Exits
 pub mod Failures
 pub mod Spans
 pub mod Scores

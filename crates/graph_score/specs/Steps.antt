@@ -1,5 +1,5 @@
 -- What comes of a ride, by what comes of those after it.
-use Rattle.std.specs.Prelude.{◌≡◌, ℕ, ◌+◌, ◌-◌, ◌<◌, Bool, All, List, [], ◌∷◌, Option, Some, None, ◌==◌, nat_le, nat_lt, ◌||◌, ◌&&◌, if◌then◌else◌, map, slice_index_or}
+use Rattle.std.specs.Prelude.{◌≡◌, ℕ, ◌+◌, ◌-◌, Bool, All, List, [], ◌∷◌, Option, Some, None, ◌==◌, nat_le, nat_lt, ◌||◌, ◌&&◌, if◌then◌else◌, map, slice_index_or, Contains}
 use Rattle.plan_model.specs.declared.model.Leg.{Leg}
 use Rattle.plan_model.specs.declared.model.Outcome.{Outcome}
 use Rattle.plan_model.specs.declared.model.Query.{Query}
@@ -8,6 +8,7 @@ use Rattle.plan_model.specs.Network.{count, to_of, arr_of, outcomes}
 use Rattle.plan_model.specs.Unfold.{by_place, ride_of, unfold_after}
 use Rattle.plan_model.specs.Tree.{Tree}
 use Rattle.plan_graph.specs.declared.PlaceTable.{PlaceTable}
+use Rattle.plan_graph.specs.declared.PlanGraph.{PlanGraph}
 use Rattle.plan_graph.specs.PickedRows.{pick_at}
 use Rattle.plan_graph.specs.Tidy.{IsFitRow}
 use Rattle.interval_fixed.specs.Interval.{Interval}
@@ -15,7 +16,9 @@ use Rattle.interval_fixed.specs.Means.{mean_of}
 use Rattle.graph_score.specs.declared.outlooks.Failure.{Failure}
 use Rattle.graph_score.specs.declared.outlooks.Outlook.{Outlook}
 use Rattle.graph_score.specs.declared.outlooks.Outlook.TheVariants.{Safe, Failing}
+use Rattle.graph_score.specs.Exits.{exit_of}
 use Rattle.graph_score.specs.Failures.{Fails, IsFirstFailure}
+use Rattle.graph_score.specs.Legs.{legs_of}
 use Rattle.graph_score.specs.Spans.{exact, span_of}
 
 -- a failure at a place at a moment
@@ -96,7 +99,7 @@ AreFitRows network tables = All (λ table. All (IsFitRow network table.place.0) 
 abbrev pub ride_by_rows : NetworkModel → Query → List PlaceTable → ℕ → Leg → Tree
 ride_by_rows network query tables rides leg = ride_of network (unfold_after network query.target.0 (by_place network (pick_at tables)) rides) leg
 
--- it is known of each connection what comes of leaving by it
-abbrev pub AreOutlooks : NetworkModel → Query → List PlaceTable → List Outlook → Type 0
-AreOutlooks network query tables outlooks = (leg : Leg) → leg.exit.0 < count network
-    → IsOutlook network query (slice_index_or outlooks leg.exit.0 no_outlook) (ride_by_rows network query tables (count network - 1) leg)
+-- it is known of each connection that a leg ends with what comes of leaving by it
+abbrev pub AreOutlooks : NetworkModel → Query → PlanGraph → List Outlook → Type 0
+AreOutlooks network query graph outlooks = (leg : Leg) → Contains (map exit_of (legs_of graph)) leg.exit
+    → IsOutlook network query (slice_index_or outlooks leg.exit.0 no_outlook) (ride_by_rows network query graph.tables (count network - 1) leg)

@@ -16,12 +16,12 @@ ghost use Rattle.graph_score.specs.Scores.{IsScore, IsScoreOf};
 ghost use Rattle.graph_score.specs.Steps.{IsOutlook};
 ghost use Rattle.interval_fixed.specs.Interval.{end_of_nanos};
 
+mod exits;
 mod legs;
 mod outlooks;
 
 use interval_fixed::Span;
 use legs::{first_wrong, legs_of};
-use merged_runs::MergedRuns;
 use outlooks::{RisingGraph, arrived, outlooks_of, reported};
 pub use outlooks::{Failure, Outlook};
 use plan_graph::PlanGraph;
@@ -74,8 +74,7 @@ fn outlook_by_legs(
     let Some(start) = rising.graph.start else {
         return Ok(stuck);
     };
-    let mut order = MergedRuns::new(alloc, network)?;
-    let outlooks = outlooks_of(alloc, &mut order, rising, network, query)?;
+    let outlooks = outlooks_of(alloc, rising, network, query)?;
     Ok(reported(&outlooks, start.exit))
 }
 
@@ -99,7 +98,7 @@ fn score_by_legs(
 
 /// Bounds on the expected arrival of a graph that fits, or its first failure if it is not safe for the
 /// query. It goes from the arrivals upward, ride by ride with the mean rounded outward, and looks at
-/// each connection once, however many trips lead to it.
+/// each leg once, however many trips lead to it.
 pub fn score_fit(
     alloc: Global,
     graph: &PlanGraph,
@@ -111,7 +110,8 @@ pub fn score_fit(
     ensures { IfOk result (IsScoreOf network.now query.now (unfold_plan graph.now network.now query.now)) }
 {
     fit_is_scored();
-    let rising = RisingGraph { graph };
+    let legs = legs_of(alloc, graph)?;
+    let rising = RisingGraph { graph, legs: &legs };
     score_by_legs(alloc, &rising, network, query)
 }
 
@@ -135,7 +135,7 @@ pub fn score(
     if let Some(at) = first_wrong(network, query, &legs) {
         return Err(ScoreFault::NoSuchLeg(at as u64 + 1));
     }
-    let rising = RisingGraph { graph };
+    let rising = RisingGraph { graph, legs: &legs };
     match score_by_legs(alloc, &rising, network, query)? {
         Outlook::Safe(span) => Ok(span),
         Outlook::Failing(failure) => Err(ScoreFault::Unsafe(failure.place, failure.moment)),

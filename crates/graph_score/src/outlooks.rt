@@ -1,18 +1,20 @@
-//! What comes of leaving by each connection, the last ones first.
-ghost use Rattle.std.specs.Prelude.{◌≡◌, ◌+◌, ◌<◌, length, slice_index_or, IfOk, Some, None, Option as Maybe};
+//! What comes of leaving by each connection that a leg ends with, the last ones first.
+ghost use Rattle.std.specs.Prelude.{◌≡◌, ◌+◌, ◌<◌, length, slice_index_or, All, IfOk, Some, None, Option as Maybe};
 ghost use Rattle.plan_model.specs.Bounds.{end_of_time};
 ghost use Rattle.plan_model.specs.Network.{count};
-ghost use Rattle.plan_model.specs.Order.{IsScanOrder};
 ghost use Rattle.plan_model.specs.DelayRows.{IsValidRow};
 ghost use Rattle.interval_fixed.specs.Means.{mean_of};
 ghost use Rattle.plan_graph.specs.PickedRows.{HasRisingTables};
-ghost use Rattle.graph_score.specs.Steps.{no_outlook, is_sooner, sooner_failure, first_failure_of, spans_in, blend_of, arrived_outlook, outlook_at, outlook_of, AreFitRows, AreOutlooks};
+ghost use Rattle.graph_score.specs.Legs.{IsFitLeg, legs_of};
+ghost use Rattle.graph_score.specs.Steps.{no_outlook, is_sooner, sooner_failure, first_failure_of, spans_in, blend_of, arrived_outlook, outlook_at, outlook_of, AreOutlooks};
 ghost use Rattle.interval_fixed.specs.Interval.{end_of_nanos};
 
+use crate::exits::exits_of;
+use crate::legs::GraphLeg;
 use arrayvec::ArrayVec;
 use interval_fixed::Span;
 use plan_graph::PlanGraph;
-use plan_model::{BackwardOrder, ConnectionId, Moment, Network, NoMemory, Outcome, PlaceId, Query};
+use plan_model::{ConnectionId, Moment, Network, NoMemory, Outcome, PlaceId, Query};
 use std::alloc::Global;
 
 /// A place where a traveller is stuck or too late, and since when.
@@ -46,11 +48,13 @@ impl Default for Outlook {
     }
 }
 
-/// A graph whose places and rows rise.
+/// A graph whose places and rows rise, with its legs.
 #[derive(Clone, Copy)]
 pub struct RisingGraph<'a> {
     pub graph: &'a PlanGraph,
+    pub legs: &'a [GraphLeg],
     pub ghost rising: { HasRisingTables graph.now },
+    pub ghost all_legs: { legs.now ≡ legs_of graph.now },
 }
 
 /// Whether one failure is before another: by moment, and then by place.
@@ -173,23 +177,22 @@ fn outlook_of(
     blend(row, &children)
 }
 
-/// What comes of leaving by each connection, found in the scan order, the last one first.
-pub fn outlooks_of<B: BackwardOrder>(
+/// What comes of leaving by each connection that a leg ends with. The last departure comes first, since
+/// what comes of a ride follows from what comes of later ones.
+pub fn outlooks_of(
     alloc: Global,
-    order: &mut B,
     rising: &RisingGraph,
     network: &Network,
     query: &Query,
 ) -> Result<Vec<Outlook>, NoMemory>
-    requires fits { B.fits order.old network.now }
-    requires whole { IsScanOrder network.now (B.rest order.old network.now) }
-    requires fit { AreFitRows network.now rising.now.graph.now.tables }
-    ensures { IfOk result (λ outlooks. AreOutlooks network.now query.now rising.now.graph.now.tables outlooks.items) }
+    requires fit { All (IsFitLeg network.now query.now) rising.now.legs.now }
+    ensures { IfOk result (λ outlooks. AreOutlooks network.now query.now rising.now.graph.now outlooks.items) }
 {
+    let mut exits = exits_of(alloc, network, rising.legs)?;
     let mut outlooks: Vec<Outlook> = vec![in alloc; Outlook::default(); network.count() as usize]?;
-    while let Some(id) = order.next(network) {
-        let outlook = outlook_of(rising, network, query, &outlooks, id);
-        outlooks[id.0 as usize] = outlook;
+    while let Some(exit) = exits.pop() {
+        let outlook = outlook_of(rising, network, query, &outlooks, exit.id);
+        outlooks[exit.id.0 as usize] = outlook;
     }
     Ok(outlooks)
 }

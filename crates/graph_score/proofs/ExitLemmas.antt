@@ -1,0 +1,98 @@
+-- The connections that legs end with, by departure, and how many connections depart after one.
+use Rattle.std.proofs.Common.{◌≡◌, ℕ, zero, suc, ◌+◌, ◌<◌, ◌≤◌, Bool, true, false, cond, List, [], ◌∷◌, ◌++◌, length, map, get_or, nat_lt, All, AllPairs, Contains, arith, sym, subst}
+use Rattle.std.proofs.Common.{refl, inl, inr, ◌∙◌, ap, append_assoc, count_by, length-append, Ordering, is_lt, nat_cmp, IsPermutation, IsSorted}
+use Rattle.std.specs.Ordering.{ordering_then}
+use Rattle.std.proofs.lemmas.Bool.{cases_Bool}
+use Rattle.std.proofs.lemmas.Bool.Decides.{nat_tests}
+use Rattle.std.proofs.lemmas.Cmp.{nat_cmp_total, on_total, then_total}
+use Rattle.std.proofs.lemmas.List.{get_or_append_left, get_or_at}
+use Rattle.std.proofs.lemmas.List.Elements.{All-map, Contains-append_cases}
+use Rattle.std.proofs.lemmas.List.Sorted.{All-permutation, Contains-permutation, ranks_by, sorted_far}
+use Rattle.std.proofs.lemmas.List.Sums.{count_by-le-length, sum_by-cons}
+use Rattle.plan_model.specs.declared.model.Connection.{Connection}
+use Rattle.plan_model.specs.NetworkModel.{NetworkModel}
+use Rattle.plan_model.specs.Network.{count, connection, no_connection, dep_of}
+use Rattle.plan_model.proofs.Lists.{Contains-map, Contains-cons_cases, All-from_contains}
+use Rattle.graph_score.specs.declared.exits.Exit.{Exit}
+use Rattle.graph_score.specs.declared.legs.GraphLeg.{GraphLeg}
+use Rattle.graph_score.specs.Exits.{exit_of, exit_at, AreExits}
+
+-- ---- sorted
+
+-- the order that is derived for exits
+abbrev exit_cmp : Exit → Exit → Ordering
+exit_cmp a b = ordering_then (nat_cmp a.dep.0 b.dep.0) (nat_cmp a.id.0 b.id.0)
+
+not_above : (x y u v : ℕ) → is_lt (ordering_then (nat_cmp y x) (nat_cmp v u)) ≡ false → x ≤ y
+not_above x y u v h = grind (arith, nat_tests)
+
+pub exits_sorted : (n : NetworkModel) (legs : List GraphLeg) (xs ys : List Exit) → All (λ leg. (exit_of leg).0 < count n) legs
+    → xs ≡ map (λ leg. exit_at n (exit_of leg)) legs → IsPermutation xs ys → IsSorted exit_cmp ys → AreExits n legs ys
+exits_sorted n legs xs ys there is moved up =
+    let from = λ (leg : GraphLeg). exit_at n (exit_of leg) in
+    let IsExit = λ (e : Exit). (e.id.0 < count n) × (e ≡ exit_at n e.id) in
+    let total = then_total (on_total (λ (e : Exit). e.dep.0) nat_cmp_total) (on_total (λ (e : Exit). e.id.0) nat_cmp_total) in
+    record {
+      each = All-permutation IsExit xs ys moved (subst (All IsExit) (sym is) (All-map IsExit from legs (λ k d within. (there k d within, refl))));
+      all = All-from_contains (λ leg. Contains ys (from leg)) legs
+          (λ leg has. Contains-permutation xs ys (from leg) moved (subst (λ (es : List Exit). Contains es (from leg)) (sym is) (Contains-map from legs leg has)));
+      rising = λ i j d less within. not_above (get_or ys i d).dep.0 (get_or ys j d).dep.0 (get_or ys i d).id.0 (get_or ys j d).id.0 (sorted_far _ (ranks_by total (λ (e : Exit). e)) ys up i j d (omega arith) within);
+    }
+
+-- what departs after the next one, from the end on, was taken before it
+pub later_taken : (order rest taken : List Exit) (next e : Exit) → AllPairs (λ a b. a.dep.0 ≤ b.dep.0) order → (rest ++ next ∷ []) ++ taken ≡ order
+    → Contains order e → next.dep.0 < e.dep.0 → Contains taken e
+later_taken order rest taken next e rising split has less =
+    let same : rest ++ next ∷ taken ≡ order = sym (append_assoc rest (next ∷ []) taken) ∙ split in
+    elim (Contains-append_cases rest (next ∷ taken) e (subst (λ (es : List Exit). Contains es e) (sym same) has)) [
+      | inl front ↦
+          let (i, within, at) = front in
+          let inside : length rest < length order = subst (λ (es : List Exit). length rest < length es) same (omega (arith, length-append rest (next ∷ taken))) in
+          let up = rising i (length rest) e within inside in
+          let here : get_or order i e ≡ e = ap (λ (es : List Exit). get_or es i e) (sym same) ∙ get_or_append_left rest (next ∷ taken) e i within ∙ at in
+          let there : get_or order (length rest) e ≡ next = ap (λ (es : List Exit). get_or es (length rest) e) (sym same) ∙ get_or_at rest next taken e (length rest) refl in
+          let first = ap (λ (x : Exit). x.dep.0) here in
+          let second = ap (λ (x : Exit). x.dep.0) there in
+          absurd (omega (arith, up, first, second, less))
+      | inr back ↦ elim (Contains-cons_cases next taken e back) [
+        | inl is ↦ let level = ap (λ (x : Exit). x.dep.0) is in absurd (omega (arith, level, less))
+        | inr found ↦ found
+      ]
+    ]
+
+-- ---- how many depart later
+
+module _ {X : Type 0} (p q : X → Bool) (also : (x : X) → p x ≡ true → q x ≡ true) where
+  one_more : (x : X) → cond (p x) 1 0 ≤ cond (q x) 1 0
+  one_more x = grind (arith, also, cases_Bool)
+
+  count_by-cons : (r : X → Bool) (x : X) (xs : List X) → count_by r (x ∷ xs) ≡ cond (r x) 1 0 + count_by r xs
+  count_by-cons r x xs = sum_by-cons (λ y. cond (r y) 1 0) x xs
+
+  count_by-more : (xs : List X) → count_by p xs ≤ count_by q xs
+  count_by-more [] = omega arith
+  count_by-more (x ∷ xs) = omega (arith, one_more x, count_by-more xs, count_by-cons p x xs, count_by-cons q x xs)
+
+  -- one more satisfies q
+  count_by-less : (xs : List X) (k : ℕ) (d : X) → k < length xs → p (get_or xs k d) ≡ false → q (get_or xs k d) ≡ true → count_by p xs < count_by q xs
+  count_by-less [] k d within fails holds = absurd (omega arith)
+  count_by-less (x ∷ xs) zero d within fails holds =
+      let none = ap (λ b. cond {A = ℕ} b 1 0) fails in
+      let one = ap (λ b. cond {A = ℕ} b 1 0) holds in
+      omega (arith, none, one, count_by-more xs, count_by-cons p x xs, count_by-cons q x xs)
+  count_by-less (x ∷ xs) (suc k) d within fails holds = omega (arith, one_more x, count_by-less xs k d (omega arith) fails holds, count_by-cons p x xs, count_by-cons q x xs)
+
+abbrev pub later : NetworkModel → ℕ → ℕ
+later n i = count_by (λ c. nat_lt (dep_of n i) c.dep.0) n.connections
+
+pub later_fewer : (n : NetworkModel) (i j : ℕ) → j < count n → dep_of n i < dep_of n j → later n j < later n i
+unfolding connection
+later_fewer n i j there less =
+    count_by-less (λ (c : Connection). nat_lt (dep_of n j) c.dep.0) (λ (c : Connection). nat_lt (dep_of n i) c.dep.0) (λ c after. grind (arith, nat_tests))
+    n.connections j no_connection there (grind (arith, nat_tests)) (grind (arith, nat_tests))
+
+pub later_few : (n : NetworkModel) (i : ℕ) → i < count n → later n i < count n
+unfolding connection
+later_few n i there =
+    let less = count_by-less (λ (c : Connection). nat_lt (dep_of n i) c.dep.0) (λ c. true) (λ c after. refl) n.connections i no_connection there (grind (arith, nat_tests)) refl in
+    omega (arith, less, count_by-le-length (λ (c : Connection). true) n.connections)
