@@ -58,6 +58,10 @@ impl NumberedGroups {
         ensures index { result ≡ position (same_numbered group.now) self.now }
         ensures found { is_some result ≡ list_any (same_numbered group.now) self.now }
     {
+        if self.list.is_empty() {
+            // Without groups nothing is hashed.
+            return None;
+        }
         self.indexes.get(group).copied()
     }
 

@@ -36,7 +36,8 @@ pub(crate) struct Numbered {
 pub(crate) fn has(exceptions: &HashSet<Exception, HashKey>, exception: &Exception) -> bool
     ensures { result ≡ has exceptions.now.keys exception.now }
 {
-    exceptions.contains(exception)
+    // Without exceptions nothing is hashed.
+    !exceptions.is_empty() && exceptions.contains(exception)
 }
 
 /// Adds an exception.
