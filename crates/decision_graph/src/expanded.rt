@@ -41,7 +41,7 @@ pub(crate) fn expand_with<V: Score, B: BackwardOrder>(
             value: arrived,
         }));
     }
-    let tables: ScanTables<V> = ScanTables::reserve(alloc, network)?;
+    let tables: ScanTables<V> = ScanTables::reserve_until(alloc, network, query.deadline)?;
     let scanned = scan(tables, network, order, query);
     let Some((value, _)) = scanned.start() else {
         return Ok(None);

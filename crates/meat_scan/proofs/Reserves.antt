@@ -1,17 +1,21 @@
 -- The memory of a scan.
 use Rattle.std.proofs.Common.{Bool, ◌≡◌, ℕ, zero, suc, ◌+◌, ◌<◌, ◌≤◌, List, [], ◌∷◌, ◌++◌, length, get_or, take, replicate, Option, None, arith, ◌∙◌, refl}
-use Rattle.std.proofs.Common.{cond, length-take-le, count_by}
+use Rattle.std.proofs.Common.{cond, length-take-le, count_by, All, ap, sym, append-nil}
 use Rattle.std.proofs.lemmas.Bool.Decides.{nat_tests}
 use Rattle.std.proofs.lemmas.Grind.{common_steps}
 use Rattle.std.proofs.lemmas.List.{length-replicate}
-use Rattle.std.proofs.lemmas.List.Sums.{count_by-le-length}
+use Rattle.std.proofs.lemmas.List.Elements.{All-nil, All-tail}
+use Rattle.std.proofs.lemmas.List.Sums.{count_by-le-length, sum_by-append, sum_by-cons}
 use Rattle.plan_model.specs.declared.model.Connection.{Connection}
+use Rattle.plan_model.specs.declared.model.ConnectionId.{ConnectionId}
 use Rattle.plan_model.specs.NetworkModel.{NetworkModel}
-use Rattle.plan_model.specs.Network.{count, run_of, no_connection, IsValid}
-use Rattle.plan_model.proofs.ScanOrders.{count_in_order}
+use Rattle.plan_model.specs.Bounds.{end_of_arrivals}
+use Rattle.plan_model.specs.Network.{count, connection, dep_of, from_of, run_of, no_connection, IsValid}
+use Rattle.plan_model.specs.Order.{IsScanOrder, IsPrefixUpTo}
+use Rattle.plan_model.proofs.ScanOrders.{count_in_order, has_each_id}
 use Rattle.stop_profile.specs.Shown.{ShownProfile}
 use Rattle.trip_exit.specs.Offers.{Exit}
-use Rattle.meat_scan.specs.ScanTables.{rows_of_profile, spare_at, exit_at, has_way, FitsTables, ShownTables, capacity_at, IsEmpty}
+use Rattle.meat_scan.specs.ScanTables.{rows_of_profile, spare_at, exit_at, has_way, is_boardable_by, boardable, HasRoom, FitsTables, FitsTablesBy, ShownTables, capacity_at, IsEmpty}
 
 -- one connection more is counted, where it passes
 pub count_by-take_more : (p : Connection → Bool) (connections : List Connection) (i : ℕ) → i < length connections
@@ -39,22 +43,68 @@ no_exits zero run = refl
 no_exits (suc n) zero = refl
 no_exits (suc n) (suc run) = no_exits n run
 
+-- those that depart by a moment are counted alike with and without that
+soon_counted : (n : NetworkModel) (last place : ℕ) (rest : List ConnectionId) → All (λ id. dep_of n id.0 ≤ last) rest
+    → count_by (λ id. is_boardable_by n last place (connection n id.0)) rest ≡ boardable n place rest
+soon_counted n last place [] soon = refl
+soon_counted n last place (id ∷ rest) soon =
+    let here : is_boardable_by n last place (connection n id.0) ≡ has_way n place (from_of n id.0) = grind (arith, nat_tests, soon 0 id (omega arith)) in
+    sum_by-cons (λ (id : ConnectionId). cond (is_boardable_by n last place (connection n id.0)) 1 0) id rest
+    ∙ omega (arith, ap (λ b. cond {A = ℕ} b 1 0) here, soon_counted n last place rest (All-tail (λ (id : ConnectionId). dep_of n id.0 ≤ last) id rest soon))
+    ∙ sym (sum_by-cons (λ (id : ConnectionId). cond (has_way n place (from_of n id.0)) 1 0) id rest)
+
+-- there are no more than all that depart by the moment
+soon_few : (n : NetworkModel) (last place : ℕ) (order rest : List ConnectionId) → IsScanOrder n order → IsPrefixUpTo n last order rest
+    → boardable n place rest ≤ count_by (λ c. is_boardable_by n last place c) n.connections
+soon_few n last place order rest whole up_to =
+    let q : ConnectionId → Bool = λ id. is_boardable_by n last place (connection n id.0) in
+    let parts : count_by q order ≡ count_by q rest + count_by q up_to.skipped =
+    ap (λ (ids : List ConnectionId). count_by q ids) up_to.split ∙ sum_by-append (λ (id : ConnectionId). cond {A = ℕ} (q id) 1 0) rest up_to.skipped in
+    omega (arith, parts, count_in_order (λ c. is_boardable_by n last place c) n order whole, soon_counted n last place rest up_to.soon)
+
 -- what was reserved fits the network
-pub fits : {V : Type 0} (network : NetworkModel) → IsValid network
+pub fits_by : {V : Type 0} (network : NetworkModel) → IsValid network → (last : ℕ)
     → (runs : ℕ) (below : (i : ℕ) → i < count network → run_of network i < runs) (room : List ℕ) (profiles : List (ShownProfile V))
     (exits : List (Option (Exit V))) → length room ≡ length network.change
-    → ((place : ℕ) → place < length network.change → get_or room place 0 ≡ count_by (λ c. has_way network place c.from.0) network.connections)
+    → ((place : ℕ) → place < length network.change → get_or room place 0 ≡ count_by (λ c. is_boardable_by network last place c) network.connections)
     → length profiles ≡ length room → ((place : ℕ) → rows_of_profile profiles place ≡ [])
     → ((place : ℕ) → place < length room → get_or room place 0 ≤ spare_at profiles place) → exits ≡ replicate runs None
-    → FitsTables network (record { profiles = profiles; exits = exits })
-fits {V} network valid runs below room profiles exits long counts as_many empty enough none = record {
+    → FitsTablesBy network last (record { profiles = profiles; exits = exits })
+fits_by {V} network valid last runs below room profiles exits long counts as_many empty enough none = record {
   valid = valid;
   empty = record { no_rows = empty; no_exits = λ run. rw none (no_exits runs run) };
-  room = λ order whole. record {
+  room = λ order rest whole up_to. record {
     places = as_many ∙ long;
     runs = λ i inside. let n : length exits ≡ runs = rw none (length-replicate runs None) in omega (arith, below i inside);
-    room = λ place inside. omega (arith, count_in_order (λ c. has_way network place c.from.0) network order whole, counts place (omega arith), enough place (omega arith));
+    room = λ place inside. omega (arith, soon_few network last place order rest whole up_to, counts place (omega arith), enough place (omega arith));
   };
+}
+
+pub skipped_room : {V : Type 0} (network : NetworkModel) (last : ℕ) (order rest : List ConnectionId) (profiles : List (ShownProfile V))
+    (exits : List (Option (Exit V))) → IsPrefixUpTo network last order rest → HasRoom network order profiles exits → HasRoom network rest profiles exits
+skipped_room network last order rest profiles exits up_to room = grind (arith, common_steps, nat_tests)
+
+-- with room for all that depart by the last moment, the tables fit the network
+pub fits_all : {V : Type 0} (network : NetworkModel) (last : ℕ) (tables : ShownTables V) → end_of_arrivals ≤ last → FitsTablesBy network last tables → FitsTables network tables
+fits_all network last tables late fit = record {
+  valid = fit.valid;
+  empty = fit.empty;
+  room = λ order whole. fit.room order order whole (record {
+    skipped = [];
+    split = sym (append-nil order);
+    late = All-nil (λ (id : ConnectionId). last < dep_of network id.0);
+    soon = λ k d within.
+        let sound = fit.valid.connections (get_or order k d).0 ((has_each_id network order whole).within k d within) in
+        omega (arith, sound.forward, sound.early, late);
+  });
+}
+
+-- and then they have room for all that depart by any moment
+pub fits_any : {V : Type 0} (network : NetworkModel) (last : ℕ) (tables : ShownTables V) → FitsTables network tables → FitsTablesBy network last tables
+fits_any network last tables fit = record {
+  valid = fit.valid;
+  empty = fit.empty;
+  room = λ order rest whole up_to. skipped_room network last order rest tables.profiles tables.exits up_to (fit.room order whole);
 }
 
 -- tables with as much room, and with nothing in them, fit the network again

@@ -216,7 +216,3 @@ module _ {V : Type 0} {scoring : Scoring V} (laws : ScoreLaws scoring) (network 
   pub skipped_state : (rest : List ConnectionId) → IsPrefixUpTo network query.deadline.0 order rest
       → ScanState scoring network query order rest profiles exits None
   skipped_state rest up_to = late_state rest up_to.skipped (sym up_to.split) up_to.late
-
-pub skipped_room : {V : Type 0} (network : NetworkModel) (last : ℕ) (order rest : List ConnectionId) (profiles : List (ShownProfile V))
-    (exits : List (Option (Exit V))) → IsPrefixUpTo network last order rest → HasRoom network order profiles exits → HasRoom network rest profiles exits
-skipped_room network last order rest profiles exits up_to room = grind (arith, common_steps, nat_tests)

@@ -1,10 +1,11 @@
 -- The tables of a scan.
-use Rattle.std.specs.Prelude.{◌≡◌, ℕ, ◌+◌, ◌<◌, ◌≤◌, Bool, List, [], length, Option, None, is_some, slice_index_or, count_by, if◌then◌else◌}
+use Rattle.std.specs.Prelude.{◌≡◌, ℕ, ◌+◌, ◌<◌, ◌≤◌, Bool, List, [], length, Option, None, is_some, slice_index_or, nat_le, ◌&&◌, count_by, if◌then◌else◌}
+use Rattle.plan_model.specs.declared.model.Connection.{Connection}
 use Rattle.plan_model.specs.declared.model.ConnectionId.{ConnectionId}
 use Rattle.plan_model.specs.NetworkModel.{NetworkModel}
 use Rattle.plan_model.specs.Ways.{way_of}
 use Rattle.plan_model.specs.Network.{count, from_of, run_of, IsValid}
-use Rattle.plan_model.specs.Order.{IsScanOrder}
+use Rattle.plan_model.specs.Order.{IsScanOrder, IsPrefixUpTo}
 use Rattle.stop_profile.specs.declared.Row.{Row}
 use Rattle.stop_profile.specs.Shown.{ShownProfile}
 use Rattle.trip_exit.specs.Offers.{Exit}
@@ -32,6 +33,10 @@ exit_at exits run = slice_index_or exits run None
 -- whether a way leads from a place to another
 abbrev pub has_way : NetworkModel → ℕ → ℕ → Bool
 has_way network place to = is_some (way_of network place to)
+
+-- whether a connection departs by a moment, and can be boarded by a way from a place
+abbrev pub is_boardable_by : NetworkModel → ℕ → ℕ → Connection → Bool
+is_boardable_by network last place connection = nat_le connection.dep.0 last && has_way network place connection.from.0
 
 -- how many ways lead from a place to another: one, or none
 abbrev pub ways_between : NetworkModel → ℕ → ℕ → ℕ
@@ -66,3 +71,9 @@ pub record FitsTables {V : Type 0} (network : NetworkModel) (tables : ShownTable
   pub valid : IsValid network
   pub empty : IsEmpty tables.profiles tables.exits
   pub room : (order : List ConnectionId) → IsScanOrder network order → HasRoom network order tables.profiles tables.exits
+
+-- the tables are empty, and have room for a scan of the connections that depart by a moment
+pub record FitsTablesBy {V : Type 0} (network : NetworkModel) (last : ℕ) (tables : ShownTables V) : Type 0 where
+  pub valid : IsValid network
+  pub empty : IsEmpty tables.profiles tables.exits
+  pub room : (order rest : List ConnectionId) → IsScanOrder network order → IsPrefixUpTo network last order rest → HasRoom network rest tables.profiles tables.exits

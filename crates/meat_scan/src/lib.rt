@@ -16,7 +16,7 @@ ghost use Rattle.plan_model.specs.Bounds.{most_connections, end_of_arrivals, end
 ghost use Rattle.plan_model.specs.Network.{count, from_of, run_of, IsValid};
 ghost use Rattle.plan_model.specs.Order.{IsScanOrder};
 ghost use Rattle.std.specs.Option.{option_map};
-ghost use Rattle.meat_scan.specs.ScanTables.{rows_of_profile, spare_at, capacity_at, exit_at, has_way, ways_between, HasRoomFor, FitsTables, IsEmpty};
+ghost use Rattle.meat_scan.specs.ScanTables.{rows_of_profile, spare_at, capacity_at, exit_at, is_boardable_by, ways_between, HasRoomFor, FitsTables, FitsTablesBy, IsEmpty};
 ghost use Rattle.meat_scan.specs.ScanResult.{choice_of, found_in};
 ghost use Rattle.meat_scan.specs.Values.{value_after_arrival, values_after};
 ghost use Rattle.meat_scan.specs.Step.{left_by, exits_with, way_of_place, with_way, rows_with, start_with};
@@ -300,9 +300,22 @@ impl<V: Score> Model for Scanned<V> {
 impl<V: Score> ScanTables<V> {
     /// Takes all the memory that a scan of the network needs, or answers `NoMemory`.
     pub fn reserve(alloc: Global, network: &Network) -> Result<ScanTables<V>, NoMemory>
-        ensures { IfOk result (FitsTables network.now) }
+        ensures whole { IfOk result (FitsTables network.now) }
+        ensures by { IfOk result (λ tables. (last : ℕ) → FitsTablesBy network.now last tables) }
     {
-        let room = boardable_counts(alloc, network)?;
+        let tables = ScanTables::reserve_until(alloc, network, Moment(u64::MAX))?;
+        Ok(tables)
+    }
+
+    /// Takes the memory that a scan of the connections needs that depart by a moment, or answers `NoMemory`.
+    pub fn reserve_until(
+        alloc: Global,
+        network: &Network,
+        last: Moment,
+    ) -> Result<ScanTables<V>, NoMemory>
+        ensures { IfOk result (FitsTablesBy network.now last.0) }
+    {
+        let room = boardable_counts(alloc, network, last)?;
         let profiles = reserve_profiles(alloc, &room)?;
         let exits = ExitTable::reserve(alloc, network.runs())?;
         let kids = reserve_kids(alloc)?;
@@ -331,17 +344,20 @@ fn count_ways(room: &mut [u32], network: &Network, place: PlaceId)
     }
 }
 
-// How many connections can be boarded by a way from each place.
-fn boardable_counts(alloc: Global, network: &Network) -> Result<Vec<u32>, NoMemory>
+// How many connections that depart by a moment can be boarded by a way from each place.
+fn boardable_counts(alloc: Global, network: &Network, last: Moment) -> Result<Vec<u32>, NoMemory>
     ensures len { IfOk result (λ room. length room.items ≡ length network.now.change) }
     ensures valid { IfOk result (λ _. IsValid network.now) }
     ensures counts { IfOk result (λ room. (place : ℕ) → place < length network.now.change →
         slice_index room.items place
-        ≡ count_by (λ c. has_way network.now place c.from.0) network.now.connections) }
+        ≡ count_by (λ c. is_boardable_by network.now last.0 place c) network.now.connections) }
 {
     let mut room: Vec<u32> = vec![in alloc; 0; network.places() as usize]?;
     for id in 0..network.count() {
-        count_ways(&mut room, network, network.get(ConnectionId(id)).from);
+        let connection = network.get(ConnectionId(id));
+        if connection.dep.0 <= last.0 {
+            count_ways(&mut room, network, connection.from);
+        }
     }
     Ok(room)
 }
@@ -394,7 +410,7 @@ fn scan_all<V: Score, B: BackwardOrder>(
     order: &mut B,
     query: &Query,
 ) -> (ScanTables<V>, Option<(V, Leg)>)
-    requires tables_fit { FitsTables network.now tables }
+    requires tables_fit { FitsTablesBy network.now query.now.deadline.0 tables }
     requires fits { B.fits order.old network.now }
     requires whole { IsScanOrder network.now (B.rest order.old network.now) }
     requires differ { query.now.source.0 ≢ query.now.target.0 }
@@ -438,7 +454,7 @@ pub fn scan<V: Score, B: BackwardOrder>(
     order: &mut B,
     query: &Query,
 ) -> Scanned<V>
-    requires tables_fit { FitsTables network.now tables }
+    requires tables_fit { FitsTablesBy network.now query.now.deadline.0 tables }
     requires fits { B.fits order.old network.now }
     requires whole { IsScanOrder network.now (B.rest order.old network.now) }
     requires differ { query.now.source.0 ≢ query.now.target.0 }
@@ -510,12 +526,12 @@ pub fn start_value<V: Score, B: BackwardOrder>(
     order: &mut B,
     query: &Query,
 ) -> (ScanTables<V>, Option<V>)
-    requires tables_fit { FitsTables network.now tables }
+    requires tables_fit { FitsTablesBy network.now query.now.deadline.0 tables }
     requires fits { B.fits order.old network.now }
     requires whole { IsScanOrder network.now (B.rest order.old network.now) }
     requires differ { query.now.source.0 ≢ query.now.target.0 }
     ensures solves { SolvesStart V.scoring network.now query.now result.1 }
-    ensures tables_fit { FitsTables network.now result.0 }
+    ensures tables_fit { FitsTables network.now tables → FitsTables network.now result.0 }
     ensures valid { IsValid network.now }
     ensures fits { B.fits order.new network.now }
 {

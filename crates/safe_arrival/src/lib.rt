@@ -1,16 +1,17 @@
 //! The least worst arrival, by the backward scan, and the deadline that follows from it.
 #![tactic(auto)]
 
-ghost use Rattle.std.specs.Prelude.{◌≡◌, ◌≢◌, ◌<◌, ◌≤◌, Some, IfSome, MatchOption};
+ghost use Rattle.std.specs.Prelude.{◌≡◌, ◌≢◌, ◌<◌, ◌≤◌, Some, IfOk, IfSome, MatchOption};
 ghost use Rattle.plan_model.specs.Bounds.{end_of_time};
 ghost use Rattle.plan_model.specs.Order.{IsScanOrder};
 ghost use Rattle.plan_model.specs.Strategy.{IsSafeFor, IsLeastWorst, deadline_of};
 ghost use Rattle.plan_model.specs.Network.{IsValid};
 ghost use Rattle.plan_model.specs.Tree.{Tree};
-ghost use Rattle.meat_scan.specs.ScanTables.{FitsTables};
+ghost use Rattle.meat_scan.specs.ScanTables.{FitsTables, FitsTablesBy};
 
 use meat_scan::{ScanTables, start_value};
-use plan_model::{BackwardOrder, Moment, Network, PlaceId, Query, SECONDS_PER_HOUR};
+use plan_model::{BackwardOrder, Moment, Network, NoMemory, PlaceId, Query, SECONDS_PER_HOUR};
+use std::alloc::Global;
 use value_laws::WorstMoment;
 
 // A day after the last arrival that a network may have: whatever always arrives does so by then.
@@ -24,14 +25,14 @@ fn least_worst_by<B: BackwardOrder>(
     order: &mut B,
     query: &Query,
 ) -> (ScanTables<WorstMoment>, Option<Moment>)
-    requires tables_fit { FitsTables network.now tables }
+    requires tables_fit { FitsTablesBy network.now query.now.deadline.0 tables }
     requires fits { B.fits order.old network.now }
     requires whole { IsScanOrder network.now (B.rest order.old network.now) }
     requires differ { query.now.source.0 ≢ query.now.target.0 }
     ensures least { let query = query.now in
         MatchOption result.1 ((tree : Tree) → IsSafeFor network.now query tree → ⊥)
         (λ worst. IsLeastWorst network.now query.source.0 query.target.0 query.start.0 (Some worst)) }
-    ensures tables_fit { FitsTables network.now result.0 }
+    ensures tables_fit { FitsTables network.now tables → FitsTables network.now result.0 }
     ensures valid { IsValid network.now }
     ensures fits { B.fits order.new network.now }
 {
@@ -90,6 +91,77 @@ pub fn least_worst<B: BackwardOrder>(
     };
     let (_tables, worst) = least_worst_by(tables, network, order, &query);
     worst
+}
+
+// The least worst arrival, if it is by the deadline of the query, with tables that have room for the
+// connections up to it. The order is used up.
+fn reserved_worst_by<B: BackwardOrder>(
+    alloc: Global,
+    network: &Network,
+    order: &mut B,
+    query: &Query,
+) -> Result<Option<Moment>, NoMemory>
+    requires fits { B.fits order.old network.now }
+    requires whole { IsScanOrder network.now (B.rest order.old network.now) }
+    requires differ { query.now.source.0 ≢ query.now.target.0 }
+    ensures least { let query = query.now in
+        IfOk result (λ found. MatchOption found ((tree : Tree) → IsSafeFor network.now query tree → ⊥)
+        (λ worst. IsLeastWorst network.now query.source.0 query.target.0 query.start.0 (Some worst))) }
+    ensures valid { IfOk result (λ _. IsValid network.now) }
+    ensures fits { IfOk result (λ _. B.fits order.new network.now) }
+{
+    let tables: ScanTables<WorstMoment> = ScanTables::reserve_until(
+        alloc,
+        network,
+        query.deadline,
+    )?;
+    let (_tables, worst) = least_worst_by(tables, network, order, query);
+    Ok(worst)
+}
+
+/// The least worst arrival, as `least_worst` gives it. Its tables have room for the connections up to each
+/// deadline in turn, so that a long window takes no memory for those that leave too late to matter.
+/// Whatever is answered but `NoMemory`, the order still fits the network.
+pub fn reserved_worst<B: BackwardOrder>(
+    alloc: Global,
+    network: &Network,
+    order: &mut B,
+    source: PlaceId,
+    target: PlaceId,
+    start: Moment,
+) -> Result<Option<Moment>, NoMemory>
+    requires fits { B.fits order.old network.now }
+    requires whole { IsScanOrder network.now (B.rest order.old network.now) }
+    requires start { start.0 < end_of_time }
+    ensures least { IfOk result (IsLeastWorst network.now source.0 target.0 start.0) }
+    ensures order { IfOk result (λ found. IfSome found (λ worst. start.0 ≤ worst.0)) }
+    ensures early { IfOk result (λ found. IfSome found (λ worst. worst.0 < end_of_time)) }
+    ensures fits { IfOk result (λ _. B.fits order.new network.now) }
+{
+    if source.0 == target.0 {
+        return Ok(Some(start));
+    }
+    for hours in [2, 8] {
+        let query = Query {
+            source,
+            target,
+            start,
+            deadline: Moment(start.0 + SECONDS_PER_HOUR * hours),
+        };
+        let found = reserved_worst_by(alloc, network, order, &query)?;
+        if found.is_some() {
+            return Ok(found);
+        }
+        order.rewind(network);
+    }
+    let query = Query {
+        source,
+        target,
+        start,
+        deadline: LAST_MOMENT,
+    };
+    let worst = reserved_worst_by(alloc, network, order, &query)?;
+    Ok(worst)
 }
 
 /// The deadline: the start, and `alpha` percent of the time from it to the least worst arrival, rounded

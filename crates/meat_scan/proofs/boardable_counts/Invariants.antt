@@ -1,11 +1,11 @@
 use Rattle.std.proofs.Common.{◌≡◌, ℕ, ◌<◌, length, get_or, take, count_by}
 use Rattle.plan_model.specs.Network.{IsValid}
-use Rattle.meat_scan.specs.ScanTables.{has_way}
+use Rattle.meat_scan.specs.ScanTables.{is_boardable_by}
 use Rattle.meat_scan.proofs.boardable_counts.Given as goal
 
 abbrev pub invariant-loop-id : goal.invariant-loop-id
 invariant-loop-id l = record {
   valid : IsValid l.network;
   len : length l.room.items ≡ length l.network.change;
-  counts : (place : ℕ) → place < length l.network.change → get_or l.room.items place 0 ≡ count_by (λ c. has_way l.network place c.from.0) (take l.id l.network.connections);
+  counts : (place : ℕ) → place < length l.network.change → get_or l.room.items place 0 ≡ count_by (λ c. is_boardable_by l.network l.last.0 place c) (take l.id l.network.connections);
 }

@@ -1,18 +1,18 @@
 use Rattle.std.proofs.Common.{◌∙◌, sym, subst, arith, refl}
 use Rattle.stop_profile.proofs.Gaps.{written_back}
-use Rattle.meat_scan.specs.ScanTables.{FitsTables}
-use Rattle.meat_scan.proofs.States.{next_state, last_state, rules_end, id_there, room_for_run, room_for_rows, room_next, found_rows-profiles, skipped_state, skipped_room}
+use Rattle.meat_scan.specs.ScanTables.{FitsTablesBy}
+use Rattle.meat_scan.proofs.States.{next_state, last_state, rules_end, id_there, room_for_run, room_for_rows, room_next, found_rows-profiles, skipped_state}
 use Rattle.meat_scan.proofs.scan_all.Goals as goal
 
 pub loop-id-init : goal.loop-id-init
 loop-id-init g c =
-    let fit = subst (FitsTables c.args.network.now) (sym c.tables.view_is) c.requires.tables_fit in
+    let fit = subst (FitsTablesBy c.args.network.now c.args.query.now.deadline.0) (sym c.tables.view_is) c.requires.tables_fit in
     let rest = g.B.BackwardOrder.rest c.skip_after.new.self c.args.network.now in
     let order = g.B.BackwardOrder.rest c.args.order.now c.args.network.now in
     record {
       valid = fit.valid;
       fits = c.skip_after.ensures.fits;
-      room = skipped_room c.args.network.now c.args.query.now.deadline.0 order rest _ _ c.skip_after.ensures.up_to (fit.room order c.requires.whole);
+      room = fit.room order rest c.requires.whole c.skip_after.ensures.up_to;
       state = skipped_state g.V.Score.laws c.args.network.now fit.valid c.args.query.now order c.requires.whole _ _ fit.empty rest c.skip_after.ensures.up_to;
       same_capacity = λ place. refl;
       same_runs = refl;

@@ -13,8 +13,8 @@ returns-clause-solves g c =
     scanned.ensures.answers.begins c.leg_value-value.ensures
 
 pub returns-clause-tables_fit : goal.returns-clause-tables_fit
-returns-clause-tables_fit g c =
+returns-clause-tables_fit g c fit =
     let used = c.scan_all-tables in
     let made = c.emptied.ensures in
-    fits_again c.args.network.now c.args.tables c.emptied.result used.result.0.profiles c.requires.tables_fit made.empty made.spare
+    fits_again c.args.network.now c.args.tables c.emptied.result used.result.0.profiles fit made.empty made.spare
     used.ensures.capacity (made.places ∙ used.ensures.places) (made.runs ∙ used.ensures.runs)

@@ -2,7 +2,14 @@ use Rattle.std.proofs.Common.{refl}
 use Rattle.plan_model.specs.Bounds.{last_moment}
 use Rattle.plan_model.proofs.Laws.{LeastWorst-at_target}
 use Rattle.safe_arrival.proofs.Least.{least_by_last, not_before, not_late}
+use Rattle.meat_scan.proofs.Reserves.{fits_any}
 use Rattle.safe_arrival.proofs.least_worst.Goals as goal
+
+pub least_worst_by-again-requires-clause-tables_fit : goal.least_worst_by-again-requires-clause-tables_fit
+least_worst_by-again-requires-clause-tables_fit g c = fits_any c.args.network.now _ c.loop-hours.tables c.loop-hours.invariant.tables_fit
+
+pub least_worst_by-tables-requires-clause-tables_fit : goal.least_worst_by-tables-requires-clause-tables_fit
+least_worst_by-tables-requires-clause-tables_fit g c = fits_any c.args.network.now _ c.loop-hours.tables c.loop-hours.invariant.tables_fit
 
 pub returns-then-source-target-clause-least : goal.returns-then-source-target-clause-least
 returns-then-source-target-clause-least g c = LeastWorst-at_target c.args.network.now c.args.source.0 c.args.target.0 c.args.start c.if-source-target.true

@@ -1,12 +1,9 @@
-use Rattle.meat_scan.proofs.Reserves.{fits}
+use Rattle.std.proofs.Common.{arith}
+use Rattle.meat_scan.proofs.Reserves.{fits_all, fits_any}
 use Rattle.meat_scan.proofs.ScanTables.reserve.Goals as goal
 
-pub returns : goal.returns
-returns g c =
-    let network = c.args.network.now in
-    let room = c.in_ok-room.room.items in
-    let profiles = c.in_ok-profiles.profiles.items in
-    let value = c.deref.ensures.value in
-    fits network c.in_ok-room.ensures.valid c.runs.result c.runs.ensures.below room profiles c.in_ok-exits.exits c.in_ok-room.ensures.len c.in_ok-room.ensures.counts
-    (rw value at c.in_ok-profiles.ensures.len) c.in_ok-profiles.ensures.empty (rw value at c.in_ok-profiles.ensures.room)
-    c.in_ok-exits.ensures
+pub returns-clause-whole : goal.returns-clause-whole
+returns-clause-whole g c = fits_all c.args.network.now _ c.in_ok-tables.tables (omega arith) c.in_ok-tables.ensures
+
+pub returns-clause-by : goal.returns-clause-by
+returns-clause-by g c last = fits_any c.args.network.now last c.in_ok-tables.tables (fits_all c.args.network.now _ c.in_ok-tables.tables (omega arith) c.in_ok-tables.ensures)
