@@ -1,11 +1,12 @@
 -- A search that has a least worst arrival has a safe strategy.
-use Rattle.std.proofs.Common.{◌≡◌, Option, Some, None, ◌≤◌, MatchOption}
+use Rattle.std.proofs.Common.{◌≡◌, Option, Some, None, ◌≤◌, ℕ, MatchOption, subst}
 use Rattle.plan_model.specs.declared.model.Moment.{Moment}
 use Rattle.plan_model.specs.declared.model.Query.{Query}
 use Rattle.plan_model.specs.NetworkModel.{NetworkModel}
 use Rattle.plan_model.proofs.Laws.{safe_exists}
 use Rattle.decision_graph.specs.Expanded.{IsNoneSafe}
-use Rattle.journey_answers.specs.Answers.{IsWorst}
+use Rattle.journey_model.specs.declared.problem.Problem.{Problem}
+use Rattle.journey_answers.specs.Answers.{IsWorst, IsQueryOf, InQuery}
 
 -- where the deadline is not before the least worst arrival, some strategy is safe
 pub none_is_safe : (n : NetworkModel) (q : Query) (worst : Moment) → IsWorst n q worst → worst.0 ≤ q.deadline.0 → IsNoneSafe n q → ⊥
@@ -16,3 +17,8 @@ none_is_safe n q worst least late none =
 pub match_none : {A : Type 0} (o : Option A) (N : Type 0) (P : A → Type 0) → o ≡ None → MatchOption o N P → N
 match_none None N P is n = n
 match_none (Some a) N P is p = absurd (cc)
+
+-- what holds of the query of a journey and of its least worst arrival
+pub in_query : {known p : Problem} {start alpha : ℕ} {query : Query} {worst : Moment} (P : Problem → Query → Moment → Type 0) → known ≡ p
+    → IsQueryOf p start alpha query worst → P known query worst → InQuery p start alpha (P p)
+in_query {query = query} {worst = worst} P same is holds = (query, worst, is, subst (λ (q : Problem). P q query worst) same holds)

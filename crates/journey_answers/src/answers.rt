@@ -5,7 +5,7 @@ ghost use Rattle.plan_model.specs.Strategy.{IsLeastWorst};
 ghost use Rattle.decision_graph.specs.Planned.{IsPlanned};
 ghost use Rattle.decision_graph.specs.Expanded.{IsExpanded};
 ghost use Rattle.journey_answers.specs.Answers.{IsWorst, IsQueryOf, InQuery, IsPrintable, AnswersSafe, AnswersExpand, AnswersPlan, FailsIn};
-ghost use Rattle.journey_report.specs.Findings.{findings_of};
+ghost use Rattle.journey_report.specs.Findings.{findings_of, safe_findings};
 ghost use Rattle.plan_model.specs.Bounds.{end_of_time};
 
 use decision_graph::{Found, expand, plan};
@@ -21,6 +21,9 @@ use safe_arrival::{deadline, least_worst};
 use std::alloc::Global;
 use value_laws::WorstMoment;
 
+/// An answer; or the fault for which there is none.
+pub type Answered = Result<Answer, Fault>;
+
 /// A query of a problem, and the least worst arrival that its deadline follows from.
 #[derive(Clone, Copy)]
 pub struct Asked<'a> {
@@ -32,6 +35,19 @@ pub struct Asked<'a> {
     pub worst: Moment,
     /// That its places are the network's, and its moments have texts.
     pub ghost printable: { IsPrintable problem.now.timetable.network query worst },
+}
+
+impl<'a> Asked<'a> {
+    /// A report of the query and its least worst arrival.
+    pub fn report(&self) -> Report
+        ensures { findings_of result ≡ safe_findings self.now.query self.now.worst }
+    {
+        Report {
+            query: Some(self.query),
+            worst: Some(self.worst),
+            ..Report::empty()
+        }
+    }
 }
 
 /// The least worst arrival of a journey from a start on; `None` if no strategy always reaches the target.
@@ -66,18 +82,17 @@ fn worst_of<B: BackwardOrder>(
 /// The query of a journey from a start on, by a percentage for the deadline, with its least worst
 /// arrival, and an order for the scan that finds its graph. The percentage is of the time from the start to the
 /// least worst arrival. `NoSafe` if no strategy always reaches the target.
-pub fn asked_of(
+pub fn asked_of<'a>(
     alloc: Global,
-    problem: &Problem,
+    problem: &'a Problem,
     start: Start,
     alpha: Percent,
-) -> Result<(Query, Moment, MergedRuns), Fault>
+) -> Result<(Asked<'a>, MergedRuns), Fault>
+    ensures problem { IfOk result (λ found. found.0.problem.now ≡ problem.now) }
     ensures asked { IfOk result (λ found.
-        IsQueryOf problem.now start.moment.0 alpha.value found.0 found.1) }
-    ensures printable { IfOk result (λ found.
-        IsPrintable problem.now.timetable.network found.0 found.1) }
+        IsQueryOf problem.now start.moment.0 alpha.value found.0.query found.0.worst) }
     ensures fits { IfOk result (λ found.
-        ⟦<MergedRuns as BackwardOrder>⟧.fits found.2 problem.now.timetable.network) }
+        ⟦<MergedRuns as BackwardOrder>⟧.fits found.1 problem.now.timetable.network) }
     ensures fault { IfErr result (FailsIn problem.now start.moment.0) }
 {
     let mut order = MergedRuns::new(alloc, &problem.timetable.network)?;
@@ -90,24 +105,12 @@ pub fn asked_of(
         start: start.moment,
         deadline: deadline(start.moment, worst, alpha.value),
     };
-    Ok((query, worst, order))
-}
-
-/// The answer with the least worst arrival and the deadline.
-fn worst_answer(alloc: Global, asked: &Asked) -> Result<Answer, NoMemory>
-    ensures { IfOk result (λ a. AnswersSafe asked.now.problem.now (findings_of a.report) a.text.items
-        asked.now.query asked.now.worst) }
-{
-    let query = asked.query;
-    let names = &asked.problem.timetable.names;
-    let named = NamedQuery::new(names, query.source, query.target, query);
-    let text = safe_text(alloc, &named, asked.worst)?;
-    let report = Report {
-        query: Some(query),
-        worst: Some(asked.worst),
-        ..Report::empty()
+    let asked = Asked {
+        problem,
+        query,
+        worst,
     };
-    Ok(Answer { report, text })
+    Ok((asked, order))
 }
 
 /// The decision graph by ride of a query for which some strategy is safe, with its bounds.
@@ -164,21 +167,14 @@ fn expanded_answer(
         query: asked.query,
         bounds: found.value,
     };
-    let timetable = &asked.problem.timetable;
+    let network = &asked.problem.timetable.network;
+    let names = &asked.problem.timetable.names;
     ready_is_printable();
-    let text = write_expanded(
-        alloc,
-        &found.graph,
-        &head,
-        &timetable.network,
-        &timetable.names,
-    )?;
+    let text = write_expanded(alloc, &found.graph, &head, network, names)?;
     let report = Report {
-        query: Some(asked.query),
-        worst: Some(asked.worst),
         expanded: Some(found.graph),
-        bounds: Some(head.bounds),
-        ..Report::empty()
+        bounds: Some(found.value),
+        ..asked.report()
     };
     Ok(Answer { report, text })
 }
@@ -197,85 +193,51 @@ fn planned_answer(
         query: asked.query,
         bounds: found.value,
     };
-    let timetable = &asked.problem.timetable;
+    let network = &asked.problem.timetable.network;
+    let names = &asked.problem.timetable.names;
     fit_is_printable();
-    let text = write(
-        alloc,
-        &found.graph,
-        &head,
-        &timetable.network,
-        &timetable.names,
-    )?;
+    let text = write(alloc, &found.graph, &head, network, names)?;
     let report = Report {
-        query: Some(asked.query),
-        worst: Some(asked.worst),
         graph: Some(found.graph),
-        bounds: Some(head.bounds),
-        ..Report::empty()
+        bounds: Some(found.value),
+        ..asked.report()
     };
     Ok(Answer { report, text })
 }
 
 /// The least worst arrival of a journey and its deadline. `NoSafe` if no strategy always reaches the target.
-pub fn safe_over(
-    alloc: Global,
-    problem: &Problem,
-    start: Start,
-    alpha: Percent,
-) -> Result<Answer, Fault>
+pub fn safe_over(alloc: Global, problem: &Problem, start: Start, alpha: Percent) -> Answered
     ensures answer { IfOk result (λ a. InQuery problem.now start.moment.0 alpha.value
         (AnswersSafe problem.now (findings_of a.report) a.text.items)) }
     ensures fault { IfErr result (FailsIn problem.now start.moment.0) }
 {
-    let (query, worst, _) = asked_of(alloc, problem, start, alpha)?;
-    let asked = Asked {
-        problem,
-        query,
-        worst,
-    };
-    let answer = worst_answer(alloc, &asked)?;
-    Ok(answer)
+    let (asked, _) = asked_of(alloc, problem, start, alpha)?;
+    let query = asked.query;
+    let named = NamedQuery::new(&problem.timetable.names, query.source, query.target, query);
+    let text = safe_text(alloc, &named, asked.worst)?;
+    let report = asked.report();
+    Ok(Answer { report, text })
 }
 
 /// The decision graph of a journey, by ride. `NoSafe` if no strategy always reaches the target.
-pub fn expand_over(
-    alloc: Global,
-    problem: &Problem,
-    start: Start,
-    alpha: Percent,
-) -> Result<Answer, Fault>
+pub fn expand_over(alloc: Global, problem: &Problem, start: Start, alpha: Percent) -> Answered
     ensures answer { IfOk result (λ a. InQuery problem.now start.moment.0 alpha.value
         (AnswersExpand problem.now (findings_of a.report) a.text.items)) }
     ensures fault { IfErr result (FailsIn problem.now start.moment.0) }
 {
-    let (query, worst, mut order) = asked_of(alloc, problem, start, alpha)?;
-    let asked = Asked {
-        problem,
-        query,
-        worst,
-    };
+    let (asked, mut order) = asked_of(alloc, problem, start, alpha)?;
     let found = expanded_of(alloc, &mut order, &asked)?;
     let answer = expanded_answer(alloc, &asked, found)?;
     Ok(answer)
 }
 
 /// The decision graph of a journey, by place. `NoSafe` if no strategy always reaches the target.
-pub fn plan_over(
-    alloc: Global,
-    problem: &Problem,
-    start: Start,
-    alpha: Percent,
-) -> Result<Answer, Fault>
+pub fn plan_over(alloc: Global, problem: &Problem, start: Start, alpha: Percent) -> Answered
     ensures answer { IfOk result (λ a. InQuery problem.now start.moment.0 alpha.value
         (AnswersPlan problem.now (findings_of a.report) a.text.items)) }
     ensures fault { IfErr result (FailsIn problem.now start.moment.0) }
 {
-    let (query, worst, mut order) = asked_of(alloc, problem, start, alpha)?;
-    let asked = Asked {
-        problem,
-        query,
-        worst,
-    };
+    let (asked, mut order) = asked_of(alloc, problem, start, alpha)?;
     let found = planned_of(alloc, &mut order, &asked)?;
     let answer = planned_answer(alloc, &asked, found)?;
     Ok(answer)

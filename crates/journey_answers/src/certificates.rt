@@ -4,53 +4,31 @@ ghost use Rattle.journey_answers.specs.Answers.{InQuery, FailsIn};
 ghost use Rattle.journey_answers.specs.Certified.{AnswersCertify};
 ghost use Rattle.journey_report.specs.Findings.{findings_of};
 
-use crate::answers::{Asked, asked_of};
-use journey_model::{Fault, Percent, Problem, Start};
+use crate::answers::{Answered, asked_of};
+use journey_model::{Percent, Problem, Start};
 use journey_report::{Answer, Report};
 use lower_proof::{write, write_text};
-use plan_model::NoMemory;
 use std::alloc::Global;
 
-/// The answer with the certificate of a query.
-fn certified_answer(alloc: Global, asked: &Asked) -> Result<Answer, NoMemory>
-    ensures { IfOk result (λ a. AnswersCertify asked.now.problem.now (findings_of a.report)
-        a.text.items asked.now.query asked.now.worst) }
-{
-    let timetable = &asked.problem.timetable;
-    let proof = write(alloc, &timetable.network, &asked.query)?;
-    let text = write_text(
-        alloc,
-        &proof,
-        &asked.query,
-        &timetable.network,
-        &timetable.names,
-    )?;
-    let report = Report {
-        query: Some(asked.query),
-        worst: Some(asked.worst),
-        proof: Some(proof),
-        ..Report::empty()
-    };
-    Ok(Answer { report, text })
-}
-
 /// The certificate of a journey: that of the query of `plan`. `NoSafe` if no strategy always reaches the target.
-pub fn certify_over(
-    alloc: Global,
-    problem: &Problem,
-    start: Start,
-    alpha: Percent,
-) -> Result<Answer, Fault>
+pub fn certify_over(alloc: Global, problem: &Problem, start: Start, alpha: Percent) -> Answered
     ensures answer { IfOk result (λ a. InQuery problem.now start.moment.0 alpha.value
         (AnswersCertify problem.now (findings_of a.report) a.text.items)) }
     ensures fault { IfErr result (FailsIn problem.now start.moment.0) }
 {
-    let (query, worst, _) = asked_of(alloc, problem, start, alpha)?;
-    let asked = Asked {
-        problem,
-        query,
-        worst,
+    let (asked, _) = asked_of(alloc, problem, start, alpha)?;
+    let network = &problem.timetable.network;
+    let proof = write(alloc, network, &asked.query)?;
+    let text = write_text(
+        alloc,
+        &proof,
+        &asked.query,
+        network,
+        &problem.timetable.names,
+    )?;
+    let report = Report {
+        proof: Some(proof),
+        ..asked.report()
     };
-    let answer = certified_answer(alloc, &asked)?;
-    Ok(answer)
+    Ok(Answer { report, text })
 }

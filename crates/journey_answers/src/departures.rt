@@ -12,6 +12,7 @@ ghost use Rattle.journey_answers.specs.ByRules.{IsRuled, AreByRules, added_query
 ghost use Rattle.journey_answers.specs.Departures.{query_until, SafeOf, AreDepartures, HasSafeFor, IsUntil, AnswersDepartures, AnswersLatest, FailsDepartures, FailsLatest};
 ghost use Rattle.journey_report.specs.Findings.{findings_of};
 
+use crate::answers::Answered;
 use departure_table::{DepartureRow, extended, greatest, says_of_source, table};
 use journey_model::{Fault, Problem, Start};
 use journey_report::{Answer, NamedQuery, Report, departures_text, latest_text};
@@ -206,7 +207,7 @@ pub fn departures_over(
     start: Start,
     until: Moment,
     last: Moment,
-) -> Result<Answer, Fault>
+) -> Answered
     requires until { IsLater start.moment.0 until.0 }
     requires last { IsLater start.moment.0 last.0 }
     ensures answer { IfOk result (λ a. AnswersDepartures problem.now
@@ -227,12 +228,7 @@ pub fn departures_over(
 
 /// The latest moment at which one can leave on a journey and be sure to arrive by the deadline. `NoSafe`
 /// comes exactly where there is none.
-pub fn latest_over(
-    alloc: Global,
-    problem: &Problem,
-    start: Start,
-    until: Moment,
-) -> Result<Answer, Fault>
+pub fn latest_over(alloc: Global, problem: &Problem, start: Start, until: Moment) -> Answered
     requires { IsLater start.moment.0 until.0 }
     ensures answer { IfOk result (λ a. AnswersLatest problem.now
         (query_until problem.now start.moment.0 until.0) (findings_of a.report) a.text.items) }

@@ -16,7 +16,7 @@ mod read_graph;
 mod scores;
 mod trips;
 
-pub use answers::{Asked, asked_of, expand_over, plan_over, planned_of, safe_over};
+pub use answers::{Answered, Asked, asked_of, expand_over, plan_over, planned_of, safe_over};
 pub use certificates::certify_over;
 pub use checks::{ReadCertificate, check_over};
 pub use departures::{departures_over, latest_over};

@@ -12,12 +12,12 @@ ghost use Rattle.journey_answers.specs.Answers.{InQuery, FailsIn};
 ghost use Rattle.journey_report.specs.Findings.{findings_of, punctual_findings};
 ghost use Rattle.journey_answers.specs.Punctual.{IsPunctualText, AnswersPunctual};
 
-use crate::answers::{Asked, asked_of};
+use crate::answers::{Answered, Asked, asked_of};
 use decision_graph::{Found, PromisedQuery, punctual_plan};
 use graph_score::{Outlook, score_fit};
 use graph_text::{Head, fit_is_printable, write};
 use interval_fixed::Span;
-use journey_model::{Fault, Percent, Problem, Start};
+use journey_model::{Percent, Problem, Start};
 use journey_report::{Answer, Report, punctual_row};
 use late_chance::LateChance;
 use plan_graph::PlanGraph;
@@ -85,16 +85,11 @@ fn punctual_text(
         query: promise.asked.query,
         bounds,
     };
-    let timetable = &promise.asked.problem.timetable;
+    let network = &promise.asked.problem.timetable.network;
+    let names = &promise.asked.problem.timetable.names;
     fit_is_printable();
     let mut text = punctual_row(alloc, promise.moment, found.value)?;
-    let graph = write(
-        alloc,
-        &found.graph,
-        &head,
-        &timetable.network,
-        &timetable.names,
-    )?;
+    let graph = write(alloc, &found.graph, &head, network, names)?;
     text.extend_from_slice(graph.as_slice())?;
     Ok(text)
 }
@@ -115,12 +110,10 @@ fn punctual_answer(
 {
     let text = punctual_text(alloc, promise, &found, bounds)?;
     let report = Report {
-        query: Some(promise.asked.query),
-        worst: Some(promise.asked.worst),
         graph: Some(found.graph),
         bounds: Some(bounds),
         chance: Some(found.value),
-        ..Report::empty()
+        ..promise.asked.report()
     };
     Ok(Answer { report, text })
 }
@@ -133,19 +126,14 @@ pub fn punctual_over(
     start: Start,
     alpha: Percent,
     promise: Moment,
-) -> Result<Answer, Fault>
+) -> Answered
     requires later { start.moment.0 ≤ promise.0 }
     requires soon { promise.0 ≤ start.moment.0 + seconds_per_week }
     ensures answer { IfOk result (λ a. InQuery problem.now start.moment.0 alpha.value
         (AnswersPunctual problem.now promise.0 (findings_of a.report) a.text.items)) }
     ensures fault { IfErr result (FailsIn problem.now start.moment.0) }
 {
-    let (query, worst, _) = asked_of(alloc, problem, start, alpha)?;
-    let asked = Asked {
-        problem,
-        query,
-        worst,
-    };
+    let (asked, _) = asked_of(alloc, problem, start, alpha)?;
     let promise = Promise {
         asked,
         moment: promise,

@@ -26,17 +26,18 @@ fn enclosed_answer(alloc: Global, read: ReadGraph, bounds: Span) -> Result<Answe
         (place_name read.entry.problem.now.timetable.names read.entry.problem.now.target.0)
         read.entry.head.query bounds) }
 {
-    let ReadGraph {
-        problem,
-        head,
-        graph,
-    } = read;
-    let names = &problem.timetable.names;
-    let named = NamedQuery::new(names, problem.source, problem.target, head.query);
+    let problem = read.problem;
+    let query = read.head.query;
+    let named = NamedQuery::new(
+        &problem.timetable.names,
+        problem.source,
+        problem.target,
+        query,
+    );
     let text = encloses_text(alloc, &named, bounds)?;
     let report = Report {
-        query: Some(head.query),
-        graph: Some(graph),
+        query: Some(query),
+        graph: Some(read.graph),
         bounds: Some(bounds),
         ..Report::empty()
     };

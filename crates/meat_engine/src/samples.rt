@@ -2,6 +2,7 @@
 ghost use Rattle.std.specs.Prelude.{◌≡◌, ◌≢◌, ◌≤◌, None, IfOk, IfErr};
 ghost use Rattle.command_line.specs.Shown.{journey_shown};
 ghost use Rattle.command_line.specs.Values.{least_size, most_size};
+ghost use Rattle.decision_graph.specs.Planned.{IsPlanned};
 ghost use Rattle.journey_model.specs.Faults.{unread_input};
 ghost use Rattle.journey_model.specs.declared.faults.Fault.{Fault};
 ghost use Rattle.journey_problem.specs.FaultsBeforeSearch.{IsBeforeSearch};
@@ -9,17 +10,20 @@ ghost use Rattle.journey_problem.specs.Problems.{HasTimetable, IsProblem, IsProb
 ghost use Rattle.journey_answers.specs.Answers.{FailsIn};
 ghost use Rattle.journey_report.specs.Findings.{findings_of};
 ghost use Rattle.meat_engine.specs.Refusals.{IsRefusalBy};
-ghost use Rattle.meat_engine.specs.Samples.{sample_journey, IsSampled, OverMade, AnswersSample, FailsSample};
+ghost use Rattle.meat_engine.specs.Samples.{sample_journey, AnswersSampled, IsSampled, OverMade, AnswersSample, FailsSample};
 
 use crate::refusal::Refusal;
 use command_line::{Journey, Timetable};
 use csv_rows::Limits;
+use decision_graph::Found;
 use feed_maker::MadeFiles;
+use interval_fixed::Span;
 use journey_answers::{Asked, asked_of, planned_of};
 use journey_model::{Fault, Percent, Problem, Start};
 use journey_problem::problem_of;
 use journey_report::{Answer, Report, sample_text};
-use plan_model::Moment;
+use plan_graph::PlanGraph;
+use plan_model::{Moment, NoMemory};
 use std::alloc::Global;
 
 /// The percentage for the deadline of `sample`.
@@ -47,6 +51,28 @@ pub(crate) struct SampleSize {
     pub ghost high: { value ≤ most_size },
 }
 
+/// The answer of `sample` with a decision graph.
+fn sampled_answer(
+    alloc: Global,
+    size: SampleSize,
+    asked: &Asked,
+    found: Found<PlanGraph, Span>,
+) -> Result<Answer, NoMemory>
+    requires { IsPlanned asked.now.problem.now.timetable.network asked.now.query found.graph found.value }
+    ensures { IfOk result (λ a. AnswersSampled size.value asked.now.problem.now (findings_of a.report)
+        a.text.items asked.now.query asked.now.worst) }
+{
+    let connections = asked.problem.timetable.network.count();
+    let text = sample_text(alloc, size.value, connections, &found.graph, found.value)?;
+    let report = Report {
+        graph: Some(found.graph),
+        bounds: Some(found.value),
+        connections: Some(connections),
+        ..asked.report()
+    };
+    Ok(Answer { report, text })
+}
+
 /// The answer of `sample` in the problem of a made timetable of this size. `NoSafe` if no strategy always reaches the
 /// target.
 fn sample_in(
@@ -64,24 +90,10 @@ fn sample_in(
     let alpha = Percent {
         value: SAMPLE_ALPHA,
     };
-    let (query, worst, mut order) = asked_of(alloc, problem, start, alpha)?;
-    let asked = Asked {
-        problem,
-        query,
-        worst,
-    };
+    let (asked, mut order) = asked_of(alloc, problem, start, alpha)?;
     let found = planned_of(alloc, &mut order, &asked)?;
-    let connections = problem.timetable.network.count();
-    let text = sample_text(alloc, size.value, connections, &found.graph, found.value)?;
-    let report = Report {
-        query: Some(query),
-        worst: Some(worst),
-        graph: Some(found.graph),
-        bounds: Some(found.value),
-        connections: Some(connections),
-        ..Report::empty()
-    };
-    Ok(Answer { report, text })
+    let answer = sampled_answer(alloc, size, &asked, found)?;
+    Ok(answer)
 }
 
 /// The problem of `sample` in the made timetable of this size, which goes then.
