@@ -4,7 +4,7 @@
 //! of that name; then what it was lent is as it was, unless its own comment says otherwise.
 #![tactic(auto)]
 
-ghost use Rattle.std.specs.Prelude.{◌≡◌, ◌+◌, ◌-◌, ◌<◌, ◌≤◌, [], All, IfSome, IfOk, IfErr};
+ghost use Rattle.std.specs.Prelude.{◌≡◌, ◌+◌, ◌-◌, ◌<◌, ◌≤◌, [], All, Some, IfSome, IfOk, IfErr};
 ghost use Rattle.std.specs.Option.{option_map};
 ghost use Rattle.plan_model.specs.Network.{count, to_of};
 ghost use Rattle.plan_model.specs.Strategy.{IsSafeFor};
@@ -73,7 +73,6 @@ impl From<NoMemory> for ReplayFault {
 }
 
 impl fmt::Display for ReplayFault {
-    ghost use Rattle.std.specs.Prelude.{Some};
     ghost use Rattle.trip_replay.specs.FaultTexts.{replay_fault_text};
 
     ghost output = { λ fault. Some (replay_fault_text fault) };

@@ -20,10 +20,9 @@ returns-then-eq-clause-walk c =
     let n = c.args.network.now in
     let choice = by_place n (pick_at c.args.graph.now.tables) in
     let s = c.loop-delay.position in
-    let target = c.args.query.now.target.0 in
     c.loop-delay.invariant.walk
-    ∙ too_many n target choice s c.loop-delay.rides c.args.delays.now c.loop-delay.delay-index
-    (eqb-true s.place.0 target (sym c.eq.ensures ∙ c.if-eq.true)) c.loop-delay-test.true
+    ∙ too_many n c.args.query.now.target.0 choice s c.loop-delay.rides c.args.delays.now c.loop-delay.delay-index
+    (eqb-true _ _ (sym c.eq.ensures ∙ c.if-eq.true)) c.loop-delay-test.true
     ∙ ap (λ (k : ℕ). Err (fault.TooMany k)) (sym c.len.ensures)
 
 pub returns-in_default-arrival_of-clause-walk : goal.returns-in_default-arrival_of-clause-walk
@@ -31,11 +30,10 @@ returns-in_default-arrival_of-clause-walk c =
     let n = c.args.network.now in
     let choice = by_place n (pick_at c.args.graph.now.tables) in
     let s = c.loop-delay.position in
-    let target = c.args.query.now.target.0 in
     let none = sym c.arrival_of.ensures ∙ ap (λ (o : Option Moment). option_map (λ moment. moment.0) o) c.in_default-arrival_of.is in
     c.loop-delay.invariant.walk
-    ∙ not_a_delay n target choice s c.loop-delay.rides c.args.delays.now c.loop-delay.delay-index c.in-Some.leg 0
-    (eqb-false s.place.0 target (sym c.eq.ensures ∙ c.if-eq.false)) c.in-Some.is c.loop-delay-test.true none
+    ∙ not_a_delay n c.args.query.now.target.0 choice s c.loop-delay.rides c.args.delays.now c.loop-delay.delay-index c.in-Some.leg 0
+    (eqb-false _ _ (sym c.eq.ensures ∙ c.if-eq.false)) c.in-Some.is c.loop-delay-test.true none
     ∙ ap (λ (k : ℕ). Err (fault.NotADelay (k + 1))) (sym c.len-in_default-arrival_of.ensures)
 
 pub loop-delay-preserved : goal.loop-delay-preserved
