@@ -287,26 +287,19 @@ module _ (limits : Limits) (r s : RunModel) (first : IsRunWithin limits r) (seco
       let (q, worst, asked, (graph, span, found, expanded, text)) = first_over files j (Expand alpha) (Plan alpha) both p is (of_first files j (Expand alpha) (Plan alpha) both well.first) in
       let (t, w, also, plans) = second_over files j (Expand alpha) (Plan alpha) both p is other in
       let (table, spans, found_too, planned, printed, reads) = in_one_query p j.start alpha (AnswersPlan p (findings_of s.report) other.text) q t worst w asked also plans in
-      let first_query : r.report.query ≡ Some q = ap (λ (f : Findings). f.query) found in
-      let first_rides : r.report.expanded ≡ Some graph = ap (λ (f : Findings). f.expanded) found in
-      let first_bounds : r.report.bounds ≡ Some span = ap (λ (f : Findings). f.bounds) found in
-      let second_places : s.report.graph ≡ Some table = ap (λ (f : Findings). f.graph) found_too in
-      let second_bounds : s.report.bounds ≡ Some spans = ap (λ (f : Findings). f.bounds) found_too in
-      let same_query = one_some q query r.report.query first_query query_is in
-      let same_rides = one_some graph rides r.report.expanded first_rides rides_is in
-      let same_places = one_some table places s.report.graph second_places places_is in
-      let same_bounds = one_some span bounds r.report.bounds first_bounds bounds_is in
-      let same_others = one_some spans others s.report.bounds second_bounds others_is in
+      let same_query = one_some q query r.report.query (ap (λ (f : Findings). f.query) found) query_is in
+      let same_rides = one_some graph rides r.report.expanded (ap (λ (f : Findings). f.expanded) found) rides_is in
+      let same_places = one_some table places s.report.graph (ap (λ (f : Findings). f.graph) found_too) places_is in
+      let same_bounds = one_some span bounds r.report.bounds (ap (λ (f : Findings). f.bounds) found) bounds_is in
+      let same_others = one_some spans others s.report.bounds (ap (λ (f : Findings). f.bounds) found_too) others_is in
       one_strategy p.timetable.network query rides places bounds others (rw (sym same_query, sym same_rides, sym same_bounds) expanded) (rw (sym same_query, sym same_places, sym same_others) planned)
 
   promise_is_sure : PromiseIsSure r
   promise_is_sure files old said j alpha promise query chance one query_is chance_is by =
       let w = answered limits files old said r first one.untroubled j (Punctual alpha promise) one.asks one.no_fault in
       let (q, v, asked, (graph, least, bounds, found, punctual, seen, scored, printed)) = w.answers in
-      let own_query : r.report.query ≡ Some q = ap (λ (f : Findings). f.query) found in
-      let own_chance : r.report.chance ≡ Some least = ap (λ (f : Findings). f.chance) found in
-      let same_query = one_some q query r.report.query own_query query_is in
-      let same_chance = one_some least chance r.report.chance own_chance chance_is in
+      let same_query = one_some q query r.report.query (ap (λ (f : Findings). f.query) found) query_is in
+      let same_chance = one_some least chance r.report.chance (ap (λ (f : Findings). f.chance) found) chance_is in
       no_chance w.p.timetable.network query promise graph chance (rw (sym same_query, sym same_chance) punctual) by
 
   worst_is_kept : WorstIsKept limits r
@@ -314,12 +307,9 @@ module _ (limits : Limits) (r s : RunModel) (first : IsRunWithin limits r) (seco
       let w = answered limits files old said r first one.untroubled j (Plan alpha) one.asks one.no_fault in
       let (q, v, asked, (table, bounds, found, planned, printed, reads)) =
       subst (λ (x : Problem). AnswersAsk (Some files) limits j.start x (Plan alpha) (findings_of r.report) w.text) (one_problem limits files j w.p p w.is_problem is) w.answers in
-      let own_query : r.report.query ≡ Some q = ap (λ (f : Findings). f.query) found in
-      let own_graph : r.report.graph ≡ Some table = ap (λ (f : Findings). f.graph) found in
-      let own_worst : r.report.worst ≡ Some v = ap (λ (f : Findings). f.worst) found in
-      let same_query = one_some q query r.report.query own_query query_is in
-      let same_graph = one_some table graph r.report.graph own_graph graph_is in
-      let same_worst = one_some v query.deadline r.report.worst own_worst arrives in
+      let same_query = one_some q query r.report.query (ap (λ (f : Findings). f.query) found) query_is in
+      let same_graph = one_some table graph r.report.graph (ap (λ (f : Findings). f.graph) found) graph_is in
+      let same_worst = one_some v query.deadline r.report.worst (ap (λ (f : Findings). f.worst) found) arrives in
       let least = subst (λ (m : Moment). IsLeastWorst p.timetable.network q.source.0 q.target.0 q.start.0 (Some m)) same_worst asked.least in
       let own_least = subst (λ (z : Query). IsLeastWorst p.timetable.network z.source.0 z.target.0 z.start.0 (Some query.deadline)) same_query least in
       worst_kept p.timetable.network query graph bounds (rw (sym same_query, sym same_graph) planned) own_least
@@ -330,14 +320,10 @@ module _ (limits : Limits) (r s : RunModel) (first : IsRunWithin limits r) (seco
       let x = second_over files j (Plan alpha) (Plan beta) both w.p w.is_problem (of_second files j (Plan alpha) (Plan beta) both well.second) in
       let (q, v, asked, (graph, span, found, planned, printed, reads)) = w.answers in
       let (t, u, also, (table, spans, found_too, planned_too, printed_too, reads_too)) = x in
-      let own_query : r.report.query ≡ Some q = ap (λ (f : Findings). f.query) found in
-      let own_bounds : r.report.bounds ≡ Some span = ap (λ (f : Findings). f.bounds) found in
-      let own_other : s.report.query ≡ Some t = ap (λ (f : Findings). f.query) found_too in
-      let own_later : s.report.bounds ≡ Some spans = ap (λ (f : Findings). f.bounds) found_too in
-      let same_query = one_some q query r.report.query own_query query_is in
-      let same_other = one_some t other s.report.query own_other other_is in
-      let same_bounds = one_some span bounds r.report.bounds own_bounds bounds_is in
-      let same_later = one_some spans later s.report.bounds own_later later_is in
+      let same_query = one_some q query r.report.query (ap (λ (f : Findings). f.query) found) query_is in
+      let same_other = one_some t other s.report.query (ap (λ (f : Findings). f.query) found_too) other_is in
+      let same_bounds = one_some span bounds r.report.bounds (ap (λ (f : Findings). f.bounds) found) bounds_is in
+      let same_later = one_some spans later s.report.bounds (ap (λ (f : Findings). f.bounds) found_too) later_is in
       let same : (field : Query → ℕ) → field t ≡ field q → field other ≡ field query = λ field is. ap field (sym same_other) ∙ is ∙ ap field same_query in
       no_worse w.p.timetable.network query other graph table bounds later (rw (sym same_query, sym same_bounds) planned) (rw (sym same_other, sym same_later) planned_too)
       (same (λ z. z.source.0) (also.source ∙ sym asked.source)) (same (λ z. z.target.0) (also.target ∙ sym asked.target)) (same (λ z. z.start.0) (also.start_is ∙ sym asked.start_is)) by
@@ -350,11 +336,9 @@ module _ (limits : Limits) (r s : RunModel) (first : IsRunWithin limits r) (seco
       let (table, found_too, are, safe, printed_too) = x in
       let q = query_until w.p j.start until in
       let own_query : r.report.query ≡ Some (query_until w.p j.start until) = ap (λ (f : Findings). f.query) found in
-      let own_latest : r.report.latest ≡ Some moment = ap (λ (f : Findings). f.latest) found in
-      let own_rows : s.report.departures ≡ Some table = ap (λ (f : Findings). f.departures) found_too in
       let same_query = one_some (query_until w.p j.start until) query r.report.query own_query query_is in
-      let same_latest = one_some moment latest r.report.latest own_latest latest_is in
-      let same_rows = one_some table rows s.report.departures own_rows rows_is in
+      let same_latest = one_some moment latest r.report.latest (ap (λ (f : Findings). f.latest) found) latest_is in
+      let same_rows = one_some table rows s.report.departures (ap (λ (f : Findings). f.departures) found_too) rows_is in
       let apart = λ (e : w.p.source.0 ≡ w.p.target.0). differ (ap (λ (z : Query). z.source.0) (sym same_query) ∙ e ∙ ap (λ (z : Query). z.target.0) same_query) in
       of_last_row w.p.timetable.network w.p.source.0 (query_until w.p j.start until) j.start last rows latest (rw (sym same_rows) (are.table apart)) (rw (sym same_latest) greatest) before
 

@@ -74,6 +74,13 @@ one_last n valid q values c d a b = elim (cases_eq c d) [
   ]
 ]
 
+-- two faults, each of a file or of what it holds, are one if both are of the file, or both of what it holds, and never one of each
+one_cause : {A B C D E : Type 0} → (A → B → E) → (A → D → ⊥) → (B → C → ⊥) → (C → D → E) → A ⊎ C → B ⊎ D → E
+one_cause files left right held (inl a) (inl b) = files a b
+one_cause files left right held (inl a) (inr d) = absurd (left a d)
+one_cause files left right held (inr c) (inl b) = absurd (right b c)
+one_cause files left right held (inr c) (inr d) = held c d
+
 module _ (p : Problem) (files : FileMap) (limits : Limits) (start : ℕ) where
   -- ---- graph files
 
@@ -90,6 +97,9 @@ module _ (p : Problem) (files : FileMap) (limits : Limits) (start : ℕ) where
     graph_fault : (fault : Fault) → NotRead fault → FailsGraph (Some files) limits start path p fault → graph_read ≡ Err fault
     graph_fault fault never fails = subst (λ (u : Option Input). graph_in limits p start u (file_at files path) ≡ Err fault) (none_unread fault never) fails.1
 
+    one_graph_fault : (a b : Fault) → NotRead a → NotRead b → FailsGraph (Some files) limits start path p a → FailsGraph (Some files) limits start path p b → a ≡ b
+    one_graph_fault a b m n is also = one_err graph_read a b (graph_fault a m is) (graph_fault b n also)
+
     -- a graph that is read excludes a fault of the file
     of_graph : (P : Head → PlanGraph → Type 0) (fault : Fault) → NotRead fault → FailsGraph (Some files) limits start path p fault → InGraphFile (Some files) limits start path p P → ⊥
     of_graph P fault never fails (head, graph, is, holds) = never_both graph_read (head, graph) fault is.reads (graph_fault fault never fails)
@@ -99,10 +109,9 @@ module _ (p : Problem) (files : FileMap) (limits : Limits) (start : ℕ) where
         is.fault_is ∙ ap (λ (stop : ReplayFault). Replay stop) (one_err (trip_by p head graph late) is.stop also.stop is.trip also.trip) ∙ sym also.fault_is
 
     one_replay_fault : (late : List ℕ) (a b : Fault) → NotRead a → NotRead b → FailsReplay (Some files) limits start path late p a → FailsReplay (Some files) limits start path late p b → a ≡ b
-    one_replay_fault late a b m n (inl is) (inl also) = one_err graph_read a b (graph_fault a m is) (graph_fault b n also)
-    one_replay_fault late a b m n (inl is) (inr also) = absurd (of_graph (IsTripFault p late b) a m is also)
-    one_replay_fault late a b m n (inr is) (inl also) = absurd (of_graph (IsTripFault p late a) b n also is)
-    one_replay_fault late a b m n (inr is) (inr also) = in_graph p files limits start path (IsTripFault p late a) (IsTripFault p late b) (a ≡ b) (one_trip_fault late a b) is also
+    one_replay_fault late a b m n =
+        one_cause (one_graph_fault a b m n) (of_graph (IsTripFault p late b) a m) (of_graph (IsTripFault p late a) b n)
+        (in_graph p files limits start path (IsTripFault p late a) (IsTripFault p late b) (a ≡ b) (one_trip_fault late a b))
 
     reported_or_stopped : (late : List ℕ) (found : Findings) (text : List ℕ) (a : Fault) (head : Head) (graph : PlanGraph) → AnswersReplay p late found text head graph → IsTripFault p late a head graph → ⊥
     reported_or_stopped late found text a head graph reported stopped = never_both (trip_by p head graph late) reported.trace stopped.stop reported.trip stopped.trip
@@ -119,10 +128,9 @@ module _ (p : Problem) (files : FileMap) (limits : Limits) (start : ℕ) where
         is ∙ same ∙ sym also
 
     one_score_fault : (a b : Fault) → NotRead a → NotRead b → FailsScore (Some files) limits start path p a → FailsScore (Some files) limits start path p b → a ≡ b
-    one_score_fault a b m n (inl is) (inl also) = one_err graph_read a b (graph_fault a m is) (graph_fault b n also)
-    one_score_fault a b m n (inl is) (inr also) = absurd (of_graph (IsUnsafeGraph p b) a m is also)
-    one_score_fault a b m n (inr is) (inl also) = absurd (of_graph (IsUnsafeGraph p a) b n also is)
-    one_score_fault a b m n (inr is) (inr also) = in_graph p files limits start path (IsUnsafeGraph p a) (IsUnsafeGraph p b) (a ≡ b) (one_unsafe a b) is also
+    one_score_fault a b m n =
+        one_cause (one_graph_fault a b m n) (of_graph (IsUnsafeGraph p b) a m) (of_graph (IsUnsafeGraph p a) b n)
+        (in_graph p files limits start path (IsUnsafeGraph p a) (IsUnsafeGraph p b) (a ≡ b) (one_unsafe a b))
 
     scored_or_unsafe : (found : Findings) (text : List ℕ) (a : Fault) (head : Head) (graph : PlanGraph) → IsEnclosed p found text head graph → IsUnsafeGraph p a head graph → ⊥
     scored_or_unsafe found text a head graph reported (place, moment, is, unsafe) = unsafe.unsafe reported.scored.safe
@@ -171,10 +179,9 @@ module _ (p : Problem) (files : FileMap) (limits : Limits) (start : ℕ) where
         is ∙ fault ∙ sym also
 
     one_check_fault : (a b : Fault) → NotRead a → NotRead b → FailsCheck (Some files) limits start path p a → FailsCheck (Some files) limits start path p b → a ≡ b
-    one_check_fault a b m n (inl is) (inl also) = one_file_fault bytes_read a b (proof_fault a m is) (proof_fault b n also)
-    one_check_fault a b m n (inl is) (inr also) = absurd (of_proof (IsBroken p b) a m is also)
-    one_check_fault a b m n (inr is) (inl also) = absurd (of_proof (IsBroken p a) b n also is)
-    one_check_fault a b m n (inr is) (inr also) = in_proof p files limits start path (IsBroken p a) (IsBroken p b) (a ≡ b) (one_broken a b) is also
+    one_check_fault a b m n =
+        one_cause (λ is also. one_file_fault bytes_read a b (proof_fault a m is) (proof_fault b n also)) (of_proof (IsBroken p b) a m) (of_proof (IsBroken p a) b n)
+        (in_proof p files limits start path (IsBroken p a) (IsBroken p b) (a ≡ b) (one_broken a b))
 
     held_or_broken : (found : Findings) (text : List ℕ) (a : Fault) (q : Query) (proof : LowerBounds) → IsHeld p found text q proof → IsBroken p a q proof → ⊥
     held_or_broken found text a q proof held (c, is, last) = last.fault (held.accepted c.0 last.there last.board)
