@@ -1,5 +1,5 @@
 //! What a line of words asks for.
-ghost use Rattle.std.specs.Prelude.{◌≡◌, ◌≤◌, ◌+◌, map, string_bytes, option_map, option_and_then, unwrap_or, IfOk, IfSome};
+ghost use Rattle.std.specs.Prelude.{◌≡◌, ◌≤◌, ◌+◌, map, string_bytes, option_map, option_and_then, unwrap_or, Some, IfOk, IfSome};
 ghost use Rattle.command_line.specs.Jobs.{promise_of, later_of, alpha_of, horizon_of, size_of, timetable_of, journey_of, check_of, ask_of, wanted_of, job_of};
 ghost use Rattle.command_line.specs.Ranges.{HasHorizon, IsJourney, IsAsk, IsJob};
 ghost use Rattle.command_line.specs.Settings.{value_of};
@@ -37,7 +37,6 @@ pub enum WordsFault {
 }
 
 impl fmt::Display for WordsFault {
-    ghost use Rattle.std.specs.Prelude.{Some};
     ghost use Rattle.command_line.specs.FaultTexts.{words_fault_text};
 
     ghost output = { λ fault. Some (words_fault_text fault) };
