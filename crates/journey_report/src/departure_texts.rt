@@ -4,7 +4,7 @@ ghost use Rattle.departure_table.specs.Departures.{IsDepartureRow};
 ghost use Rattle.journey_model.specs.Sites.{last_printable};
 ghost use Rattle.journey_report.specs.DepartureTexts.{departures_head, departure_text, rows_text, departures_text, latest_text};
 
-use crate::texts::{NamedQuery, row};
+use crate::texts::{NamedQuery, moments_row, row};
 use clock_text::{write_moment, write_nanos};
 use departure_table::DepartureRow;
 use itoa::Buffer;
@@ -51,9 +51,7 @@ fn departure_text(
     ensures { IfOk result (λ text.
         text.items ≡ departure_text timetable.now.network timetable.now.names departure.now) }
 {
-    let network = &timetable.network;
-    let names = &timetable.names;
-    let enter = network.get(departure.leg.enter);
+    let enter = timetable.network.get(departure.leg.enter);
     let by = write_moment(departure.by);
     let mut digits = Buffer::new();
     let lower = write_nanos(departure.bounds.lo());
@@ -63,7 +61,7 @@ fn departure_text(
         &[
             b"row".as_slice(),
             by.as_slice(),
-            names.run_name(enter.run).as_bytes(),
+            timetable.names.run_name(enter.run).as_bytes(),
             digits.format(enter.step).as_bytes(),
             lower.as_slice(),
             upper.as_slice(),
@@ -99,23 +97,12 @@ pub fn departures_text(
 }
 
 /// The text of the latest moment at which one can leave.
+#[tactic(auto, unfolding(crate::specs::DepartureTexts::latest_text))]
 pub fn latest_text(alloc: Global, named: &NamedQuery, moment: Moment) -> Result<Vec<u8>, NoMemory>
     requires { moment.0 ≤ last_printable }
     ensures { IfOk result (λ text.
         text.items ≡ latest_text named.now.source.now named.now.target.now named.now.query moment) }
 {
-    let first = write_moment(named.query.start);
-    let deadline = write_moment(named.query.deadline);
-    let moment = write_moment(moment);
-    row(
-        alloc,
-        &[
-            b"latest".as_slice(),
-            named.source.as_bytes(),
-            named.target.as_bytes(),
-            first.as_slice(),
-            deadline.as_slice(),
-            moment.as_slice(),
-        ],
-    )
+    let query = named.query;
+    moments_row(alloc, "latest", named, query.start, query.deadline, moment)
 }

@@ -1,6 +1,7 @@
 //! The printed texts of the answers that are no graphs.
 ghost use Rattle.std.specs.Prelude.{◌≡◌, ◌≤◌, ◌<◌, ◌++◌, [], ◌∷◌, map, length, sum_by, All, IfOk};
 ghost use Rattle.printed_rows.specs.Writers.{place_name, row_of_fields};
+ghost use Rattle.clock_text.specs.Civil.{moment_text};
 ghost use Rattle.trip_replay.specs.Rides.{IsRidden};
 ghost use Rattle.journey_report.specs.AnswerTexts.{safe_text, ride_text, rides_text, arrived_text, trace_text, leg_count, sample_text, least_text, holds_text, encloses_text, punctual_row};
 ghost use Rattle.journey_model.specs.Sites.{last_printable};
@@ -60,26 +61,46 @@ impl<'a> NamedQuery<'a> {
     }
 }
 
+/// A row of a kind, with the names of the ends of a query and three moments.
+pub(crate) fn moments_row(
+    alloc: Global,
+    kind: &str,
+    named: &NamedQuery,
+    first: Moment,
+    second: Moment,
+    third: Moment,
+) -> Result<Vec<u8>, NoMemory>
+    requires first { first.0 ≤ last_printable }
+    requires second { second.0 ≤ last_printable }
+    requires third { third.0 ≤ last_printable }
+    ensures { IfOk result (λ text. text.items ≡ row_of_fields (kind.now ∷ named.now.source.now
+        ∷ named.now.target.now ∷ moment_text first.0 ∷ moment_text second.0 ∷ moment_text third.0 ∷ [])) }
+{
+    let first = write_moment(first);
+    let second = write_moment(second);
+    let third = write_moment(third);
+    row(
+        alloc,
+        &[
+            kind.as_bytes(),
+            named.source.as_bytes(),
+            named.target.as_bytes(),
+            first.as_slice(),
+            second.as_slice(),
+            third.as_slice(),
+        ],
+    )
+}
+
 /// The text of the least worst arrival and the deadline.
+#[tactic(auto, unfolding(crate::specs::AnswerTexts::safe_text))]
 pub fn safe_text(alloc: Global, named: &NamedQuery, worst: Moment) -> Result<Vec<u8>, NoMemory>
     requires { worst.0 ≤ last_printable }
     ensures { IfOk result (λ text.
         text.items ≡ safe_text named.now.source.now named.now.target.now named.now.query worst) }
 {
-    let start = write_moment(named.query.start);
-    let worst = write_moment(worst);
-    let deadline = write_moment(named.query.deadline);
-    row(
-        alloc,
-        &[
-            b"safe".as_slice(),
-            named.source.as_bytes(),
-            named.target.as_bytes(),
-            start.as_slice(),
-            worst.as_slice(),
-            deadline.as_slice(),
-        ],
-    )
+    let query = named.query;
+    moments_row(alloc, "safe", named, query.start, worst, query.deadline)
 }
 
 /// The row of a ride.
