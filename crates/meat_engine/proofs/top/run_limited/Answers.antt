@@ -7,7 +7,6 @@ use Rattle.journey_model.specs.declared.faults.Fault.TheVariants.{Words, Read, W
 use Rattle.journey_model.specs.Sites.{IsTellable}
 use Rattle.journey_report.specs.Findings.{findings_of}
 use Rattle.meat_engine.specs.Received.{FailsJob}
-use Rattle.meat_engine.specs.RunPromises.{sink_state}
 use Rattle.meat_engine.specs.Refusals.{known_of}
 use Rattle.meat_engine.proofs.Outcomes.{job_cause, write_fails}
 use Rattle.meat_engine.proofs.Runs.{refused_run, answered_run, path_of_job}
@@ -22,13 +21,9 @@ refuse-requires-in-Err-answer_of g c = c.in-Err-answer_of.ensures.fault.tellable
 pub returns-in-Err : goal.returns-in-Err
 returns-in-Err g c =
     let words = map string_bytes c.args.words.now in
-    let files = g.F.Files.state c.args.files.now in
-    let out = sink_state (g.O.Sink.written c.args.out.now) (g.O.Sink.faults c.args.out.now) in
-    let err = sink_state (g.E.Sink.written c.args.err.now) (g.E.Sink.faults c.args.err.now) in
-    let err_after = sink_state (g.E.Sink.written c.refuse.new.err) (g.E.Sink.faults c.refuse.new.err) in
     let wanted = c.plain.result.fault in
     let is : wanted ≡ Words c.in-Err.fault = c.plain.ensures.fault in
-    refused_run c.args.limits.now words c.refuse.result files files out err err_after (known_of c.plain.result) wanted c.refuse.ensures.reported
+    refused_run c.args.limits.now words c.refuse.result _ _ _ _ _ (known_of c.plain.result) wanted c.refuse.ensures.reported
     c.refuse.ensures.status c.refuse.ensures.findings
     (inr (inl (c.in-Err.fault, is, sym c.in-Err.ensures.job)))
     (λ (write : wanted ≡ Write). let none : Words c.in-Err.fault ≡ Write = sym is ∙ write in absurd (cc))
@@ -43,15 +38,12 @@ returns-in-Err-answer_of g c =
     let words = map string_bytes c.args.words.now in
     let before = g.F.Files.state c.args.files.now in
     let after = g.F.Files.state c.answer_of.new.files in
-    let out = sink_state (g.O.Sink.written c.args.out.now) (g.O.Sink.faults c.args.out.now) in
-    let err = sink_state (g.E.Sink.written c.args.err.now) (g.E.Sink.faults c.args.err.now) in
-    let err_after = sink_state (g.E.Sink.written c.refuse-in-Err-answer_of.new.err) (g.E.Sink.faults c.refuse-in-Err-answer_of.new.err) in
     let wanted = wanted_job c.in-Ok.job in
     let fault = c.in-Err-answer_of.refusal.fault in
     let why = c.in-Err-answer_of.ensures.fault in
     let known = known_of c.in-Err-answer_of.refusal in
     let asked = sym c.in-Ok.ensures.job in
-    refused_run limits words c.refuse-in-Err-answer_of.result before after out err err_after known fault c.refuse-in-Err-answer_of.ensures.reported
+    refused_run limits words c.refuse-in-Err-answer_of.result before after _ _ _ known fault c.refuse-in-Err-answer_of.ensures.reported
     c.refuse-in-Err-answer_of.ensures.status c.refuse-in-Err-answer_of.ensures.findings
     (job_cause before.files limits words wanted known asked fault why.holds)
     (λ write. write_fails before.files limits words wanted known (subst (FailsJob before.files limits wanted known) write (why.holds (λ memory. let none : Write ≡ NoMemory = sym write ∙ memory in absurd (cc)))))
@@ -62,14 +54,8 @@ returns-in-Err-answer_of g c =
 
 pub returns-in-Ok-answer_of : goal.returns-in-Ok-answer_of
 returns-in-Ok-answer_of g c =
-    let before = g.F.Files.state c.args.files.now in
-    let after = g.F.Files.state c.answer_of.new.files in
-    let out = sink_state (g.O.Sink.written c.args.out.now) (g.O.Sink.faults c.args.out.now) in
-    let out_after = sink_state (g.O.Sink.written c.print_report.new.out) (g.O.Sink.faults c.print_report.new.out) in
-    let err = sink_state (g.E.Sink.written c.args.err.now) (g.E.Sink.faults c.args.err.now) in
-    let err_after = sink_state (g.E.Sink.written c.print_report.new.err) (g.E.Sink.faults c.print_report.new.err) in
     answered_run c.args.limits.now (map string_bytes c.args.words.now) (findings_of c.in-Ok-answer_of.answer.report) c.print_report.result c.in-Ok-answer_of.answer.text.items
-    before after out out_after err err_after c.print_report.ensures.out
+    _ _ _ _ _ _ c.print_report.ensures.out
     (wanted_job c.in-Ok.job) (sym c.in-Ok.ensures.job) c.in-Ok-answer_of.ensures.answer c.print_report.ensures.status c.print_report.ensures.findings
     c.print_report.ensures.quiet c.print_report.ensures.reported c.in-Ok-answer_of.ensures.causes.same
     (λ less. (c.in-Ok-answer_of.ensures.causes.grew less).1)
