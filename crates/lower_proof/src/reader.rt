@@ -1,5 +1,5 @@
 //! The certificate of a text.
-ghost use Rattle.std.specs.Prelude.{◌≡◌, ◌+◌, ◌<◌, ◌⊎◌, nat_le, IfOk};
+ghost use Rattle.std.specs.Prelude.{◌≡◌, ◌+◌, ◌<◌, ◌⊎◌, nat_le, Some, IfOk};
 ghost use Rattle.std.specs.Result.{IfErr};
 ghost use Rattle.csv_rows.specs.Tables.{header};
 ghost use Rattle.plan_model.specs.Network.{count};
@@ -56,7 +56,6 @@ impl From<NoMemory> for ProofFault {
 }
 
 impl fmt::Display for ProofFault {
-    ghost use Rattle.std.specs.Prelude.{Some};
     ghost use Rattle.lower_proof.specs.FaultTexts.{certificate_fault_text};
 
     ghost output = { λ fault. Some (certificate_fault_text fault) };
