@@ -1,5 +1,5 @@
 -- The rows of a trip.
-use Rattle.std.proofs.Common.{◌≡◌, ℕ, ◌+◌, ◌<◌, ◌≤◌, List, [], ◌∷◌, ◌++◌, length, drop, Bool, true, false, arith, refl, sym, ap, ◌∙◌, slice_index_or, All, ◌==◌}
+use Rattle.std.proofs.Common.{◌≡◌, ℕ, ◌+◌, ◌<◌, ◌≤◌, List, [], ◌∷◌, ◌++◌, length, drop, Bool, true, false, arith, refl, sym, ap, ◌∙◌, All, ◌==◌}
 use Rattle.std.proofs.Common.{◌||◌, append-nil}
 use Rattle.std.specs.List.{list_any}
 use Rattle.std.proofs.lemmas.Bool.Decides.{nat_tests}
@@ -11,11 +11,10 @@ use Rattle.plan_model.specs.NameLists.{NameLists}
 use Rattle.plan_model.specs.Network.{connection, IsValid}
 use Rattle.plan_model.specs.Bounds.{seconds_per_day}
 use Rattle.plan_model.specs.Unfold.{outcomes_of}
-use Rattle.printed_rows.proofs.Lines.{split_at, text_step}
 use Rattle.trip_replay.specs.declared.Ridden.{Ridden}
 use Rattle.trip_replay.specs.Rides.{IsRidden, arrival_after, place_after}
 use Rattle.plan_model.specs.declared.model.Moment.{Moment}
-use Rattle.journey_report.specs.AnswerTexts.{ride_text, rides_text, arrived_text}
+use Rattle.journey_report.specs.AnswerTexts.{rides_text, arrived_text}
 use Rattle.journey_model.specs.Sites.{last_printable}
 
 delay_at : (o : Outcome) (row : List Outcome) (d : ℕ) (b : Bool) → (o.delay == d) ≡ b → o.delay ≤ seconds_per_day → (list_any (λ x. x.delay == d) row ≡ true → d ≤ seconds_per_day)
@@ -47,13 +46,6 @@ module _ (n : NetworkModel) (valid : IsValid n) where
   places source (r ∷ rides) inside all =
       let is = All-head (IsRidden n) r rides all in
       places (connection n r.leg.exit.0).to.0 rides (valid.connections r.leg.exit.0 is.is_leg.exit).to_in (All-tail (IsRidden n) r rides all)
-
--- after one ride more
-pub rides_step : (n : NetworkModel) (names : NameLists) (rides : List Ridden) (i : ℕ) (d : Ridden) (new old all : List ℕ) → i < length rides
-    → new ≡ old ++ ride_text n names (slice_index_or rides i d) → old ++ rides_text n names (drop i rides) ≡ all → new ++ rides_text n names (drop (i + 1) rides) ≡ all
-rides_step n names rides i d new old all within is before =
-    text_step new old (ride_text n names (slice_index_or rides i d)) (rides_text n names (drop (i + 1) rides)) all is
-    (sym (ap (λ (list : List Ridden). old ++ rides_text n names list) (split_at rides i d within)) ∙ before)
 
 -- the rides, and then the arrival
 pub trace_end : (n : NetworkModel) (names : NameLists) (rides : List Ridden) (i : ℕ) (old row new target target' : List ℕ) (arrival : Moment) → length rides ≤ i
