@@ -1,17 +1,14 @@
 -- When one can leave: the latest moment, and that some strategy is safe.
-use Rattle.std.proofs.Common.{◌≡◌, ℕ, zero, ◌<◌, ◌≤◌, List, [], ◌∷◌, length, Option, Some, true, refl, subst, arith, ◌≢◌, MatchOption, All, nat_le}
-use Rattle.std.proofs.lemmas.List.Elements.{All-nil}
+use Rattle.std.proofs.Common.{◌≡◌, ℕ, zero, ◌<◌, ◌≤◌, List, [], ◌∷◌, length, Option, Some, true, refl, subst, arith, ◌≢◌, MatchOption, nat_le}
 use Rattle.std.proofs.lemmas.Bool.Decides.{nat_tests}
 use Rattle.plan_model.specs.declared.model.Moment.{Moment}
 use Rattle.plan_model.specs.declared.model.PlaceId.{PlaceId}
 use Rattle.plan_model.specs.NetworkModel.{NetworkModel}
-use Rattle.plan_model.specs.Network.{IsValid}
 use Rattle.plan_model.specs.Tree.{Tree, Done, Ride, Stuck}
 use Rattle.plan_model.specs.Strategy.{IsSafeFromStart}
 use Rattle.decision_graph.specs.Expanded.{IsNoneSafe}
 use Rattle.departure_table.specs.declared.DepartureRow.{DepartureRow}
-use Rattle.departure_table.specs.Departures.{IsNoneSafeFrom, SafeFrom, IsBestFrom, IsDepartureRow, IsGreatestMoment, IsTable, first_row_by}
-use Rattle.journey_model.specs.Sites.{last_printable}
+use Rattle.departure_table.specs.Departures.{IsNoneSafeFrom, SafeFrom, IsBestFrom, IsGreatestMoment, IsTable, first_row_by}
 use Rattle.journey_model.specs.declared.problem.Problem.{Problem}
 use Rattle.plan_model.specs.declared.model.Query.{Query}
 use Rattle.journey_answers.specs.ByRules.{AreByRules}
@@ -23,14 +20,6 @@ module _ (n : NetworkModel) (source target deadline : ℕ) where
   arrived same (Done a) moment (is, there, early) = early
   arrived same (Ride i j kids) moment safe = absurd (safe.0 same)
   arrived same (Stuck place x) moment safe = absurd safe
-
-  -- who is safe from a moment on leaves by a connection or has arrived by then, so the moment has a text
-  pub leaves_early : IsValid n → deadline ≤ last_printable → (tree : Tree) (moment : ℕ) → IsSafeFromStart n target (Some deadline) tree source moment → moment ≤ last_printable
-  leaves_early valid small (Done a) moment (is, there, early) = omega (arith, early, small)
-  leaves_early valid small (Ride i j kids) moment (away, leg, board, all) =
-      let c = valid.connections i leg.enter in
-      omega (arith, board.1, c.forward, c.early)
-  leaves_early valid small (Stuck place x) moment safe = absurd safe
 
 module _ (p : Problem) (q : Query) where
   -- at the target one is safe up to the deadline
@@ -45,11 +34,6 @@ module _ (p : Problem) (q : Query) where
   -- and the way to do it is to be there
   pub safe_at_once : q.source.0 ≡ q.target.0 → q.start.0 ≤ q.deadline.0 → HasSafeFor p q
   safe_at_once same early = (Done q.start.0, (refl, same, early))
-
-  -- the latest moment has a text
-  pub latest_early : q.deadline.0 ≤ last_printable → (moment : Moment) → IsGreatestMoment (SafeOf p q) q.start.0 (Some moment) → moment.0 ≤ last_printable
-  latest_early small moment is =
-      leaves_early p.timetable.network q.source.0 q.target.0 q.deadline.0 p.timetable.valid small is.1.0 moment.0 is.1.1
 
   -- where no departure is found nothing is safe
   pub none_leaves : (last : ℕ) (rows : List DepartureRow) → q.start.0 ≤ last → IsTable p.timetable.network (SafeOf p q) q.start.0 last rows → length rows ≡ 0 → IsNoneSafe p.timetable.network q
@@ -87,8 +71,3 @@ module _ (p : Problem) (q : Query) where
   -- and from a place to itself
   pub departures_at_once : (last : ℕ) (rows : List DepartureRow) → rows ≡ [] → q.source.0 ≡ q.target.0 → AreDepartures p q last rows
   departures_at_once last rows none same = record { at_once = λ other. none; table = λ differ. absurd (differ same); by_rules = λ differ. absurd (differ same) }
-
-  -- the rows have texts
-  pub rows_depart : (last : ℕ) (rows : List DepartureRow) → AreDepartures p q last rows → All (IsDepartureRow p.timetable.network) rows
-  rows_depart last [] are = All-nil (IsDepartureRow p.timetable.network)
-  rows_depart last (row ∷ rows) are = (are.table (λ same. let none = are.at_once same in absurd (cc))).departures

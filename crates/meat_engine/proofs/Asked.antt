@@ -1,5 +1,5 @@
 -- What a line of `ask_over` promises, said of what is asked.
-use Rattle.std.proofs.Common.{◌≡◌, ℕ, List, Option, None, Some, Result, Ok, Err, sym, subst, ◌≢◌, IfOk, IfErr}
+use Rattle.std.proofs.Common.{◌≡◌, ℕ, Option, None, Some, Result, Ok, Err, sym, subst, ◌≢◌, IfOk, IfErr}
 use Rattle.file_ports.specs.Ports.{FileMap, FilesState}
 use Rattle.csv_rows.specs.declared.limits.Limits.{Limits}
 use Rattle.command_line.specs.declared.job.Ask.{Ask}
