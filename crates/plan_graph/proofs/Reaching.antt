@@ -1,6 +1,6 @@
 -- What is kept while legs are reached.
-use Rattle.std.proofs.Common.{◌≡◌, ◌≢◌, ℕ, ◌-◌, ◌<◌, ◌⊎◌, Bool, true, false, List, [], ◌∷◌, ◌++◌, map, length, Option, Some, Contains, arith, sym, subst, refl}
-use Rattle.std.proofs.Common.{inl, inr, ◌∙◌, ap, MatchBool, ne_eqb}
+use Rattle.std.proofs.Common.{◌≡◌, ◌≢◌, ℕ, ◌<◌, ◌⊎◌, Bool, true, false, List, [], ◌∷◌, ◌++◌, map, length, Option, Some, Contains, arith, sym, subst, refl}
+use Rattle.std.proofs.Common.{inl, inr, ◌∙◌, ap, MatchBool}
 use Rattle.std.proofs.lemmas.Bool.Decides.{nat_tests}
 use Rattle.std.proofs.lemmas.Grind.{common_steps}
 use Rattle.std.specs.BTreeMap.{is_at}
@@ -12,7 +12,7 @@ use Rattle.plan_model.specs.declared.model.Query.{Query}
 use Rattle.plan_model.specs.NetworkModel.{NetworkModel}
 use Rattle.plan_model.specs.Network.{count}
 use Rattle.plan_model.specs.Tree.{Tree}
-use Rattle.plan_model.specs.Unfold.{arrival_of, ride_of, unfold_after, unfolding_of}
+use Rattle.plan_model.specs.Unfold.{arrival_of, unfolding_of}
 use Rattle.plan_graph.specs.declared.GraphRow.{GraphRow}
 use Rattle.plan_graph.specs.Ready.{IsSafeForSome}
 use Rattle.plan_graph.specs.WalkTables.{table_after, leg_cmp, with_leg}
@@ -31,11 +31,6 @@ pub record IsReaching (n : NetworkModel) (target : ℕ) (by : Option ℕ) (choic
   pub start_known : Known todo seen start
   pub placed : (leg : Leg) → Known todo seen leg → StandsSafely n target by choice whole leg
   pub closed : (leg : Leg) → Contains seen leg → (row : GraphRow) → Contains (table_after n target choice leg) row → Known todo seen row.leg
-
--- the tree of a choice begins with its start leg
-pub starts_by : (n : NetworkModel) (q : Query) (choice : Leg → ℕ → Option Leg) (start : Leg) → q.source.0 ≢ q.target.0
-    → unfolding_of n q choice (Some start) ≡ ride_of n (unfold_after n q.target.0 choice (count n - 1)) start
-starts_by n q choice start differ = rw (ne_eqb q.source.0 q.target.0 differ) refl
 
 pub start_placed : (n : NetworkModel) (q : Query) (choice : Leg → ℕ → Option Leg) (start : Leg) → q.source.0 ≢ q.target.0
     → (safe : IsSafeForSome n q (unfolding_of n q choice (Some start))) → StandsSafely n q.target.0 (Some safe.0) choice (unfolding_of n q choice (Some start)) start

@@ -1,9 +1,11 @@
 -- Tables and rows that rise, searched by binary search.
-use Rattle.std.proofs.Common.{◌≡◌, ℕ, ◌<◌, true, false, List, [], length, Some, None, AllPairs, arith, subst, refl, inl, inr, nat_lt, nat_le, slice_index_or}
+use Rattle.std.proofs.Common.{◌≡◌, ℕ, ◌<◌, true, false, List, [], length, Some, None, AllPairs, arith, subst, refl, inl, inr, nat_lt, nat_le, slice_index_or, Bool, Bor}
 use Rattle.std.proofs.Common.{ne_eqb, lt-ltb, ltb-true, ltb-false}
+use Rattle.std.specs.Fn.{Mut, Called, ComputesKey}
 use Rattle.std.specs.List.{AllWithin}
 use Rattle.std.specs.List.Sorted.{IsPartitionedBy, IsPartitionPoint}
 use Rattle.std.proofs.lemmas.Bool.{cases_lt}
+use Rattle.std.proofs.lemmas.List.Sorted.{IsPartitionPoint-from_clause}
 use Rattle.std.proofs.lemmas.Bool.Decides.{nat_tests}
 use Rattle.plan_graph.specs.declared.GraphRow.{GraphRow}
 use Rattle.plan_graph.specs.declared.PlaceTable.{PlaceTable}
@@ -13,6 +15,13 @@ use Rattle.plan_graph.specs.PickedRows.{pick_row, rows_of_place, is_table_of}
 -- a list that rises is parted by a number
 pub parted : {X : Type 0} (f : X → ℕ) (xs : List X) (t : ℕ) → AllPairs (λ a b. f a < f b) xs → IsPartitionedBy (λ x. nat_lt (f x) t) xs
 parted f xs t rise i j d before within is = grind (arith, cases_lt, lt-ltb, ltb-true)
+
+-- so the place that a search by a number finds parts it
+pub parted_at : {X F : Type 0} {g : Mut F (Bor X × Unit {0}) Bool} {f : F} (key : X → ℕ) (xs : List X) (t i : ℕ)
+    → ((q : X → Bool) → ComputesKey g q f → IsPartitionedBy q xs → IsPartitionPoint (λ x. q x ≡ true) (λ x. q x ≡ false) xs i)
+    → AllPairs (λ a b. key a < key b) xs → ((a : Bor X × Unit {0}) (r : Bool) (h : F) → Called g f a r h → (r ≡ nat_lt (key a.0.now) t) × (h ≡ f))
+    → IsPartitionPoint (λ x. nat_lt (key x) t ≡ true) (λ x. nat_lt (key x) t ≡ false) xs i
+parted_at key xs t i clause rise called = IsPartitionPoint-from_clause (λ x. nat_lt (key x) t) xs i clause (parted key xs t rise) called
 
 -- what is picked is the row at which those before an arrival end
 pub pick_row-at : (rows : List GraphRow) (x i : ℕ) (d : GraphRow) → AllWithin (λ r. nat_lt r.by.0 x ≡ true) rows 0 i → i < length rows
