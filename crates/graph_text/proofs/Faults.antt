@@ -6,7 +6,6 @@ use Rattle.clock_text.specs.Times.{moment_at, nanos_at}
 use Rattle.clock_text.proofs.OneText.{if_cases}
 use Rattle.plan_model.specs.Results.{and_then, require}
 use Rattle.plan_model.proofs.Results.{require-ok}
-use Rattle.plan_model.proofs.Results.{require-ok}
 use Rattle.plan_model.specs.declared.model.Leg.{Leg}
 use Rattle.plan_model.specs.declared.model.PlaceId.{PlaceId}
 use Rattle.plan_model.specs.NetworkModel.{NetworkModel}
