@@ -88,7 +88,6 @@ module _ (n : NetworkModel) (q : Query) where
     rising : AllPairs Lower a
     picked : All (λ table. All (IsPickedIn n q.target.0 (FromStart a (Some start)) table) table.rows) a
     fit_other : All (IsFitTable n) b
-    rising_other : AllPairs Lower b
 
   -- a row of the one is at its index in the other
   row_there : (a b : List PlaceTable) (start : Leg) → IsOne a b start → (t : PlaceTable) → Contains a t → (row : GraphRow) → Contains t.rows row
@@ -137,7 +136,6 @@ module _ (n : NetworkModel) (q : Query) where
     rising = tidy.fit.rising;
     picked = subst (λ (s : Option Leg). All (λ table. All (IsPickedIn n q.target.0 (FromStart a.tables s) table) table.rows) a.tables) starts tidy.picked;
     fit_other = other.fit.tables;
-    rising_other = other.fit.rising;
   }
 
   -- by the start leg

@@ -5,7 +5,6 @@ ghost use Rattle.file_ports.specs.Ports.{FileMap, file_at};
 ghost use Rattle.journey_model.specs.declared.problem.Problem.{Problem as Parts};
 ghost use Rattle.journey_report.specs.Findings.{Findings};
 ghost use Rattle.journey_answers.specs.Answers.{InQuery, AnswersPlan};
-ghost use Rattle.meat_engine.specs.Ends.{EndsByScore};
 ghost use Rattle.graph_text.specs.declared.Head.{Head as HeadParts};
 ghost use Rattle.plan_graph.specs.declared.PlanGraph.{PlanGraph as Graph};
 ghost use Rattle.journey_problem.specs.GraphFiles.{graph_in, InGraphFile};
@@ -24,7 +23,7 @@ ghost use Rattle.journey_answers.specs.Departures.{query_until};
 ghost use Rattle.lower_proof.specs.Certificates.{IsLeastAtStart};
 ghost use Rattle.lower_proof.specs.Promises.{IsBestCertificate};
 ghost use Rattle.journey_answers.specs.Certified.{AnswersCertify};
-ghost use Rattle.meat_engine.specs.Ends.{EndsByCertificateFile, EndsByDepartures, EndsByLatest};
+ghost use Rattle.meat_engine.specs.Ends.{EndsByScore, EndsByCertificateFile, EndsByDepartures, EndsByLatest};
 ghost use Rattle.run_laws.specs.Printed.{ArrivesByFile, KeepsUpperBound};
 
 /// Where a file holds what `plan` prints of a problem, `check` of this graph over the problem ends with 0.
