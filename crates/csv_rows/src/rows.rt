@@ -129,11 +129,13 @@ impl Rows {
         let mut fields = Fields::new(alloc);
         let mut ends = Vec::new(alloc);
         for _ in 0..u64::MAX {
-            match reader.read_byte_record(&mut row) {
-                Ok(true) => push_row(&mut fields, &mut ends, &row)?,
-                Ok(false) => return finished(fields, ends),
-                Err(_) => return Err(RowsFault::NoMemory),
+            let found = reader
+                .read_byte_record(&mut row)
+                .map_err(|_| RowsFault::NoMemory)?;
+            if !found {
+                return finished(fields, ends);
             }
+            push_row(&mut fields, &mut ends, &row)?;
         }
         Err(RowsFault::NoMemory)
     }

@@ -1,4 +1,4 @@
-use Rattle.std.proofs.Common.{◌≡◌, ◌++◌, ◌∷◌, [], List, ℕ, Contains, false, None, Some, refl, sym, ap, ◌∙◌, arith, length, subst, true, not, Bool}
+use Rattle.std.proofs.Common.{Bor, ◌≡◌, ◌++◌, ◌∷◌, [], List, ℕ, Contains, false, None, Some, refl, sym, ap, ◌∙◌, arith, length, subst, true, not, Bool}
 use Rattle.csv_rows.specs.declared.feed_tables.FeedFault.TheVariants.{DuplicateKey}
 use Rattle.csv_rows.specs.Tables.{row_count, field, field_at}
 use Rattle.csv_rows.proofs.FirstLemmas.{first-zero, first-next, first-at}
@@ -16,6 +16,9 @@ known_is : (b : Bool) → false ≡ not b → b ≡ true
 known_is true e = refl
 known_is false e = absurd (cc)
 
+absent_in : (keys : List (Bor (List ℕ))) (ids : List (List ℕ)) (name : List ℕ) → key_texts keys ≡ ids → has_key name keys ≡ false → ¬ Contains ids name
+absent_in keys ids name seen fresh = subst (λ (w : List (List ℕ)). ¬ Contains w name) seen (key_absent name keys fresh)
+
 pub loop-i-init : goal.loop-i-init
 loop-i-init c =
     let id = field c.args.rows.now c.args.column in
@@ -30,27 +33,21 @@ push-requires-clause-room c =
     omega (arith, c.requires.few, ap length c.loop-i.invariant.ids, length-list_below (field c.args.rows.now c.args.column) c.loop-i.i)
 
 pub push-requires-clause-absent : goal.push-requires-clause-absent
-push-requires-clause-absent c =
-    let name = c.name_at-name.result.now in
-    let keys = c.loop-i.seen.keys in
-    let fresh : has_key name keys ≡ false = new_is (has_key name keys) (sym c.if-not-new.false ∙ c.in_ok-new.ensures.added) in
-    subst (λ (w : List (List ℕ)). ¬ Contains w name) c.loop-i.invariant.seen (key_absent name keys fresh)
+push-requires-clause-absent c = absent_in c.loop-i.seen.keys _ _ c.loop-i.invariant.seen (new_is _ (sym c.if-not-new.false ∙ c.in_ok-new.ensures.added))
 
 pub loop-i-preserved : goal.loop-i-preserved
 loop-i-preserved c =
-    let t = c.args.rows.now in
-    let id = field t c.args.column in
+    let id = field c.args.rows.now c.args.column in
     let name = c.name_at-name.result.now in
     let keys = c.loop-i.seen.keys in
-    let is = c.name_at-name.ensures ∙ ap (λ p. field_at t p c.loop-i.i) c.index_of-index.ensures in
+    let is = c.name_at-name.ensures ∙ ap (λ p. field_at c.args.rows.now p c.loop-i.i) c.index_of-index.ensures in
     let fresh : has_key name keys ≡ false = new_is (has_key name keys) (sym c.if-not-new.false ∙ c.in_ok-new.ensures.added) in
-    let absent = subst (λ (w : List (List ℕ)). ¬ Contains w name) c.loop-i.invariant.seen (key_absent name keys fresh) in
     record {
       ids = list_below-next id c.loop-i.i c.loop-i.ids c.push.new.self name c.loop-i.invariant.ids c.in_ok-push.ensures.ok is;
       seen = key_last keys c.insert.new.self.keys c.name_at-name.result fresh c.in_ok-new.ensures.keys
           ∙ ap (λ (w : List (List ℕ)). w ++ name ∷ []) c.loop-i.invariant.seen ∙ sym c.in_ok-push.ensures.ok;
       none = first-next (repeated_id c.args.table id) c.loop-i.i None c.loop-i.invariant.none
-          (not_repeated c.args.table id c.loop-i.i c.loop-i.ids name c.loop-i.invariant.ids is absent);
+          (not_repeated c.args.table id c.loop-i.i c.loop-i.ids name c.loop-i.invariant.ids is (absent_in keys c.loop-i.ids name c.loop-i.invariant.seen fresh));
     }
 
 pub returns-then-not-new-clause-reports : goal.returns-then-not-new-clause-reports
@@ -58,10 +55,9 @@ returns-then-not-new-clause-reports c =
     let t = c.args.rows.now in
     let id = field t c.args.column in
     let name = c.name_at-name.result.now in
-    let keys = c.loop-i.seen.keys in
     let is = c.name_at-name.ensures ∙ ap (λ p. field_at t p c.loop-i.i) c.index_of-index.ensures in
-    let known : has_key name keys ≡ true = known_is (has_key name keys) (sym c.if-not-new.true ∙ c.in_ok-new.ensures.added) in
-    let there = subst (λ (w : List (List ℕ)). Contains w name) c.loop-i.invariant.seen (key_there name keys known) in
+    let known : has_key name c.loop-i.seen.keys ≡ true = known_is _ (sym c.if-not-new.true ∙ c.in_ok-new.ensures.added) in
+    let there = subst (λ (w : List (List ℕ)). Contains w name) c.loop-i.invariant.seen (key_there name c.loop-i.seen.keys known) in
     record {
       why = λ free.
           first-at (repeated_id c.args.table id) c.loop-i.i (row_count t) (DuplicateKey c.args.table c.line.result) (omega arith) c.loop-i.invariant.none
