@@ -43,10 +43,8 @@ impl MadeFiles {
 
 impl Files for MadeFiles {
     ghost use Rattle.std.specs.Prelude.{IsSome, IsOk};
-    ghost use Rattle.std.specs.Io.{ReadsAtMost};
-    ghost use Rattle.std.specs.Io.KnownBytes.{ReadConsumes};
-    ghost use Rattle.file_ports.specs.Counts.{HasFileCause};
-    ghost use Rattle.file_ports.specs.Ports.{Opens, TakesInHand, path_in_hand};
+    ghost use Rattle.file_ports.specs.Counts.{HasFileCause, ReadsOpenFile};
+    ghost use Rattle.file_ports.specs.Ports.{Opens, TakesInHand};
     ghost use Rattle.feed_maker.specs.Files.{state_of};
 
     ghost state = { state_of };
@@ -69,11 +67,7 @@ impl Files for MadeFiles {
     fn read(&mut self, buffer: &mut [u8]) -> Result<usize, Failed>
         requires in_hand { IsSome (state_of self.old).in_hand }
         requires room { 0 < length buffer.old }
-        ensures in_hand { (state_of self.new).in_hand ≡ (state_of self.old).in_hand }
-        ensures bound { ReadsAtMost result buffer.new }
-        ensures bytes { ReadConsumes (state_of self.old).left (state_of self.new).left result buffer.new }
-        ensures cause { let old = state_of self.old in
-            HasFileCause (path_in_hand old) old (state_of self.new) result }
+        ensures reads { ReadsOpenFile (state_of self.old) (state_of self.new) buffer.new result }
         ensures never_fails { IsOk result }
     {
         if self.in_times {

@@ -1,9 +1,8 @@
 //! The two interfaces to the outside.
 ghost use Rattle.std.specs.Prelude.{◌≡◌, ◌<◌, ◌≤◌, ℕ, List, Option, length, IfOk, IsSome};
-ghost use Rattle.std.specs.Io.{ReadsAtMost};
-ghost use Rattle.std.specs.Io.KnownBytes.{ReadConsumes, WriteAppends};
-ghost use Rattle.file_ports.specs.Counts.{HasCause, HasFileCause};
-ghost use Rattle.file_ports.specs.Ports.{FilesState, Opens, TakesInHand, path_in_hand};
+ghost use Rattle.std.specs.Io.KnownBytes.{WriteAppends};
+ghost use Rattle.file_ports.specs.Counts.{HasCause, HasFileCause, ReadsOpenFile};
+ghost use Rattle.file_ports.specs.Ports.{FilesState, Opens, TakesInHand};
 
 use plan_model::HashKey;
 
@@ -36,11 +35,7 @@ pub trait Files {
     fn read(&mut self, buffer: &mut [u8]) -> Result<usize, Failed>
         requires in_hand { IsSome (state self.old).in_hand }
         requires room { 0 < length buffer.old }
-        ensures in_hand { (state self.new).in_hand ≡ (state self.old).in_hand }
-        ensures bound { ReadsAtMost result buffer.new }
-        ensures bytes { ReadConsumes (state self.old).left (state self.new).left result buffer.new }
-        ensures cause { let old = state self.old in
-            HasFileCause (path_in_hand old) old (state self.new) result };
+        ensures reads { ReadsOpenFile (state self.old) (state self.new) buffer.new result };
 
     /// The key by which ids that come from these files are hashed. It is one that nobody knows if the host draws it.
     fn hash_key(&self) -> HashKey {

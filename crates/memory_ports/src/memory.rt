@@ -159,10 +159,8 @@ impl MemoryFiles {
 
 impl Files for MemoryFiles {
     ghost use Rattle.std.specs.Prelude.{IsSome, IfSome, IfOk, is_err};
-    ghost use Rattle.std.specs.Io.{ReadsAtMost};
-    ghost use Rattle.std.specs.Io.KnownBytes.{ReadConsumes};
-    ghost use Rattle.file_ports.specs.Counts.{RoseByOne, HasFileCause};
-    ghost use Rattle.file_ports.specs.Ports.{Opens, TakesInHand, path_in_hand};
+    ghost use Rattle.file_ports.specs.Counts.{RoseByOne, HasFileCause, ReadsOpenFile};
+    ghost use Rattle.file_ports.specs.Ports.{Opens, TakesInHand};
     ghost use Rattle.memory_ports.specs.Memory.{faults_at, fails_at, hand_of, left_of, piece_of, reads_of, state_of, total_faults, FailsAlike};
 
     ghost state = { state_of };
@@ -191,11 +189,7 @@ impl Files for MemoryFiles {
     fn read(&mut self, buffer: &mut [u8]) -> Result<usize, Failed>
         requires in_hand { IsSome (state_of self.old).in_hand }
         requires room { 0 < length buffer.old }
-        ensures in_hand { (state_of self.new).in_hand ≡ (state_of self.old).in_hand }
-        ensures bound { ReadsAtMost result buffer.new }
-        ensures bytes { ReadConsumes (state_of self.old).left (state_of self.new).left result buffer.new }
-        ensures cause { let old = state_of self.old in
-            HasFileCause (path_in_hand old) old (state_of self.new) result }
+        ensures reads { ReadsOpenFile (state_of self.old) (state_of self.new) buffer.new result }
         ensures fails { IfSome (hand_of self.old) (λ path.
             is_err result ≡ fails_at self.old path (reads_of self.new)) }
         ensures one { OnErr result (RoseByOne (total_faults self.old) (total_faults self.new)) }
@@ -203,7 +197,7 @@ impl Files for MemoryFiles {
             RoseByOne (faults_at self.old path) (faults_at self.new path))) }
         ensures count { IfOk result (λ n. IfSome (left_of self.old) (λ left.
             n ≡ min (min (piece_of self.old) (length buffer.old)) (length left))) }
-        ensures reads { reads_of self.new ≡ min (reads_of self.old + 1) (2 ^ 64 - 1) }
+        ensures one_more { reads_of self.new ≡ min (reads_of self.old + 1) (2 ^ 64 - 1) }
         ensures piece { piece_of self.new ≡ piece_of self.old }
         ensures failing { FailsAlike self.old self.new }
     {
