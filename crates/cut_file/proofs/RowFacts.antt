@@ -1,23 +1,13 @@
 -- The rows, one more at a time.
-use Rattle.std.proofs.Common.{◌≡◌, ℕ, ◌+◌, ◌<◌, List, [], ◌∷◌, ◌++◌, length, get_or, Some, None, Result, Ok, Err, refl, sym, ap, ◌∙◌, subst, arith, add-one, below_more}
+use Rattle.std.proofs.Common.{◌≡◌, ℕ, ◌+◌, ◌<◌, List, [], ◌∷◌, ◌++◌, length, get_or, Some, None, Ok, Err, refl, sym, ap, ◌∙◌, subst, arith, add-one, below_more}
 use Rattle.std.proofs.lemmas.List.{get_or_append_left, get_or_push}
 use Rattle.csv_rows.specs.declared.columns.Column.{Column}
-use Rattle.csv_rows.specs.declared.columns.Column.TheVariants.{Class, Run, Step, From, To, Dep, Arr, Board, Exit, Change}
-use Rattle.csv_rows.specs.Tables.{field}
 use Rattle.cut_file.specs.declared.rows.CutRow.{CutRow}
 use Rattle.cut_file.specs.declared.faults.CutFault.TheVariants.{BadField}
-use Rattle.cut_file.specs.CutRows.{Row, row_from, row_at}
+use Rattle.cut_file.specs.CutRows.{Row, row_at}
 use Rattle.cut_file.specs.Faults.{bad_of, bad_field, row_of, row}
 use Rattle.cut_file.specs.NumberedRows.{add_new, run_names, place_names, IsNumbered}
 use Rattle.cut_file.proofs.NumberFacts.{numbered_grows}
-
--- a row by its fields
-pub row_here : (t : List (List (List ℕ))) (i : ℕ) (o : Result Row Column) (a b c d e f g h j k : List ℕ) → row_from a b c d e f g h j k ≡ o
-    → a ≡ field t Run i → b ≡ field t Step i → c ≡ field t From i → d ≡ field t To i → e ≡ field t Dep i → f ≡ field t Arr i
-    → g ≡ field t Class i → h ≡ field t Board i → j ≡ field t Exit i → k ≡ field t Change i → row_at t i ≡ o
-unfolding row_at
-row_here t i o a b c d e f g h j k q pa pb pc pd pe pf pg ph pj pk =
-    sym (λ m. row_from (pa m) (pb m) (pc m) (pd m) (pe m) (pf m) (pg m) (ph m) (pj m) (pk m)) ∙ q
 
 pub bad_here : (t : List (List (List ℕ))) (i : ℕ) (column : Column) → row_at t i ≡ Err column → bad_field t i ≡ Some (BadField (i + 2) column)
 unfolding bad_field

@@ -1,11 +1,13 @@
 -- The rows of a cut file.
-use Rattle.std.specs.Prelude.{ℕ, Bool, List, Option, Result, Ok}
+use Rattle.std.specs.Prelude.{ℕ, Bool, List, Option, Result, Ok, Err}
 use Rattle.plan_model.specs.Results.{require}
 use Rattle.clock_text.specs.Digits.{optional_seconds_of, whole_of}
 use Rattle.csv_rows.specs.declared.columns.Column.{Column}
 use Rattle.csv_rows.specs.declared.columns.Column.TheVariants.{Class, Run, Step, From, To, Dep, Arr, Board, Exit, Change}
 use Rattle.csv_rows.specs.Tables.{field}
 use Rattle.csv_rows.specs.Names.{name_in}
+use Rattle.cut_file.specs.declared.lines.Fields.{Fields}
+use Rattle.cut_file.specs.declared.lines.NamedRow.{NamedRow}
 use Rattle.cut_file.specs.CutForms.{moment_before_end, class_in, flag_in}
 
 -- a row with its names; the class is a route type, and none for `*`
@@ -35,6 +37,31 @@ row_from run step from to dep arr class board exit change =
     require (flag_in exit) Exit (λ exit'.
     require (optional_seconds_of change) Change (λ change'.
     Ok (record { run = run'; step = step'; from = from'; to = to'; dep = dep'; arr = arr'; class = class'; board = board'; exit = exit'; change = change' })))))))))))
+
+-- the same fields, as the program has them
+abbrev pub row_of_fields : Fields → Result Row Column
+row_of_fields f =
+    row_from f.run.now f.step.now f.from.now f.to.now f.dep.now f.arr.now f.class.now f.board.now f.exit.now f.change.now
+
+-- a row, as the program has it
+abbrev pub named : NamedRow → Row
+named r = record {
+  run = r.run.now;
+  step = r.step;
+  from = r.from.now;
+  to = r.to.now;
+  dep = r.dep;
+  arr = r.arr;
+  class = r.class;
+  board = r.board;
+  exit = r.exit;
+  change = r.change;
+}
+
+-- what was read, a row or a column
+abbrev pub as_read : Result NamedRow Column → Result Row Column
+as_read (Ok r) = Ok (named r)
+as_read (Err column) = Err column
 
 -- the row i of the table
 unfoldable pub row_at : List (List (List ℕ)) → ℕ → Result Row Column

@@ -57,10 +57,7 @@ pub(crate) fn read_checked(alloc: Global, rows: &Rows, limits: &Limits) -> Resul
         return Err(CutFault::TooManyRows(count));
     }
     let cut = read_rows(alloc, &CutRows { rows, columns })?;
-    let keys = match sorted_keys(alloc, cut.rows.as_slice()) {
-        Ok(keys) => keys,
-        Err(_) => return Err(CutFault::NoMemory),
-    };
+    let keys = sorted_keys(alloc, cut.rows.as_slice())?;
     match run_fault(cut.rows.as_slice(), keys.as_slice()) {
         Some(fault) => Err(fault),
         None => Ok(Checked { cut, keys }),

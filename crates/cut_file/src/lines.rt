@@ -1,6 +1,6 @@
 //! One row of a cut file.
-ghost use Rattle.std.specs.Prelude.{◌≡◌, Ok, Err, IfOk, IfErr};
-ghost use Rattle.cut_file.specs.CutRows.{row_from};
+ghost use Rattle.std.specs.Prelude.{◌≡◌};
+ghost use Rattle.cut_file.specs.CutRows.{as_read, row_of_fields};
 
 use crate::fields::{read_class, read_early, read_flag};
 use clock_text::{read_optional_seconds, read_whole};
@@ -41,65 +41,18 @@ pub(crate) struct Fields<'a> {
 
 /// The row of these fields, or the first column that is not of its form.
 pub(crate) fn read_fields<'a>(f: Fields<'a>) -> Result<NamedRow<'a>, Column>
-    ensures row { IfOk result (λ r. row_from f.entry.run.now f.entry.step.now f.entry.from.now
-        f.entry.to.now f.entry.dep.now f.entry.arr.now f.entry.class.now f.entry.board.now
-        f.entry.exit.now f.entry.change.now
-        ≡ Ok (record {
-          run = r.run.now;
-          step = r.step;
-          from = r.from.now;
-          to = r.to.now;
-          dep = r.dep;
-          arr = r.arr;
-          class = r.class;
-          board = r.board;
-          exit = r.exit;
-          change = r.change;
-        })) }
-    ensures column { IfErr result (λ column. row_from f.entry.run.now f.entry.step.now
-        f.entry.from.now f.entry.to.now f.entry.dep.now f.entry.arr.now f.entry.class.now
-        f.entry.board.now f.entry.exit.now f.entry.change.now ≡ Err column) }
+    ensures { row_of_fields f.entry ≡ as_read result }
 {
-    let Some(run) = read_name(f.run) else {
-        return Err(Column::Run);
-    };
-    let Some(step) = read_whole(f.step, MOST_STEP) else {
-        return Err(Column::Step);
-    };
-    let Some(from) = read_name(f.from) else {
-        return Err(Column::From);
-    };
-    let Some(to) = read_name(f.to) else {
-        return Err(Column::To);
-    };
-    let Some(dep) = read_early(f.dep) else {
-        return Err(Column::Dep);
-    };
-    let Some(arr) = read_early(f.arr) else {
-        return Err(Column::Arr);
-    };
-    let Some(class) = read_class(f.class) else {
-        return Err(Column::Class);
-    };
-    let Some(board) = read_flag(f.board) else {
-        return Err(Column::Board);
-    };
-    let Some(exit) = read_flag(f.exit) else {
-        return Err(Column::Exit);
-    };
-    let Some(change) = read_optional_seconds(f.change) else {
-        return Err(Column::Change);
-    };
     Ok(NamedRow {
-        run,
-        step,
-        from,
-        to,
-        dep,
-        arr,
-        class,
-        board,
-        exit,
-        change,
+        run: read_name(f.run).ok_or(Column::Run)?,
+        step: read_whole(f.step, MOST_STEP).ok_or(Column::Step)?,
+        from: read_name(f.from).ok_or(Column::From)?,
+        to: read_name(f.to).ok_or(Column::To)?,
+        dep: read_early(f.dep).ok_or(Column::Dep)?,
+        arr: read_early(f.arr).ok_or(Column::Arr)?,
+        class: read_class(f.class).ok_or(Column::Class)?,
+        board: read_flag(f.board).ok_or(Column::Board)?,
+        exit: read_flag(f.exit).ok_or(Column::Exit)?,
+        change: read_optional_seconds(f.change).ok_or(Column::Change)?,
     })
 }

@@ -4,7 +4,7 @@ ghost use Rattle.csv_rows.specs.declared.columns.Column.TheVariants.{Class, Run,
 ghost use Rattle.csv_rows.specs.First.{first_below};
 ghost use Rattle.csv_rows.specs.Tables.{row_count, field};
 ghost use Rattle.cut_file.specs.declared.rows.CutRow.{CutRow};
-ghost use Rattle.cut_file.specs.CutRows.{row_at};
+ghost use Rattle.cut_file.specs.CutRows.{as_read, named, row_at};
 ghost use Rattle.cut_file.specs.Faults.{bad_field, row};
 ghost use Rattle.cut_file.specs.NumberedRows.{add_new, run_names, place_names, IsNumbered, AreColumns};
 
@@ -112,25 +112,9 @@ fn fields_of<'a>(table: &CutRows<'a>, row: usize) -> Fields<'a>
 /// The row with this number, from 0 on, or its first column that is not of its form.
 fn read_row<'a>(table: &CutRows<'a>, row: usize) -> Result<NamedRow<'a>, Column>
     requires { row < row_count table.now.rows.now }
-    ensures row { IfOk result (λ r. row_at table.now.rows.now row
-        ≡ Ok (record {
-          run = r.run.now;
-          step = r.step;
-          from = r.from.now;
-          to = r.to.now;
-          dep = r.dep;
-          arr = r.arr;
-          class = r.class;
-          board = r.board;
-          exit = r.exit;
-          change = r.change;
-        })) }
-    ensures column { IfErr result (λ column. row_at table.now.rows.now row ≡ Err column) }
+    ensures { row_at table.now.rows.now row ≡ as_read result }
 {
-    match read_fields(fields_of(table, row)) {
-        Ok(row) => Ok(row),
-        Err(column) => Err(column),
-    }
+    read_fields(fields_of(table, row))
 }
 
 /// The run of the row before, if there is one.
@@ -167,19 +151,7 @@ fn numbered<'a>(
     ensures runs { OnOk result (names.new.runs ≡ add_new names.old.runs row.now.run.now) }
     ensures places { OnOk result (names.new.places
         ≡ add_new (add_new names.old.places row.now.from.now) row.now.to.now) }
-    ensures row { IfOk result (λ c. IsNumbered names.new.runs names.new.places
-        (record {
-          run = row.now.run.now;
-          step = row.now.step;
-          from = row.now.from.now;
-          to = row.now.to.now;
-          dep = row.now.dep;
-          arr = row.now.arr;
-          class = row.now.class;
-          board = row.now.board;
-          exit = row.now.exit;
-          change = row.now.change;
-        }) c) }
+    ensures row { IfOk result (λ c. IsNumbered names.new.runs names.new.places (named row.now) c) }
 {
     let run = number_of(&mut names.runs, row.run, run_of(before))?;
     let from = number_of(&mut names.places, row.from, end_of(before))?;
@@ -219,16 +191,12 @@ fn take_rows<'a>(
 {
     let mut before: Option<CutRow> = None;
     for i in 0..table.rows.count() {
-        match read_row(table, i) {
+        let row = match read_row(table, i) {
+            Ok(row) => numbered(names, &row, before)?,
             Err(column) => return Err(CutFault::BadField(table.rows.line(i), column)),
-            Ok(row) => match numbered(names, &row, before) {
-                Err(_) => return Err(CutFault::NoMemory),
-                Ok(row) => match cut.push(row) {
-                    Err(_) => return Err(CutFault::NoMemory),
-                    Ok(()) => before = Some(row),
-                },
-            },
-        }
+        };
+        cut.push(row)?;
+        before = Some(row);
     }
     Ok(())
 }
@@ -249,10 +217,8 @@ pub(crate) fn read_rows(alloc: Global, table: &CutRows<'_>) -> Result<NumberedRo
         runs: TextIndex::new(alloc, key),
         places: TextIndex::new(alloc, key),
     };
-    let mut cut: Vec<CutRow> = Vec::new(alloc);
-    take_rows(table, &mut numbering, &mut cut)?;
-    match names_of(alloc, key, &numbering) {
-        Ok(names) => Ok(NumberedRows { names, rows: cut }),
-        Err(_) => Err(CutFault::NoMemory),
-    }
+    let mut rows: Vec<CutRow> = Vec::with_capacity(alloc, table.rows.count())?;
+    take_rows(table, &mut numbering, &mut rows)?;
+    let names = names_of(alloc, key, &numbering)?;
+    Ok(NumberedRows { names, rows })
 }

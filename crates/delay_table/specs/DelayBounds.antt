@@ -1,7 +1,7 @@
 -- The bounds of a delay file's numbers.
 use Rattle.std.specs.Prelude.{ℕ}
-use Rattle.plan_model.specs.declared.units.TheConstants.{HOURS_PER_DAY, SECONDS_PER_HOUR, WHOLE_WEIGHT}
-use Rattle.delay_table.specs.declared.lines.TheConstants.{LAST_HOUR, LAST_TYPE}
+use Rattle.plan_model.specs.declared.units.TheConstants.{WHOLE_WEIGHT}
+use Rattle.delay_table.specs.declared.lines.TheConstants.{LAST_TYPE}
 use Rattle.delay_table.specs.declared.reading.TheConstants.{MOST_ROWS}
 use Rattle.delay_table.specs.declared.sums.TheConstants.{MOST_GROUPS}
 
@@ -24,13 +24,3 @@ end_of_types = 65535
 -- the weights of a group add up to it, so none is above it
 abbrev pub whole_weight : ℕ
 whole_weight = WHOLE_WEIGHT
-
-abbrev pub seconds_per_hour : ℕ
-seconds_per_hour = SECONDS_PER_HOUR
-
-abbrev pub hours_per_day : ℕ
-hours_per_day = HOURS_PER_DAY
-
--- the last hour of a day
-abbrev pub last_hour : ℕ
-last_hour = LAST_HOUR

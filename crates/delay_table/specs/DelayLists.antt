@@ -3,7 +3,7 @@ use Rattle.std.specs.Prelude.{ℕ, ◌+◌, ◌==◌, ◌/◌, ◌%◌, List, le
 use Rattle.std.specs.Option.{option_or}
 use Rattle.plan_model.specs.declared.model.Outcome.{Outcome}
 use Rattle.csv_rows.specs.First.{first_below}
-use Rattle.delay_table.specs.DelayBounds.{seconds_per_hour, hours_per_day}
+use Rattle.plan_model.specs.declared.units.TheConstants.{HOURS_PER_DAY, SECONDS_PER_HOUR}
 use Rattle.delay_table.specs.Groups.{Group, group_index}
 
 -- the named route types, rising; the groups that name a route or an hour; and the outcomes of class 0, of each route type
@@ -15,7 +15,7 @@ pub record DelayLists : Type 0 where
 
 -- the hour of the day of a moment, on the civil clock
 abbrev pub hour_of : ℕ → ℕ
-hour_of moment = (moment / seconds_per_hour) % hours_per_day
+hour_of moment = (moment / SECONDS_PER_HOUR) % HOURS_PER_DAY
 
 -- the index of a route type among those that are named
 unfoldable pub type_index : List ℕ → ℕ → Option ℕ

@@ -15,7 +15,8 @@ use Rattle.delay_table.specs.declared.faults.DelayFault.TheVariants.{MissingColu
 use Rattle.csv_rows.specs.First.{first_below}
 use Rattle.csv_rows.specs.Names.{name_in}
 use Rattle.csv_rows.specs.Tables.{index_of, field, row_count}
-use Rattle.delay_table.specs.DelayBounds.{most_rows, most_groups, last_type, end_of_types, whole_weight, last_hour}
+use Rattle.delay_table.specs.DelayBounds.{most_rows, most_groups, last_type, end_of_types, whole_weight}
+use Rattle.delay_table.specs.declared.lines.TheConstants.{LAST_HOUR}
 use Rattle.delay_table.specs.DelayLists.{DelayLists}
 use Rattle.delay_table.specs.Groups.{Group, of_class, group_in, is_plain, same_group}
 
@@ -51,7 +52,7 @@ route_in class text = if length text == 0 then Some None else if is_none class t
 
 -- an hour of the day
 abbrev pub hour_in : List ℕ → Option (Option ℕ)
-hour_in text = if length text == 0 then Some None else option_map Some (whole_of last_hour text)
+hour_in text = if length text == 0 then Some None else option_map Some (whole_of LAST_HOUR text)
 
 -- what comes next, where this is there
 abbrev pub given : {A B : Type 0} → Option A → (A → Option B) → Option B

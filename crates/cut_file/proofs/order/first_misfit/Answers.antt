@@ -1,4 +1,4 @@
-use Rattle.std.proofs.Common.{ℕ, true, length, sym, ap, ◌∙◌, arith, option_map}
+use Rattle.std.proofs.Common.{rules, ◌≡◌, ℕ, true, length, sym, ap, ◌∙◌, arith, option_map}
 use Rattle.csv_rows.specs.First.{first_below}
 use Rattle.csv_rows.proofs.KeyLemmas.{before_inside}
 use Rattle.csv_rows.proofs.SoonestLemmas.{soonest-next, soonest-first}
@@ -25,16 +25,10 @@ beside-requires-clause-before c =
     let rows = c.args.rows.now in
     before_inside (λ i. true) (run_of rows) (step_of rows) (length rows) c.args.keys.now c.requires.sorted c.loop-k.k (omega arith) c.before_at.result c.before_at.ensures
 
-pub returns-in-None : goal.returns-in-None
-returns-in-None c = λ t runs places read none.
+pub returns : goal.returns
+returns c = λ t runs places read none.
     let rows = c.args.rows.now in
+    let same : option_map (λ (x : ℕ × CutFault). x.1) c.loop-k.first ≡ c.map.result = search rules in
     ap (first_below (run_fault t)) (sym read.size)
     ∙ soonest-first (run_fault t) (length rows) c.args.keys.now (λ i. true) (run_of rows) (step_of rows) c.requires.sorted (λ i never. absurd (cc)) c.loop-k.k (omega arith)
-    c.loop-k.first (c.loop-k.invariant t runs places read none) ∙ ap (option_map (λ (x : ℕ × CutFault). x.1)) c.in-None.is
-
-pub returns-in-Some : goal.returns-in-Some
-returns-in-Some c = λ t runs places read none.
-    let rows = c.args.rows.now in
-    ap (first_below (run_fault t)) (sym read.size)
-    ∙ soonest-first (run_fault t) (length rows) c.args.keys.now (λ i. true) (run_of rows) (step_of rows) c.requires.sorted (λ i never. absurd (cc)) c.loop-k.k (omega arith)
-    c.loop-k.first (c.loop-k.invariant t runs places read none) ∙ ap (option_map (λ (x : ℕ × CutFault). x.1)) c.in-Some.is
+    c.loop-k.first (c.loop-k.invariant t runs places read none) ∙ same

@@ -8,7 +8,7 @@ use Rattle.cut_file.proofs.order.sorted_keys.Goals as goal
 pub loop-i-init : goal.loop-i-init
 loop-i-init c = record {
   size = grind (arith, common_steps);
-  keys = keys-none (λ i. true) (run_of c.args.rows.now) (step_of c.args.rows.now) c.new-keys.result.items c.new-keys.ensures.items;
+  keys = keys-none (λ i. true) (run_of c.args.rows.now) (step_of c.args.rows.now) c.in_ok-keys.keys.items c.in_ok-keys.ensures.items;
 }
 
 pub loop-i-preserved : goal.loop-i-preserved

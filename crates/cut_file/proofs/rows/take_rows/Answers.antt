@@ -3,7 +3,7 @@ use Rattle.std.proofs.lemmas.Option.{slice_get_within}
 use Rattle.csv_rows.specs.Tables.{row_count}
 use Rattle.csv_rows.proofs.FirstLemmas.{first-zero, first-next, first-at}
 use Rattle.cut_file.specs.declared.faults.CutFault.TheVariants.{BadField}
-use Rattle.cut_file.specs.CutRows.{Row}
+use Rattle.cut_file.specs.CutRows.{Row, named}
 use Rattle.cut_file.specs.Faults.{bad_field}
 use Rattle.cut_file.specs.NumberedRows.{add_new}
 use Rattle.cut_file.proofs.NumberFacts.{length_add}
@@ -29,20 +29,19 @@ pub returns-in-Err-clause-err : goal.returns-in-Err-clause-err
 returns-in-Err-clause-err c = λ free.
     let t = c.args.table.now.rows.now in
     first-at (bad_field t) c.loop-i.i (row_count t) (BadField c.line.result c.in-Err.column) (omega arith) c.loop-i.invariant.none
-    (bad_here t c.loop-i.i c.in-Err.column c.in-Err.ensures.column ∙ ap (λ n. Some (BadField n c.in-Err.column)) (sym c.line.ensures))
+    (bad_here t c.loop-i.i c.in-Err.column c.in-Err.ensures ∙ ap (λ n. Some (BadField n c.in-Err.column)) (sym c.line.ensures))
 
 pub loop-i-preserved : goal.loop-i-preserved
 loop-i-preserved c =
     let t = c.args.table.now.rows.now in
     let i = c.loop-i.i in
-    let x = c.in-Ok.row in
-    let r : Row = record { run = x.run.now; step = x.step; from = x.from.now; to = x.to.now; dep = x.dep; arr = x.arr; class = x.class; board = x.board; exit = x.exit; change = x.change } in
-    let h = c.in-Ok.ensures.row in
-    let n = c.in-Ok-numbered.ensures in
+    let r : Row = named c.in-Ok.row in
+    let h = c.in-Ok.ensures in
+    let n = c.in_ok-row-in-Ok.ensures in
     let old = c.loop-i.names in
     let new = c.numbered.new.names in
-    let row = c.in-Ok-numbered.row in
-    let pushed = c.in-Ok-push.ensures.items in
+    let row = c.in_ok-row-in-Ok.row in
+    let pushed = c.in_ok-push.ensures.items in
     record {
       none = first-next (bad_field t) i None c.loop-i.invariant.none (good_here t i r h);
       size = omega (arith, ap length pushed, length-append c.loop-i.cut.items (row ∷ []), c.loop-i.invariant.size);
