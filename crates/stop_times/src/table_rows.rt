@@ -123,10 +123,9 @@ fn rows_after(
     };
     let mut order = StopOrder::new(alloc, &named.stops)?;
     loop {
-        match records.next(row) {
-            Ok(true) => {}
-            Ok(false) => return Ok(timed),
-            Err(_) => return Err(FeedFault::NoMemory),
+        let found = records.next(row)?;
+        if !found {
+            return Ok(timed);
         }
         let taken = timed.len() as u64 + 1;
         if most < taken {
@@ -163,10 +162,9 @@ pub(crate) fn read_timed_rows(
 {
     let mut records = Records::of(alloc, bytes);
     let mut row = Record::new(alloc);
-    match records.next(&mut row) {
-        Ok(true) => {}
-        Ok(false) => return Err(FeedFault::MissingColumn(Table::StopTimes, Column::TripId)),
-        Err(_) => return Err(FeedFault::NoMemory),
+    let found = records.next(&mut row)?;
+    if !found {
+        return Err(FeedFault::MissingColumn(Table::StopTimes, Column::TripId));
     }
     let columns = columns_of(&row);
     if let Some(fault) = missing_column(columns) {

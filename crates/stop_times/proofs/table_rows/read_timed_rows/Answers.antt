@@ -1,4 +1,4 @@
-use Rattle.std.proofs.Common.{◌≡◌, ◌<◌, ◌+◌, ◌∷◌, ◌∙◌, List, ℕ, None, Some, sym, ap, subst, arith, length, Err}
+use Rattle.std.proofs.Common.{rules, ◌≡◌, ◌<◌, ◌+◌, ◌∷◌, ◌∙◌, List, ℕ, None, Some, sym, ap, subst, arith, length, Err}
 use Rattle.std.proofs.lemmas.Result.{IfErr-weaker, on_ok_weaker}
 use Rattle.csv_rows.specs.declared.feed_tables.Table.TheVariants.{StopTimes}
 use Rattle.csv_rows.specs.First.{first_below}
@@ -15,7 +15,7 @@ returns-in-Some-clause-fault c = λ free.
     let stops = c.args.named.now.stops in
     let places = c.args.named.now.places.now in
     let t = c.next.new.fields ∷ c.next.new.self in
-    let all : t ≡ table_of c.args.bytes.now = sym (sym c.of-records.ensures ∙ c.in-Ok-true.ensures.some c.in-Ok-true.field-0-test) in
+    let all : t ≡ table_of c.args.bytes.now = sym (sym c.of-records.ensures ∙ c.in_ok-found.ensures.some c.if-not-found.false) in
     let first : stop_times_fault trips stops places t ≡ Some c.in-Some.fault
     = fault_of_header trips stops places t c.in-Some.fault (sym (ap missing_time_column c.columns_of-columns.ensures) ∙ sym c.in-Some.ensures.fault) in
     let count : row_count t ≡ 0 + length c.next.new.self = omega arith in
@@ -24,35 +24,32 @@ returns-in-Some-clause-fault c = λ free.
     subst P all (times_fault trips stops places c.args.limits.now.stop_times t c.counted_fault.result some
     (ap (counted_fault c.args.limits.now.stop_times (row_count t)) first ∙ ap (λ (k : ℕ). counted_fault c.args.limits.now.stop_times k (Some c.in-Some.fault)) count ∙ c.counted_fault.ensures.fault free))
 
-pub returns-clause-rest : goal.returns-clause-rest
-returns-clause-rest c =
+pub returns : goal.returns
+returns c =
     let trips = c.args.named.now.trips in
     let stops = c.args.named.now.stops in
     let places = c.args.named.now.places.now in
     let t = c.next.new.fields ∷ c.next.new.self in
-    let all : t ≡ table_of c.args.bytes.now = sym (sym c.of-records.ensures ∙ c.in-Ok-true.ensures.some c.in-Ok-true.field-0-test) in
-    let whole : missing_time_column (time_columns t) ≡ None = sym (ap missing_time_column c.columns_of-columns.ensures) ∙ sym c.in_default.ensures.fault in
-    let count : row_count t ≡ length c.next.new.self = omega arith in
-    let P : List (List (List ℕ)) → Type 0 = λ x. stop_times_fault trips stops places x ≡ order_fault (timed_rows trips stops places x) in
-    on_ok_weaker c.rows_after.result
-    (λ none. subst P all (fault_of_order trips stops places t whole (ap (first_below (bad_time trips stops places t)) count ∙ none)))
-    c.rows_after.ensures.none
-
-pub returns-clause-fault : goal.returns-clause-fault
-returns-clause-fault c =
-    let trips = c.args.named.now.trips in
-    let stops = c.args.named.now.stops in
-    let places = c.args.named.now.places.now in
-    let t = c.next.new.fields ∷ c.next.new.self in
-    let all : t ≡ table_of c.args.bytes.now = sym (sym c.of-records.ensures ∙ c.in-Ok-true.ensures.some c.in-Ok-true.field-0-test) in
+    let all : t ≡ table_of c.args.bytes.now = sym (sym c.of-records.ensures ∙ c.in_ok-found.ensures.some c.if-not-found.false) in
     let whole : missing_time_column (time_columns t) ≡ None = sym (ap missing_time_column c.columns_of-columns.ensures) ∙ sym c.in_default.ensures.fault in
     let count : row_count t ≡ length c.next.new.self = omega arith in
     let some : 0 < length t = omega arith in
-    IfErr-weaker c.rows_after.result _ _
-    (λ f h free.
-    let P : List (List (List ℕ)) → Type 0 = λ x. stop_times_from (loaded_from StopTimes c.args.limits.now.stop_times x) trips stops places ≡ Err f in
-    subst P all (times_fault trips stops places c.args.limits.now.stop_times t f some
-    (counted_same c.args.limits.now.stop_times (row_count t) (first_below (bad_time trips stops places t) (row_count t)) (stop_times_fault trips stops places t) f
-    (λ x e. fault_of_row trips stops places t x whole e)
-    (ap (λ (k : ℕ). counted_fault c.args.limits.now.stop_times k (first_below (bad_time trips stops places t) k)) count ∙ h free))))
-    c.rows_after.ensures.fault
+    let P : List (List (List ℕ)) → Type 0 = λ x. stop_times_fault trips stops places x ≡ order_fault (timed_rows trips stops places x) in
+    record {
+      rows = search rules;
+      few = c.rows_after.ensures.few;
+      header = search rules;
+      rest = on_ok_weaker c.rows_after.result
+          (λ none. subst P all (fault_of_order trips stops places t whole (ap (first_below (bad_time trips stops places t)) count ∙ none)))
+          c.rows_after.ensures.none;
+      fault = IfErr-weaker c.rows_after.result _ _
+          (λ f h free.
+          let Q : List (List (List ℕ)) → Type 0 = λ x. stop_times_from (loaded_from StopTimes c.args.limits.now.stop_times x) trips stops places ≡ Err f in
+          subst Q all (times_fault trips stops places c.args.limits.now.stop_times t f some
+          (counted_same c.args.limits.now.stop_times (row_count t) (first_below (bad_time trips stops places t) (row_count t)) (stop_times_fault trips stops places t) f
+          (λ x e. fault_of_row trips stops places t x whole e)
+          (ap (λ (k : ℕ). counted_fault c.args.limits.now.stop_times k (first_below (bad_time trips stops places t) k)) count ∙ h free))))
+          c.rows_after.ensures.fault;
+      content = c.rows_after.ensures.content;
+      own = c.rows_after.ensures.own;
+    }

@@ -13,8 +13,8 @@ use Rattle.stop_times.specs.StopTimes.{bad_time, counted_fault, timed_at, no_row
 use Rattle.stop_times.proofs.TimeLemmas.{row_is, counted_row, counted_many}
 use Rattle.stop_times.proofs.table_rows.rows_after.Goals as goal
 
-pub loop-timed-init : goal.loop-timed-init
-loop-timed-init c =
+pub loop-order-init : goal.loop-order-init
+loop-order-init c =
     let t = c.args.row.now ∷ c.args.records.now in
     let trips = c.args.named.now.trips in
     let stops = c.args.named.now.stops in
@@ -31,47 +31,45 @@ loop-timed-init c =
       known = tt;
     }
 
-pub returns-in-Ok-false-clause-rows : goal.returns-in-Ok-false-clause-rows
-returns-in-Ok-false-clause-rows c =
+pub returns-then-not-found : goal.returns-then-not-found
+returns-then-not-found c =
     let t = c.args.row.now ∷ c.args.records.now in
     let trips = c.args.named.now.trips in
     let stops = c.args.named.now.stops in
     let places = c.args.named.now.places.now in
-    let end = drop-none t (length c.loop-timed.timed.items + 1) (c.loop-timed.invariant.left ∙ c.in-Ok-false.ensures.none c.in-Ok-false.field-0-test) in
-    let all : length c.loop-timed.timed.items ≡ length t - 1 = omega (arith, end, c.loop-timed.invariant.inside) in
-    c.loop-timed.invariant.rows ∙ ap (λ (n : ℕ). list_below (λ i. value_or no_row (timed_at trips stops places t i)) n) all
-
-pub returns-in-Ok-false-clause-none : goal.returns-in-Ok-false-clause-none
-returns-in-Ok-false-clause-none c =
-    let t = c.args.row.now ∷ c.args.records.now in
-    let trips = c.args.named.now.trips in
-    let stops = c.args.named.now.stops in
-    let places = c.args.named.now.places.now in
-    let end = drop-none t (length c.loop-timed.timed.items + 1) (c.loop-timed.invariant.left ∙ c.in-Ok-false.ensures.none c.in-Ok-false.field-0-test) in
-    let all : length c.args.records.now ≡ length c.loop-timed.timed.items = omega (arith, end, c.loop-timed.invariant.inside) in
-    ap (λ (n : ℕ). first_below (bad_time trips stops places t) n) all ∙ c.loop-timed.invariant.none
+    let end = drop-none t (length c.loop-order.timed.items + 1) (c.loop-order.invariant.left ∙ c.in_ok-found.ensures.none c.if-not-found.true) in
+    let all : length c.loop-order.timed.items ≡ length t - 1 = omega (arith, end, c.loop-order.invariant.inside) in
+    let taken : length c.args.records.now ≡ length c.loop-order.timed.items = omega (arith, all) in
+    record {
+      rows = c.loop-order.invariant.rows ∙ ap (λ (n : ℕ). list_below (λ i. value_or no_row (timed_at trips stops places t i)) n) all;
+      few = c.loop-order.invariant.few;
+      none = ap (λ (n : ℕ). first_below (bad_time trips stops places t) n) taken ∙ c.loop-order.invariant.none;
+      fault = tt;
+      content = tt;
+      own = tt;
+    }
 
 pub returns-then-most-taken-clause-fault : goal.returns-then-most-taken-clause-fault
 returns-then-most-taken-clause-fault c = λ free.
     let t = c.args.row.now ∷ c.args.records.now in
-    let n = length c.loop-timed.timed.items in
-    let step = drop-next t (n + 1) c.next.new.fields c.next.new.self [] (c.loop-timed.invariant.left ∙ c.in-Ok-true.ensures.some c.in-Ok-true.field-0-test) in
+    let n = length c.loop-order.timed.items in
+    let step = drop-next t (n + 1) c.next.new.fields c.next.new.self [] (c.loop-order.invariant.left ∙ c.in_ok-found.ensures.some c.if-not-found.false) in
     let taken : c.len.result ≡ n = omega arith in
     let all : length c.args.records.now ≡ c.len.result + 1 + length c.next.new.self = omega (arith, step.2, taken) in
     let many : c.args.limits.now.stop_times < length c.args.records.now = omega (arith, c.if-most-taken.true, all) in
     let so_far : Option FeedFault = Some (TooManyRows StopTimes (c.len.result + 1)) in
     counted_many c.args.limits.now.stop_times (length c.args.records.now) _ so_far many ∙ ap (λ (k : ℕ). counted_fault c.args.limits.now.stop_times k so_far) all ∙ c.counted_fault.ensures.fault free
 
-pub loop-timed-preserved : goal.loop-timed-preserved
-loop-timed-preserved c =
+pub loop-order-preserved : goal.loop-order-preserved
+loop-order-preserved c =
     let t = c.args.row.now ∷ c.args.records.now in
     let trips = c.args.named.now.trips in
     let stops = c.args.named.now.stops in
     let places = c.args.named.now.places.now in
-    let old = c.loop-timed.timed.items in
+    let old = c.loop-order.timed.items in
     let new = c.take_row.new.timed.items in
     let n = length old in
-    let step = drop-next t (n + 1) c.next.new.fields c.next.new.self [] (c.loop-timed.invariant.left ∙ c.in-Ok-true.ensures.some c.in-Ok-true.field-0-test) in
+    let step = drop-next t (n + 1) c.next.new.fields c.next.new.self [] (c.loop-order.invariant.left ∙ c.in_ok-found.ensures.some c.if-not-found.false) in
     let w = c.in-Ok.ensures.row in
     let more : length new ≡ n + 1 = ap length w.2 ∙ length_push old w.0 in
     let here : timed_at trips stops places t n ≡ Ok w.0 = row_is trips stops places t c.args.columns n c.next.new.fields (Ok w.0) c.requires step.0 w.1 in
@@ -81,26 +79,26 @@ loop-timed-preserved c =
       inside = omega (arith, more, step.2);
       few = omega (arith, more, c.if-most-taken.false);
       rows = subst P (sym more)
-          (list_below-next (λ i. value_or no_row (timed_at trips stops places t i)) n old new w.0 c.loop-timed.invariant.rows w.2 (sym (ap (value_or no_row) here)));
+          (list_below-next (λ i. value_or no_row (timed_at trips stops places t i)) n old new w.0 c.loop-order.invariant.rows w.2 (sym (ap (value_or no_row) here)));
       none = ap (λ (k : ℕ). first_below (bad_time trips stops places t) k) more
-          ∙ first-next (bad_time trips stops places t) n None c.loop-timed.invariant.none (ap result_err here);
+          ∙ first-next (bad_time trips stops places t) n None c.loop-order.invariant.none (ap result_err here);
       known = c.in-Ok.ensures.known;
     }
 
-pub returns-in-Err-take_row-clause-fault : goal.returns-in-Err-take_row-clause-fault
-returns-in-Err-take_row-clause-fault c = λ free.
+pub returns-in-Err-clause-fault : goal.returns-in-Err-clause-fault
+returns-in-Err-clause-fault c = λ free.
     let t = c.args.row.now ∷ c.args.records.now in
     let trips = c.args.named.now.trips in
     let stops = c.args.named.now.stops in
     let places = c.args.named.now.places.now in
-    let n = length c.loop-timed.timed.items in
-    let fault = c.in-Err-take_row.fault in
-    let step = drop-next t (n + 1) c.next.new.fields c.next.new.self [] (c.loop-timed.invariant.left ∙ c.in-Ok-true.ensures.some c.in-Ok-true.field-0-test) in
+    let n = length c.loop-order.timed.items in
+    let fault = c.in-Err.fault in
+    let step = drop-next t (n + 1) c.next.new.fields c.next.new.self [] (c.loop-order.invariant.left ∙ c.in_ok-found.ensures.some c.if-not-found.false) in
     let taken : c.len.result ≡ n = omega arith in
     let all : length c.args.records.now ≡ c.len.result + 1 + length c.next.new.self = omega (arith, step.2, taken) in
     let inside : n < length c.args.records.now = omega (arith, all, taken) in
-    counted_row c.args.limits.now.stop_times (length c.args.records.now) fault c.counted_fault-in-Err-take_row.result
+    counted_row c.args.limits.now.stop_times (length c.args.records.now) fault c.counted_fault-in-Err.result
     (first_below (bad_time trips stops places t) (length c.args.records.now)) free
-    (λ fine. first-at (bad_time trips stops places t) n (length c.args.records.now) fault inside c.loop-timed.invariant.none
-    (ap result_err (row_is trips stops places t c.args.columns n c.next.new.fields (Err fault) c.requires step.0 (c.in-Err-take_row.ensures.fault fine))))
-    (ap (λ (k : ℕ). counted_fault c.args.limits.now.stop_times k (Some fault)) all ∙ c.counted_fault-in-Err-take_row.ensures.fault free)
+    (λ fine. first-at (bad_time trips stops places t) n (length c.args.records.now) fault inside c.loop-order.invariant.none
+    (ap result_err (row_is trips stops places t c.args.columns n c.next.new.fields (Err fault) c.requires step.0 (c.in-Err.ensures.fault fine))))
+    (ap (λ (k : ℕ). counted_fault c.args.limits.now.stop_times k (Some fault)) all ∙ c.counted_fault-in-Err.ensures.fault free)

@@ -5,8 +5,8 @@ use Rattle.csv_rows.specs.Lists.{list_below}
 use Rattle.stop_times.specs.StopTimes.{bad_time, timed_at, no_row, IsKnownIn}
 use Rattle.stop_times.proofs.table_rows.rows_after.Given as goal
 
-abbrev pub invariant-loop-timed : goal.invariant-loop-timed
-invariant-loop-timed l = record {
+abbrev pub invariant-loop-order : goal.invariant-loop-order
+invariant-loop-order l = record {
   left : drop (length l.timed.items + 1) (l.initial.row ∷ l.initial.records) ≡ l.records;
   inside : length l.timed.items ≤ length l.initial.records;
   few : length l.timed.items ≤ l.limits.stop_times;
@@ -15,5 +15,5 @@ invariant-loop-timed l = record {
   known : IsKnownIn l.named.trips l.known;
 }
 
-abbrev pub decreases-loop-timed : goal.decreases-loop-timed
-decreases-loop-timed l = length l.records
+abbrev pub decreases-loop-order : goal.decreases-loop-order
+decreases-loop-order l = length l.records

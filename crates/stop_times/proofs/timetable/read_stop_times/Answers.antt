@@ -43,9 +43,7 @@ returns-clause-fault c = λ free.
     let places = c.args.places.now in
     let most = c.args.limits.now.stop_times in
     let t = table_of c.as_slice.result.now in
-    let rows = c.as_slice-2.result.now in
-    let same = c.as_slice-2.ensures.value in
-    let read = timed_rows_are trips stops places most t c.in_ok-timed.timed.items rows same c.in_ok-timed.ensures.rows c.in_ok-timed.ensures.header
-    c.in_ok-timed.ensures.few c.in_ok-timed.ensures.rest in
+    let read = timed_rows_are trips stops places most t c.in_ok-timed.timed.items c.as_slice-2.result.now c.as_slice-2.ensures.value c.in_ok-timed.ensures.rows
+    c.in_ok-timed.ensures.header c.in_ok-timed.ensures.few c.in_ok-timed.ensures.rest in
     subst (λ (bytes : List ℕ). stop_times_from (loaded_from StopTimes most (table_of bytes)) trips stops places ≡ Err c.in-Err.fault)
-    c.as_slice.ensures.value (order_faulty trips stops places most t rows c.in-Err.fault read (c.in-Err.ensures.reports.why free))
+    c.as_slice.ensures.value (order_faulty trips stops places most t c.as_slice-2.result.now c.in-Err.fault read (c.in-Err.ensures.reports.why free))
