@@ -64,11 +64,6 @@ pub fn put_row(text: Vec<u8>, fields: &[&[u8]]) -> Result<Vec<u8>, NoMemory>
     ensures { IfOk result (λ whole. whole.items ≡ text.items ++ row_of_fields (map (λ field. field.now) fields.now)) }
 {
     let mut writer = WriterBuilder::new().from_writer(text);
-    if writer.write_fields(fields).is_err() {
-        return Err(NoMemory);
-    }
-    match writer.into_inner() {
-        Ok(whole) => Ok(whole),
-        Err(_) => Err(NoMemory),
-    }
+    writer.write_fields(fields).map_err(|_| NoMemory)?;
+    writer.into_inner().map_err(|_| NoMemory)
 }
