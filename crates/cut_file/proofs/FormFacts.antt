@@ -11,6 +11,7 @@ use Rattle.clock_text.specs.Times.{moment_at}
 use Rattle.std.proofs.lemmas.Option.{same_Some}
 use Rattle.csv_rows.specs.Names.{name_in}
 use Rattle.cut_file.specs.CutForms.{before_end, moment_before_end, class_in, flag_in}
+use Rattle.cut_file.specs.declared.lines.TheConstants.{MOST_STEP}
 use Rattle.cut_file.specs.CutRows.{Row, row_from, row_at}
 use Rattle.cut_file.specs.Faults.{bad_of, bad_field, row_of, row}
 use Rattle.csv_rows.specs.Tables.{field}
@@ -40,7 +41,7 @@ same_ok x r e = cc
 pub row_form : (a b c d e f g h j k : List ℕ) (r : Row) → row_from a b c d e f g h j k ≡ Ok r → InForm a c d r
 row_form a b c d e f g h j k =
     require-each (InForm a c d) (name_in a) Run _ (λ run p1.
-    require-each (InForm a c d) (whole_of 999999999 b) Step _ (λ step p2.
+    require-each (InForm a c d) (whole_of MOST_STEP b) Step _ (λ step p2.
     require-each (InForm a c d) (name_in c) From _ (λ from p3.
     require-each (InForm a c d) (name_in d) To _ (λ to p4.
     require-each (InForm a c d) (moment_before_end e) Dep _ (λ dep p5.
@@ -53,7 +54,7 @@ row_form a b c d e f g h j k =
       run_name = name_text a run p1;
       from_name = name_text c from p3;
       to_name = name_text d to p4;
-      step = omega (arith, whole_bound 999999999 step b p2);
+      step = omega (arith, whole_bound MOST_STEP step b p2);
       arr = end_bound (moment_at f) arr p6;
       change = optional-each (λ s. s ≤ 86400) (length k == 0) (whole_of 86400 k) (λ s. whole_bound 86400 s k) change p10;
     })))))))))))

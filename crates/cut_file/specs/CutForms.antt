@@ -4,6 +4,7 @@ use Rattle.std.specs.Str.{bytes_eq}
 use Rattle.clock_text.specs.Digits.{whole_of}
 use Rattle.clock_text.specs.Times.{moment_at}
 use Rattle.plan_model.specs.Bounds.{end_of_arrivals}
+use Rattle.cut_file.specs.declared.fields.TheConstants.{LAST_TYPE}
 
 abbrev pub before_end : Option ℕ → Option ℕ
 before_end None = None
@@ -15,7 +16,7 @@ moment_before_end text = before_end (moment_at text)
 
 -- a route type, and none for `*`, also for an empty field
 abbrev pub class_in : List ℕ → Option (Option ℕ)
-class_in text = if length text == 0 || bytes_eq text (codes "*") then Some None else option_map Some (whole_of 65534 text)
+class_in text = if length text == 0 || bytes_eq text (codes "*") then Some None else option_map Some (whole_of LAST_TYPE text)
 
 -- 0 or 1, and 1 for an empty field
 abbrev pub flag_in : List ℕ → Option Bool

@@ -6,6 +6,7 @@ use Rattle.csv_rows.specs.declared.columns.Column.{Column}
 use Rattle.csv_rows.specs.declared.columns.Column.TheVariants.{Class, Run, Step, From, To, Dep, Arr, Board, Exit, Change}
 use Rattle.csv_rows.specs.Tables.{field}
 use Rattle.csv_rows.specs.Names.{name_in}
+use Rattle.cut_file.specs.declared.lines.TheConstants.{MOST_STEP}
 use Rattle.cut_file.specs.declared.lines.Fields.{Fields}
 use Rattle.cut_file.specs.declared.lines.NamedRow.{NamedRow}
 use Rattle.cut_file.specs.CutForms.{moment_before_end, class_in, flag_in}
@@ -27,7 +28,7 @@ pub record Row : Type 0 where
 abbrev pub row_from : (run step from to dep arr class board exit change : List ℕ) → Result Row Column
 row_from run step from to dep arr class board exit change =
     require (name_in run) Run (λ run'.
-    require (whole_of 999999999 step) Step (λ step'.
+    require (whole_of MOST_STEP step) Step (λ step'.
     require (name_in from) From (λ from'.
     require (name_in to) To (λ to'.
     require (moment_before_end dep) Dep (λ dep'.

@@ -1,8 +1,8 @@
 //! A cut file with no fault.
-ghost use Rattle.std.specs.Prelude.{◌≡◌, ◌≢◌, length, Some, None, OnOk, IfOk, IfErr};
+ghost use Rattle.std.specs.Prelude.{◌≡◌, ◌≢◌, Some, None, OnOk, IfOk, IfErr};
 ghost use Rattle.csv_rows.specs.Spaces.{AreTrimmed};
 ghost use Rattle.cut_file.specs.Faults.{first_cut_fault};
-ghost use Rattle.cut_file.specs.NumberedRows.{AreColumns, missing_in};
+ghost use Rattle.cut_file.specs.NumberedRows.{missing_in};
 ghost use Rattle.cut_file.specs.Read.{IsCutRead};
 
 use crate::faults::CutFault;

@@ -7,14 +7,15 @@ use clock_text::{read_moment, read_whole};
 /// The first moment that is too late: 2401-01-01.
 const END: u64 = 13_601_088_000;
 
+/// The greatest route type.
+const LAST_TYPE: u32 = 65_534;
+
 /// A moment before 2401.
 pub(crate) fn read_early(text: &[u8]) -> Option<u64>
     ensures { result ≡ moment_before_end text.now }
 {
-    match read_moment(text) {
-        None => None,
-        Some(moment) => { if moment.0 < END { Some(moment.0) } else { None } }
-    }
+    let moment = read_moment(text)?;
+    if moment.0 < END { Some(moment.0) } else { None }
 }
 
 /// A route type, and none for `*`, which an empty field means.
@@ -24,7 +25,7 @@ pub(crate) fn read_class(text: &[u8]) -> Option<Option<u16>>
     if text.is_empty() || text == b"*".as_slice() {
         return Some(None);
     }
-    match read_whole(text, 65_534) {
+    match read_whole(text, LAST_TYPE) {
         None => None,
         Some(route) => Some(Some(route as u16)),
     }
