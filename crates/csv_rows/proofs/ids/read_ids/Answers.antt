@@ -47,7 +47,8 @@ loop-i-preserved c =
       seen = key_last keys c.insert.new.self.keys c.name_at-name.result fresh c.in_ok-new.ensures.keys
           ∙ ap (λ (w : List (List ℕ)). w ++ name ∷ []) c.loop-i.invariant.seen ∙ sym c.in_ok-push.ensures.ok;
       none = first-next (repeated_id c.args.table id) c.loop-i.i None c.loop-i.invariant.none
-          (not_repeated c.args.table id c.loop-i.i c.loop-i.ids name c.loop-i.invariant.ids is (absent_in keys c.loop-i.ids name c.loop-i.invariant.seen fresh));
+          (not_repeated c.args.table id c.loop-i.i c.loop-i.ids name c.loop-i.invariant.ids is
+          (absent_in keys c.loop-i.ids name c.loop-i.invariant.seen fresh));
     }
 
 pub returns-then-not-new-clause-reports : goal.returns-then-not-new-clause-reports

@@ -24,8 +24,8 @@ returns-in-Some-run_fault-clause-fault c = λ free.
     let cut = c.in_ok-cut.cut in
     let e = c.in_ok-cut.ensures in
     rows_first t c.args.limits.now.cut_rows c.columns_of-columns.result c.columns_of-columns.ensures c.in_default.ensures (omega arith)
-    ∙ runs_here t cut.names.runs cut.names.places cut.rows.items c.as_slice-2.result.now c.in_ok-keys.keys.items c.as_slice-3.result.now (Some c.in-Some-run_fault.fault)
-    c.as_slice-2.ensures.value c.as_slice-3.ensures.value
+    ∙ runs_here t cut.names.runs cut.names.places cut.rows.items c.as_slice-2.result.now c.in_ok-keys.keys.items c.as_slice-3.result.now
+    (Some c.in-Some-run_fault.fault) c.as_slice-2.ensures.value c.as_slice-3.ensures.value
     (read_here t cut.names.runs cut.names.places cut.rows.items c.as_slice.result.now c.in_ok-keys.keys.items e.runs e.places e.size e.each
     c.as_slice.ensures.value c.in_ok-keys.ensures.size c.in_ok-keys.ensures.sorted)
     e.none (λ t runs places read. c.run_fault.ensures t runs places read ∙ c.in-Some-run_fault.is)

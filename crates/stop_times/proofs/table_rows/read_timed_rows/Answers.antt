@@ -46,8 +46,8 @@ returns c =
           (λ f h free.
           let Q : List (List (List ℕ)) → Type 0 = λ x. stop_times_from (loaded_from StopTimes c.args.limits.now.stop_times x) trips stops places ≡ Err f in
           subst Q all (times_fault trips stops places c.args.limits.now.stop_times t f some
-          (counted_same c.args.limits.now.stop_times (row_count t) (first_below (bad_time trips stops places t) (row_count t)) (stop_times_fault trips stops places t) f
-          (λ x e. fault_of_row trips stops places t x whole e)
+          (counted_same c.args.limits.now.stop_times (row_count t) (first_below (bad_time trips stops places t) (row_count t))
+          (stop_times_fault trips stops places t) f (λ x e. fault_of_row trips stops places t x whole e)
           (ap (λ (k : ℕ). counted_fault c.args.limits.now.stop_times k (first_below (bad_time trips stops places t) k)) count ∙ h free))))
           c.rows_after.ensures.fault;
       content = c.rows_after.ensures.content;

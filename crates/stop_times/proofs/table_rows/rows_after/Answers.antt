@@ -79,7 +79,8 @@ loop-order-preserved c =
       inside = omega (arith, more, step.2);
       few = omega (arith, more, c.if-most-taken.false);
       rows = subst P (sym more)
-          (list_below-next (λ i. value_or no_row (timed_at trips stops places t i)) n old new w.0 c.loop-order.invariant.rows w.2 (sym (ap (value_or no_row) here)));
+          (list_below-next (λ i. value_or no_row (timed_at trips stops places t i)) n old new w.0 c.loop-order.invariant.rows w.2
+          (sym (ap (value_or no_row) here)));
       none = ap (λ (k : ℕ). first_below (bad_time trips stops places t) k) more
           ∙ first-next (bad_time trips stops places t) n None c.loop-order.invariant.none (ap result_err here);
       known = c.in-Ok.ensures.known;
