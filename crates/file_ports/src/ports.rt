@@ -1,8 +1,8 @@
 //! The two interfaces to the outside.
 ghost use Rattle.std.specs.Prelude.{◌≡◌, ◌<◌, ◌≤◌, ℕ, List, Option, length, IfOk, IsSome};
 ghost use Rattle.std.specs.Io.KnownBytes.{WriteAppends};
-ghost use Rattle.file_ports.specs.Counts.{HasCause, HasFileCause, ReadsOpenFile};
-ghost use Rattle.file_ports.specs.Ports.{FilesState, Opens, TakesInHand};
+ghost use Rattle.file_ports.specs.Counts.{HasCause, OpensPath, ReadsOpenFile};
+ghost use Rattle.file_ports.specs.Ports.{FilesState};
 
 use plan_model::HashKey;
 
@@ -26,9 +26,7 @@ pub trait Files {
 
     /// Opens the file with this path, if there is one. It fails only if the count of faults rises.
     fn open_file(&mut self, path: &str) -> Result<Presence, Failed>
-        ensures opens { Opens (state self.old).files path.now result (state self.new).left }
-        ensures in_hand { TakesInHand (state self.old) path.now result (state self.new).in_hand }
-        ensures cause { HasFileCause path.now (state self.old) (state self.new) result };
+        ensures opened { OpensPath (state self.old) (state self.new) path.now result };
 
     /// Moves some bytes of the open file to the front of the buffer, none only at its end. It fails only if the count of
     /// faults rises.

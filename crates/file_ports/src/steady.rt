@@ -73,16 +73,13 @@ impl SteadyFiles {
 
 impl Files for SteadyFiles {
     ghost use Rattle.std.specs.Prelude.{IsSome, IfSome, IfOk, IsOk};
-    ghost use Rattle.file_ports.specs.Counts.{HasFileCause, ReadsOpenFile};
-    ghost use Rattle.file_ports.specs.Ports.{Opens, TakesInHand};
+    ghost use Rattle.file_ports.specs.Counts.{OpensPath, ReadsOpenFile};
     ghost use Rattle.file_ports.specs.Steady.{left_of, state_of, piece_of};
 
     ghost state = { state_of };
 
     fn open_file(&mut self, path: &str) -> Result<Presence, Failed>
-        ensures opens { Opens (state_of self.old).files path.now result (state_of self.new).left }
-        ensures in_hand { TakesInHand (state_of self.old) path.now result (state_of self.new).in_hand }
-        ensures cause { HasFileCause path.now (state_of self.old) (state_of self.new) result }
+        ensures opened { OpensPath (state_of self.old) (state_of self.new) path.now result }
         ensures never_fails { IsOk result }
         ensures piece { piece_of self.new ≡ piece_of self.old }
     {

@@ -159,16 +159,13 @@ impl MemoryFiles {
 
 impl Files for MemoryFiles {
     ghost use Rattle.std.specs.Prelude.{IsSome, IfSome, IfOk, is_err};
-    ghost use Rattle.file_ports.specs.Counts.{RoseByOne, HasFileCause, ReadsOpenFile};
-    ghost use Rattle.file_ports.specs.Ports.{Opens, TakesInHand};
+    ghost use Rattle.file_ports.specs.Counts.{RoseByOne, OpensPath, ReadsOpenFile};
     ghost use Rattle.memory_ports.specs.Memory.{faults_at, fails_at, hand_of, left_of, piece_of, reads_of, state_of, total_faults, FailsAlike};
 
     ghost state = { state_of };
 
     fn open_file(&mut self, path: &str) -> Result<Presence, Failed>
-        ensures opens { Opens (state_of self.old).files path.now result (state_of self.new).left }
-        ensures in_hand { TakesInHand (state_of self.old) path.now result (state_of self.new).in_hand }
-        ensures cause { HasFileCause path.now (state_of self.old) (state_of self.new) result }
+        ensures opened { OpensPath (state_of self.old) (state_of self.new) path.now result }
         ensures fails { is_err result ≡ fails_at self.old path.now 0 }
         ensures one { OnErr result (RoseByOne (total_faults self.old) (total_faults self.new)) }
         ensures one_at_path { OnErr result

@@ -1,12 +1,17 @@
-use Rattle.std.proofs.Common.{codes, sym, ◌∙◌}
+use Rattle.std.proofs.Common.{rules, codes, sym, ◌∙◌}
 use Rattle.file_ports.specs.Steady.{folder_of as others_on, left_of}
 use Rattle.feed_maker.specs.StopTimes.{lines_of}
 use Rattle.feed_maker.specs.MadeTables.{stop_times_text}
 use Rattle.feed_maker.proofs.HandLemmas.{opens_behind}
 use Rattle.feed_maker.proofs.files.MadeFilesFiles.open_file.Goals as goal
 
-pub returns-clause-opens : goal.returns-clause-opens
-returns-clause-opens c =
+pub returns-clause-opened : goal.returns-clause-opened
+returns-clause-opened c =
     let old = c.args.self.now in
-    opens_behind c.args.path.now (codes "feed/stop_times.txt") (stop_times_text (lines_of old.times)) (others_on old.others) c.open_file.result (left_of c.open_file.new.self)
-    (sym c.eq.ensures ∙ c.if-eq.false) c.open_file.ensures.opens
+    record {
+      opens =
+          opens_behind c.args.path.now (codes "feed/stop_times.txt") (stop_times_text (lines_of old.times)) (others_on old.others)
+          c.open_file.result (left_of c.open_file.new.self) (sym c.eq.ensures ∙ c.if-eq.false) c.open_file.ensures.opened.opens;
+      in_hand = search rules;
+      cause = search rules;
+    }

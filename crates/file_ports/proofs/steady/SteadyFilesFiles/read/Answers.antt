@@ -13,10 +13,10 @@ returns-clause-reads c =
       in_hand = search rules;
       bound = search rules;
       bytes = (
-        consumes_known _ _ _ _ _ old new (moved c.index-file.result.now.value.items c.deref.result.now c.copy_front-count.new.buffer c.args.self.now.place c.min-from.result _ _
-            c.deref.ensures.value c.min-from.ensures same_len c.copy_front-count.ensures.front),
-        λ z r. end_known _ _ new (at_end c.index-file.result.now.value.items c.deref.result.now c.args.self.now.place c.min-from.result _ _ c.args.self.now.piece _
-            c.deref.ensures.value c.min-from.ensures same_len c.copy_front-count.ensures.count c.args.self.now.some c.requires.room z),
+        consumes_known _ _ _ _ _ old new (moved c.index-file.result.now.value.items c.deref.result.now c.copy_front-count.new.buffer
+            c.args.self.now.place c.min-from.result _ _ c.deref.ensures.value c.min-from.ensures same_len c.copy_front-count.ensures.front),
+        λ z r. end_known _ _ new (at_end c.index-file.result.now.value.items c.deref.result.now c.args.self.now.place c.min-from.result _ _
+            c.args.self.now.piece _ c.deref.ensures.value c.min-from.ensures same_len c.copy_front-count.ensures.count c.args.self.now.some c.requires.room z),
       );
       cause = search rules;
     }
