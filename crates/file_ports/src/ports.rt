@@ -1,5 +1,5 @@
 //! The two interfaces to the outside.
-ghost use Rattle.std.specs.Prelude.{◌≡◌, ◌<◌, ◌≤◌, ℕ, List, Option, length, IfOk, IsSome};
+ghost use Rattle.std.specs.Prelude.{◌<◌, ◌≤◌, ℕ, List, Option, length, IfOk, IsSome};
 ghost use Rattle.std.specs.Io.KnownBytes.{WriteAppends};
 ghost use Rattle.file_ports.specs.Counts.{HasCause, OpensPath, ReadsOpenFile};
 ghost use Rattle.file_ports.specs.Ports.{FilesState};
