@@ -1,12 +1,15 @@
 -- The rows of stops.
-use Rattle.std.proofs.Common.{arith, ◌≡◌, ℕ, ◌<◌, List, Some, None, sym, ap}
+use Rattle.std.proofs.Common.{arith, ◌≡◌, ℕ, ◌<◌, List, Some, None, sym, ap, ap₂, ◌∙◌, map, length, slice_index_or}
+use Rattle.std.proofs.lemmas.List.{length-map, get_or-map}
+use Rattle.csv_rows.specs.Lists.{list_below}
+use Rattle.csv_rows.proofs.ListLemmas.{length-list_below, get-list_below}
 use Rattle.csv_rows.specs.declared.columns.Column.TheVariants.{StopId}
 use Rattle.csv_rows.specs.First.{first_below}
 use Rattle.csv_rows.specs.Names.{name_in}
 use Rattle.csv_rows.specs.Tables.{row_count, field}
 use Rattle.csv_rows.proofs.FirstLemmas.{none-each}
 use Rattle.feed_lists.specs.declared.stops.StopColumns.{StopColumns}
-use Rattle.feed_lists.specs.Stops.{stop_columns, stop_in, stop_at, bad_stop, parent_of, parent_in_row, stop_ids, unknown_parent, place_fault, place_from}
+use Rattle.feed_lists.specs.Stops.{stop_columns, stop_in, stop_at, bad_stop, parent_of, stop_ids, unknown_in, unknown_parent, place_from}
 use Rattle.csv_rows.proofs.RowLemmas.{name_is}
 use Rattle.plan_model.proofs.Results.{result_err-require}
 
@@ -15,14 +18,21 @@ pub stop_is : (t : List (List (List ℕ))) (c : StopColumns) (i : ℕ) → c ≡
 unfolding stop_at
 stop_is t c i e = ap (λ k. stop_in t k i) (sym e)
 
--- the parent of a row whose fields are of their forms
-pub unknown_is : (t : List (List (List ℕ))) (c : StopColumns) (ids : List (List ℕ)) (i : ℕ) → c ≡ stop_columns t → ids ≡ stop_ids t
-    → bad_stop t i ≡ None → unknown_parent t i ≡ place_fault ids (stop_in t c i) i
-unknown_is t c ids i e same good = grind (arith, stop_is)
+-- the values of a list that is listed by number
+pub listed : {A B : Type 0} (g : A → B) (xs : List A) (f : ℕ → B) (n : ℕ) → map g xs ≡ list_below f n
+    → (length xs ≡ n) × ((i : ℕ) (d : A) → i < length xs → g (slice_index_or xs i d) ≡ f i)
+listed g xs f n e =
+    let size : length xs ≡ n = sym (length-map xs g) ∙ ap length e ∙ length-list_below f n in
+    (size, λ i d inside. sym (get_or-map g xs i d (f i) inside) ∙ ap (λ ys. slice_index_or ys i (f i)) e ∙ get-list_below f n i (f i) (omega (arith, size, inside)))
 
-pub place_is_from : (t : List (List (List ℕ))) (c : StopColumns) (ids : List (List ℕ)) (i p : ℕ) → c ≡ stop_columns t → ids ≡ stop_ids t
-    → place_from ids (parent_in_row (stop_in t c i)) i ≡ p → p ≡ place_from (stop_ids t) (parent_of t i) i
-place_is_from t c ids i p e same h = grind (arith, stop_is)
+-- the parent of a stop, by that of its row
+pub unknown_is : (t : List (List (List ℕ))) (ids : List (List ℕ)) (parent : List ℕ) (i : ℕ) → ids ≡ stop_ids t → parent ≡ parent_of t i
+    → unknown_parent t i ≡ unknown_in ids parent i
+unknown_is t ids parent i e h = ap₂ (λ names name. unknown_in names name i) (sym e) (sym h)
+
+pub place_is_from : (t : List (List (List ℕ))) (ids : List (List ℕ)) (parent : List ℕ) (i p : ℕ) → ids ≡ stop_ids t → parent ≡ parent_of t i
+    → place_from ids parent i ≡ p → p ≡ place_from (stop_ids t) (parent_of t i) i
+place_is_from t ids parent i p e h is = sym is ∙ ap₂ (λ names name. place_from names name i) e h
 
 -- each stop has a name
 pub stops_named : (t : List (List (List ℕ))) → first_below (bad_stop t) (row_count t) ≡ None → (i : ℕ) → i < row_count t → name_in (field t StopId i) ≡ Some (field t StopId i)

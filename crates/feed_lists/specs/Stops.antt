@@ -43,16 +43,20 @@ stop_at t i = stop_in t (stop_columns t) i
 abbrev pub bad_stop : List (List (List ℕ)) → ℕ → Option FeedFault
 bad_stop t i = result_err (stop_at t i)
 
+-- the stop of a row whose fields are of their forms
+abbrev pub stop_or_none : Result Stop FeedFault → Stop
+stop_or_none s = value_or (record { id = []; parent = [] }) s
+
 -- the parent station of a row
-abbrev pub parent_in_row : Result Stop FeedFault → List ℕ
-parent_in_row s = (value_or (record { id = []; parent = [] }) s).parent
-
 abbrev pub parent_of : List (List (List ℕ)) → ℕ → List ℕ
-parent_of t i = parent_in_row (stop_at t i)
+parent_of t i = (stop_or_none (stop_at t i)).parent
 
--- the ids of the stops
+-- the ids and the parents of the stops
 abbrev pub stop_ids : List (List (List ℕ)) → List (List ℕ)
 stop_ids t = list_below (field t StopId) (row_count t)
+
+abbrev pub stop_parents : List (List (List ℕ)) → List (List ℕ)
+stop_parents t = list_below (parent_of t) (row_count t)
 
 -- no stop has the id of this parent
 abbrev pub unknown_in : List (List ℕ) → List ℕ → ℕ → Option FeedFault
@@ -62,10 +66,6 @@ unknown_in ids parent i =
 
 abbrev pub unknown_parent : List (List (List ℕ)) → ℕ → Option FeedFault
 unknown_parent t i = unknown_in (stop_ids t) (parent_of t i) i
-
--- what keeps a row from having a place among these ids
-abbrev pub place_fault : List (List ℕ) → Result Stop FeedFault → ℕ → Option FeedFault
-place_fault ids s i = option_or (result_err s) (unknown_in ids (parent_in_row s) i)
 
 -- the place of a stop is its parent, and itself where it has none; the parent's own parent does not matter
 abbrev pub place_from : List (List ℕ) → List ℕ → ℕ → ℕ

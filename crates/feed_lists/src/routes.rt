@@ -95,6 +95,7 @@ impl Routes {
     ghost use Rattle.feed_lists.specs.Lists.{HasRoutes, AreSoundRoutes};
 
     /// The routes of a table, or the first of its faults.
+    #[tactic(auto, using(table_files::proofs::ReadSteps::read_steps), unfolding(crate::specs::Routes::routes_fault))]
     pub(crate) fn read(alloc: Global, rows: &Rows) -> Result<Routes, FeedFault>
         requires { row_count rows.now ≤ most_routes }
         ensures routes { IfOk result (HasRoutes (Ok rows.now)) }

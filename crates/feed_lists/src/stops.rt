@@ -1,11 +1,11 @@
 //! The stops of a feed.
-ghost use Rattle.std.specs.Prelude.{◌≡◌, ◌<◌, ◌≤◌, None, Ok, IfOk, length};
+ghost use Rattle.std.specs.Prelude.{◌≡◌, ◌<◌, ◌≤◌, Ok, IfOk, length, map};
 ghost use Rattle.std.specs.Result.{result_err};
 ghost use Rattle.csv_rows.specs.declared.feed_tables.Table.TheVariants.{Stops as StopsTable};
 ghost use Rattle.csv_rows.specs.First.{first_below};
 ghost use Rattle.csv_rows.specs.RowFaults.{ReportsFirst};
 ghost use Rattle.csv_rows.specs.Tables.{row_count};
-ghost use Rattle.feed_lists.specs.Stops.{stop_columns, stop_in, bad_stop, parent_in_row, stop_ids, place_fault, unknown_parent, place_from, stop_places, stops_fault};
+ghost use Rattle.feed_lists.specs.Stops.{stop_columns, stop_in, bad_stop, stop_ids, stop_parents, unknown_in, unknown_parent, place_from, stop_places, stops_fault};
 ghost use Rattle.feed_lists.specs.ListBounds.{most_stops};
 
 use crate::forms::{read_is_stop, read_parent};
@@ -71,55 +71,54 @@ fn read_stop(rows: &Rows, columns: StopColumns, row: usize) -> Result<Stop<'_>, 
     Ok(Stop { id, parent })
 }
 
-/// That each field of the stops is of its form, or the first that is not.
-fn check_stops(rows: &Rows) -> Result<(), FeedFault>
-    ensures { ReportsFirst StopsTable (first_below (bad_stop rows.now) (row_count rows.now)) result }
+/// The parent station of each stop, empty if it has none, or the first field that is not of its form.
+fn read_parents(alloc: Global, rows: &Rows) -> Result<Vec<&str>, FeedFault>
+    ensures parents { IfOk result (λ parents. map (λ p. p.now) parents.items ≡ stop_parents rows.now) }
+    ensures reports { ReportsFirst StopsTable (first_below (bad_stop rows.now) (row_count rows.now)) result }
 {
     let columns = stop_columns(rows);
+    let mut parents: Vec<&str> = Vec::new(alloc);
     for i in 0..rows.count() {
-        read_stop(rows, columns, i)?;
+        let stop = read_stop(rows, columns, i)?;
+        parents.push(stop.parent)?;
     }
-    Ok(())
+    Ok(parents)
 }
 
-/// The place of the stop of a row; or `UnknownKey` if its parent is none of these.
-fn read_place(
-    rows: &Rows,
-    columns: StopColumns,
-    ids: &TextIndex<'_>,
-    row: usize,
-) -> Result<u32, FeedFault>
+/// The place of the stop of a row with this parent; or `UnknownKey` if its parent is none of these.
+fn read_place(rows: &Rows, parent: &str, ids: &TextIndex<'_>, row: usize) -> Result<u32, FeedFault>
     requires inside { row < row_count rows.now }
     requires few { row_count rows.now ≤ most_stops }
-    ensures place { IfOk result
-        (λ p. place_from ids.now (parent_in_row (stop_in rows.now columns row)) row ≡ p) }
-    ensures reports { ReportsFirst StopsTable
-        (place_fault ids.now (stop_in rows.now columns row) row) result }
+    ensures place { IfOk result (λ p. place_from ids.now parent.now row ≡ p) }
+    ensures reports { ReportsFirst StopsTable (unknown_in ids.now parent.now row) result }
 {
-    let stop = read_stop(rows, columns, row)?;
-    if stop.parent.is_empty() {
+    if parent.is_empty() {
         return Ok(row as u32);
     }
-    match ids.number(stop.parent) {
+    match ids.number(parent) {
         Some(place) => Ok(place),
         None => Err(FeedFault::UnknownKey(Table::Stops, rows.line(row), Column::ParentStation)),
     }
 }
 
-/// The place of each stop, or the first stop whose parent is no stop.
-fn read_places(alloc: Global, rows: &Rows, ids: &Ids) -> Result<Vec<u32>, FeedFault>
+/// The place of each stop by its parent, or the first stop whose parent is no stop.
+fn read_places(
+    alloc: Global,
+    rows: &Rows,
+    parents: &[&str],
+    ids: &Ids,
+) -> Result<Vec<u32>, FeedFault>
     requires few { row_count rows.now ≤ most_stops }
     requires ids { ids.now ≡ stop_ids rows.now }
-    requires formed { first_below (bad_stop rows.now) (row_count rows.now) ≡ None }
+    requires parents { map (λ p. p.now) parents.now ≡ stop_parents rows.now }
     ensures places { IfOk result (λ places. places.items ≡ stop_places rows.now) }
     ensures reports { ReportsFirst StopsTable
         (first_below (unknown_parent rows.now) (row_count rows.now)) result }
 {
-    let columns = stop_columns(rows);
     let index = TextIndex::of(alloc, ids.key(), ids.texts())?;
     let mut places: Vec<u32> = Vec::new(alloc);
     for i in 0..rows.count() {
-        let place = read_place(rows, columns, &index, i)?;
+        let place = read_place(rows, parents[i], &index, i)?;
         places.push(place)?;
     }
     Ok(places)
@@ -129,6 +128,7 @@ impl Stops {
     ghost use Rattle.feed_lists.specs.Lists.{HasStops, AreSoundStops};
 
     /// The stops of a table, or the first of its faults.
+    #[tactic(auto, using(table_files::proofs::ReadSteps::read_steps), unfolding(crate::specs::Stops::stops_fault))]
     pub(crate) fn read(alloc: Global, rows: &Rows) -> Result<Stops, FeedFault>
         requires { row_count rows.now ≤ most_stops }
         ensures stops { IfOk result (HasStops (Ok rows.now)) }
@@ -136,9 +136,9 @@ impl Stops {
         ensures reports { ReportsFirst StopsTable (stops_fault rows.now) result }
     {
         check_columns(rows, Table::Stops, &[Column::StopId])?;
-        check_stops(rows)?;
+        let parents = read_parents(alloc, rows)?;
         let ids = read_ids(alloc, rows, Table::Stops, Column::StopId)?;
-        let places = read_places(alloc, rows, &ids)?;
+        let places = read_places(alloc, rows, parents.as_slice(), &ids)?;
         Ok(Stops { ids, places })
     }
 }

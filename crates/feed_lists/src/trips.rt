@@ -155,6 +155,7 @@ fn read_of_trips(alloc: Global, rows: &Rows, routes: &Routes) -> Result<OfTrips,
 }
 
 /// The trips of a table, or the first of its faults.
+#[tactic(auto, using(table_files::proofs::ReadSteps::read_steps), unfolding(crate::specs::Trips::trips_fault))]
 pub(crate) fn read_trips(alloc: Global, rows: &Rows, routes: &Routes) -> Result<Trips, FeedFault>
     requires { row_count rows.now ≤ most_trips }
     ensures trips { IfOk result (HasTrips routes.now (Ok rows.now)) }

@@ -86,6 +86,7 @@ fn repeats_by(alloc: Global, rows: Vec<TripFrequency>) -> Result<Repeats, NoMemo
 }
 
 /// How these trips repeat by the rows of a table, or the first of its faults.
+#[tactic(auto, using(table_files::proofs::ReadSteps::read_steps), unfolding(crate::specs::Frequencies::frequencies_fault))]
 fn read_frequencies(alloc: Global, rows: &Rows, trips: &Ids) -> Result<Repeats, FeedFault>
     requires { row_count rows.now ≤ most_frequencies }
     ensures ordered { IfOk result (λ r. IsNonDecreasing r.trips.items) }
