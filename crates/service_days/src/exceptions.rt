@@ -112,6 +112,7 @@ fn number_rows(alloc: Global, rows: &Rows, ids: &Ids) -> Result<Numbered, FeedFa
 }
 
 /// The exceptions of a table, or the first of its faults. The services that have a number keep it.
+#[tactic(auto, using(table_files::proofs::ReadSteps::read_steps), unfolding(crate::specs::Dates::dates_fault))]
 pub(crate) fn read_exceptions(alloc: Global, rows: &Rows, ids: Ids) -> Result<Numbered, FeedFault>
     requires { length ids + row_count rows.now < 2 ^ 32 - 1 }
     ensures numbered { IfOk result (λ n.

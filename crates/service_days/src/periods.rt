@@ -179,6 +179,7 @@ fn read_periods(alloc: Global, rows: &Rows) -> Result<Vec<Period>, FeedFault>
 }
 
 /// The calendar of a table, or the first of its faults.
+#[tactic(auto, using(table_files::proofs::ReadSteps::read_steps), unfolding(crate::specs::Periods::calendar_fault))]
 pub(crate) fn read_calendar(alloc: Global, rows: &Rows) -> Result<Calendar, FeedFault>
     requires { row_count rows.now ≤ 2 ^ 20 }
     ensures ids { IfOk result (λ calendar. calendar.ids ≡ service_ids rows.now) }

@@ -8,9 +8,7 @@ use Rattle.service_days.proofs.PeriodLemmas.{period_is}
 use Rattle.service_days.proofs.periods.read_periods.Goals as goal
 
 pub loop-i-init : goal.loop-i-init
-loop-i-init c =
-    let t = c.args.rows.now in
-    record { periods = c.new-periods.ensures.items ∙ sym (list_below-zero (period_of t)); none = first-zero (bad_period t) }
+loop-i-init c = grind (arith, list_below-zero, first-zero)
 
 pub returns-in_err-period-clause-reports : goal.returns-in_err-period-clause-reports
 returns-in_err-period-clause-reports c = match_raised _ _ c.from_residual.result c.from_residual.ensures
