@@ -1,10 +1,7 @@
 //! What the connections of a window add up to, before any of them is made.
-ghost use Rattle.std.specs.Prelude.{◌≡◌, ◌≤◌, ◌<◌, ◌^◌, ◌-◌, length, min, if◌then◌else◌};
-ghost use Rattle.gtfs_tables.specs.Timed.{kept_at};
+ghost use Rattle.std.specs.Prelude.{◌≡◌, ◌≤◌, ◌<◌, ◌^◌, ◌-◌, length, min};
 ghost use Rattle.gtfs_tables.specs.TripRepeats.{IsFrequency};
-ghost use Rattle.connections.specs.Window.{holds};
-ghost use Rattle.connections.specs.Rides.{departs};
-ghost use Rattle.connections.specs.Counts.{each_of, steps_sum, leaving_sum, row_sum, rows_sum, runs_sum, trip_sum, day_sum, window_sum, HaveWays};
+ghost use Rattle.connections.specs.Counts.{each_of, steps_sum, row_sum, rows_sum, runs_sum, trip_sum, day_sum, window_sum, HaveWays};
 
 use crate::feed_window::{FeedWindow, TripWindow};
 use crate::origins::{Origin, ServiceDay};
@@ -44,27 +41,6 @@ pub(crate) fn most_ways(changes: &Changes, places: u32) -> u64
     most
 }
 
-/// What the connection from one kept row counts for, where it departs in the window.
-fn sum_step(
-    changes: &Changes,
-    counted: Counted,
-    rows: &[StopRow],
-    step: usize,
-    origin: Origin,
-    window: Window,
-) -> u64
-    requires { step < length rows.now }
-    ensures { result ≡ (if holds window (departs rows.now origin step)
-        then each_of changes.now counted (kept_at rows.now step).place else 0) }
-{
-    if leaves(rows, step, origin, window) {
-        let row = rows[step];
-        each(changes, counted, row.place)
-    } else {
-        0
-    }
-}
-
 /// What the connections of a run with these kept rows count for.
 #[tactic(auto, using(crate::proofs::CountLemmas::sum_steps))]
 fn sum_steps(
@@ -78,28 +54,11 @@ fn sum_steps(
 {
     let mut sum = 0u64;
     for k in 0..rows.len().saturating_sub(1) {
-        sum = sum.saturating_add(sum_step(changes, counted, rows, k, origin, window));
+        if leaves(rows, k, origin, window) {
+            sum = sum.saturating_add(each(changes, counted, rows[k].place));
+        }
     }
     sum
-}
-
-/// What the connections from one kept row of the runs of a row of frequencies count for.
-fn sum_leaving(
-    changes: &Changes,
-    counted: Counted,
-    trip: &TripWindow<'_>,
-    step: usize,
-    row: &FrequencyRow,
-) -> u64
-    requires step { step < length trip.now.rows.now }
-    requires row { IsFrequency row.now }
-    ensures { result ≡ min (leaving_sum (each_of changes.now counted) trip.now.window trip.now.rows.now
-        trip.now.day row.now step) (2 ^ 64 - 1) }
-{
-    let (from, to) = leaving(trip, step, row);
-    let count = u64::from(to.saturating_sub(from));
-    let place = trip.rows[step].place;
-    count.saturating_mul(each(changes, counted, place))
 }
 
 /// What the connections of the runs of a row of frequencies count for.
@@ -111,7 +70,10 @@ fn sum_row(changes: &Changes, counted: Counted, trip: &TripWindow<'_>, row: &Fre
 {
     let mut sum = 0u64;
     for k in 0..trip.rows.len().saturating_sub(1) {
-        sum = sum.saturating_add(sum_leaving(changes, counted, trip, k, row));
+        let (from, to) = leaving(trip, k, row);
+        let count = u64::from(to.saturating_sub(from));
+        let step = count.saturating_mul(each(changes, counted, trip.rows[k].place));
+        sum = sum.saturating_add(step);
     }
     sum
 }

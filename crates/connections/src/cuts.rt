@@ -168,36 +168,6 @@ fn network_of(
     Ok((network.with_links(links), names))
 }
 
-/// The network of a feed whose services are found, or its fault, as `cut` says.
-fn network_within(
-    alloc: Global,
-    days: &TripDays<'_>,
-    changes: &Changes,
-    delays: &DelayTable,
-    start: Moment,
-    horizon: u32,
-    limits: &Limits,
-) -> Result<(Network, Names), WindowFault>
-    requires early { first_start ≤ start.0 }
-    requires late { start.0 ≤ last_start }
-    requires horizon { horizon ≤ most_hours }
-    requires links { LinksComeFrom (length days.now.feed.stop_ids) changes.now }
-    ensures network { IfOk result (λ r. IsNetworkFrom days.now.feed days.now.services changes.now delays.now
-        start.0 horizon r.0 r.1) }
-    ensures fit { IfOk result (λ r. NamesFit r.1 r.0) }
-    ensures count { IfOk result (λ r. length r.0.connections
-        ≡ connection_count days.now.feed days.now.services start.0 horizon) }
-    ensures none { OnOk result
-        (fault_from limits.now days.now.feed days.now.services changes.now start.0 horizon ≡ None) }
-    ensures fault { IfErr result (λ f. f ≢ WindowFault.NoMemory
-        → fault_from limits.now days.now.feed days.now.services changes.now start.0 horizon ≡ Some f) }
-{
-    let trips = FeedWindow::new(days, changes, Window::new(start.0, horizon));
-    let count = count_within(&trips, limits)?;
-    let parts = network_of(alloc, &trips, delays, count)?;
-    Ok(parts)
-}
-
 /// The network of the connections of a feed that depart from the start to this many hours later, both ends included, over
 /// the service days from 14 before the date of the start to 3 after it, and the names of its places and runs. A connection
 /// is the ride of a run from one kept row of its trip to the next, on a day on which the trip's service is active. A trip
@@ -236,7 +206,9 @@ pub fn cut(
         → fault_from limits.now feed.now services.now changes.now start.0 horizon ≡ Some f) }
 {
     let days = TripDays::of(alloc, feed, services)?;
-    network_within(alloc, &days, changes, delays, start, horizon, limits)
+    let trips = FeedWindow::new(&days, changes, Window::new(start.0, horizon));
+    let count = count_within(&trips, limits)?;
+    Ok(network_of(alloc, &trips, delays, count)?)
 }
 
 impl From<NoMemory> for WindowFault {

@@ -1,7 +1,7 @@
 use Rattle.std.proofs.Common.{◌≡◌, Bool, true, false, refl, arith, Option, Some, None, if◌then◌else◌, ltb-false}
 use Rattle.std.specs.Option.{option_or}
 use Rattle.connections.specs.declared.cuts.WindowFault.{WindowFault}
-use Rattle.connections.proofs.cuts.network_within.Goals as goal
+use Rattle.connections.proofs.cuts.cut.Goals as goal
 
 none_is : (b : Bool) (fault : WindowFault) (more : Option WindowFault) → None ≡ option_or (if b then Some fault else None) more → b ≡ false
 none_is true fault more e = absurd (cc)
