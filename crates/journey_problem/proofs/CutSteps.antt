@@ -23,10 +23,9 @@ use Rattle.journey_problem.specs.CutProblems.{places_in, stop_fault, cut_problem
 
 -- what holds of a network and its names, holds of the problem of them
 pub of_parts : (P : NetworkModel → NameLists → Type 0) (n : NetworkModel) (names : NameLists) (t : Timetable) → t.network ≡ n → t.names ≡ names → P n names
-    → (r : Result Problem Fault) → IfOk r (λ p. p.timetable ≡ t) → IfOk r (λ p. P p.timetable.network p.timetable.names)
-of_parts P n names t network named h (Ok p) is =
+    → (p : Problem) → p.timetable ≡ t → P p.timetable.network p.timetable.names
+of_parts P n names t network named h p is =
     subst (λ (u : Timetable). P u.network u.names) (sym is) (subst (λ (m : NetworkModel). P m t.names) (sym network) (subst (P n) (sym named) h))
-of_parts P n names t network named h (Err fault) is = tt
 
 -- the network of a table that was read
 abbrev pub IsNetworkOf : CutParts → DelayLists → Problem → Type 0

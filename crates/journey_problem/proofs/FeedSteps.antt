@@ -56,6 +56,6 @@ module _ (limits : Limits) (files : FileMap) (horizon : ℕ) (j : JourneyModel) 
   window_problem (Err fault) network no_fault source target = tt
 
 -- a step that reads nothing has no unread file
-pub none_unread_of : (mine : Input) (r : Result Problem Fault) → IfErr r (λ fault. unread_input fault ≡ None) → IfErr r (MayBeUnread mine)
+pub none_unread_of : {T : Type 0} (mine : Input) (r : Result T Fault) → IfErr r (λ fault. unread_input fault ≡ None) → IfErr r (MayBeUnread mine)
 none_unread_of mine (Ok p) quiet = tt
 none_unread_of mine (Err fault) quiet = subst (λ (o : Option Input). IfSome o (λ other. other ≡ mine)) (sym quiet) tt

@@ -40,24 +40,6 @@ fn ends_of(names: &Names, from: &str, to: &str) -> Result<Ends, Fault>
     Ok(Ends { source, target })
 }
 
-/// The problem of a journey in a timetable.
-fn problem_between(timetable: Timetable, journey: &Journey) -> Result<Problem, Fault>
-    ensures timetable { IfOk result (λ p. p.timetable ≡ timetable) }
-    ensures source { IfOk result (λ p.
-        IsNamed p.timetable.names p.source.0 journey.now.from.now) }
-    ensures target { IfOk result (λ p.
-        IsNamed p.timetable.names p.target.0 journey.now.to.now) }
-    ensures none { OnOk result
-        (stop_fault timetable.names.places journey.now.from.now journey.now.to.now ≡ None) }
-    ensures fault { IfErr result (λ fault.
-        stop_fault timetable.names.places journey.now.from.now journey.now.to.now ≡ Some fault) }
-    ensures early { (timetable : TimetableModel) → IfErr result (IsBeforeSearch timetable) }
-    ensures read { IfErr result (λ fault. unread_input fault ≡ None) }
-{
-    let ends = ends_of(&timetable.names, journey.from, journey.to)?;
-    Ok(Problem::between(ends, timetable))
-}
-
 /// The problem of a journey in what its files hold.
 fn problem_in(
     alloc: Global,
@@ -80,7 +62,9 @@ fn problem_in(
     ensures read { IfErr result (λ fault. unread_input fault ≡ None) }
 {
     let (network, names) = cut.network(alloc, delays)?;
-    problem_between(Timetable::new(network, names), journey)
+    let timetable = Timetable::new(network, names);
+    let ends = ends_of(&timetable.names, journey.from, journey.to)?;
+    Ok(Problem::between(ends, timetable))
 }
 
 /// The problem of a journey over a cut file that was read.

@@ -1,9 +1,7 @@
-use Rattle.std.proofs.Common.{◌≡◌, Option, sym, subst, IfSome}
 use Rattle.csv_rows.proofs.FaultLemmas.{if_raised}
-use Rattle.journey_model.specs.declared.faults.Input.{Input}
 use Rattle.journey_model.specs.declared.faults.Input.TheVariants as input
 use Rattle.journey_problem.proofs.Causes.{causes-quiet}
-use Rattle.std.proofs.lemmas.Result.{IfErr-weaker}
+use Rattle.journey_problem.proofs.FeedSteps.{none_unread_of}
 use Rattle.journey_problem.proofs.CertificateFiles.{unloaded, read, unread}
 use Rattle.journey_problem.proofs.certificate_files.read_certificate_file.Goals as goal
 
@@ -23,9 +21,7 @@ returns-clause-fault g c =
     c.as_slice.ensures.value c.in_ok-bytes.ensures.bytes c.certificate_of_bytes.result c.certificate_of_bytes.ensures.fault c.certificate_of_bytes.ensures.stage c.certificate_of_bytes.ensures.read
 
 pub returns-clause-own : goal.returns-clause-own
-returns-clause-own g c =
-    IfErr-weaker c.certificate_of_bytes.result _ _
-    (λ fault none. subst (λ (u : Option Input). IfSome u (λ other. other ≡ input.Proof)) (sym none) tt) c.certificate_of_bytes.ensures.read
+returns-clause-own g c = none_unread_of input.Proof c.certificate_of_bytes.result c.certificate_of_bytes.ensures.read
 
 pub returns-clause-causes : goal.returns-clause-causes
 returns-clause-causes g c = causes-quiet c.in_ok-bytes.bytes _ c.in_ok-bytes.ensures.causes c.certificate_of_bytes.ensures.read

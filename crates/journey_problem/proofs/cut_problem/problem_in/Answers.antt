@@ -1,5 +1,6 @@
-use Rattle.std.proofs.Common.{◌≡◌, ◌∙◌, List, ℕ, Some, None, ap, subst, IfErr, OnOk}
-use Rattle.std.proofs.lemmas.Result.{IfErr-weaker}
+use Rattle.std.proofs.Common.{◌≡◌, ◌∙◌, List, ℕ, Some, None, ap, arith, subst}
+use Rattle.std.proofs.lemmas.Option.{slice_get_within}
+use Rattle.csv_rows.proofs.FaultLemmas.{if_raised}
 use Rattle.cut_file.specs.CutNetwork.{IsCutNetwork}
 use Rattle.cut_file.specs.Read.{IsCutRead}
 use Rattle.plan_model.specs.NameLists.{NameLists}
@@ -8,20 +9,32 @@ use Rattle.journey_problem.specs.Files.{Records}
 use Rattle.journey_problem.proofs.CutSteps.{of_parts}
 use Rattle.journey_problem.proofs.cut_problem.problem_in.Goals as goal
 
+pub between-requires-clause-source : goal.between-requires-clause-source
+between-requires-clause-source c =
+    let t = c.new-timetable.result in
+    omega (arith, slice_get_within t.names.places c.in_ok-ends.ends.source.0 c.args.journey.now.from.now c.in_ok-ends.ensures.source, t.fit.places)
+
+pub between-requires-clause-target : goal.between-requires-clause-target
+between-requires-clause-target c =
+    let t = c.new-timetable.result in
+    omega (arith, slice_get_within t.names.places c.in_ok-ends.ends.target.0 c.args.journey.now.to.now c.in_ok-ends.ensures.target, t.fit.places)
+
 pub returns-clause-network : goal.returns-clause-network
 returns-clause-network c =
     let cut = c.args.cut.now in
     of_parts (λ n names. (table : Records) → IsCutRead table cut.runs cut.places cut.rows cut.keys → IsCutNetwork table c.args.delays.now n names)
-    c.in_ok-network.network c.in_ok-network.names c.new.result c.new.ensures.network c.new.ensures.names c.in_ok-network.ensures.table c.problem_between.result c.problem_between.ensures.timetable
+    c.in_ok-network.network c.in_ok-network.names c.new-timetable.result c.new-timetable.ensures.network c.new-timetable.ensures.names
+    c.in_ok-network.ensures.table c.between.result c.between.ensures.timetable
 
 pub returns-clause-none : goal.returns-clause-none
 returns-clause-none c =
     let j = c.args.journey.now in
-    let P : List (List ℕ) → Type 0 = λ names. OnOk c.problem_between.result (stop_fault names j.from.now j.to.now ≡ None) in
-    subst P (ap (λ (ns : NameLists). ns.places) c.new.ensures.names ∙ c.in_ok-network.ensures.places) c.problem_between.ensures.none
+    let P : List (List ℕ) → Type 0 = λ names. stop_fault names j.from.now j.to.now ≡ None in
+    subst P (ap (λ (ns : NameLists). ns.places) c.new-timetable.ensures.names ∙ c.in_ok-network.ensures.places) c.in_ok-ends.ensures.none
 
-pub returns-clause-fault : goal.returns-clause-fault
-returns-clause-fault c =
+pub returns-in_err-ends-clause-fault : goal.returns-in_err-ends-clause-fault
+returns-in_err-ends-clause-fault c =
     let j = c.args.journey.now in
-    let P : List (List ℕ) → Type 0 = λ names. IfErr c.problem_between.result (λ fault. stop_fault names j.from.now j.to.now ≡ Some fault) in
-    IfErr-weaker c.problem_between.result _ _ (λ fault is other. is) (subst P (ap (λ (ns : NameLists). ns.places) c.new.ensures.names ∙ c.in_ok-network.ensures.places) c.problem_between.ensures.fault)
+    let P : List (List ℕ) → Type 0 = λ names. stop_fault names j.from.now j.to.now ≡ Some c.in_err-ends.field-0.0 in
+    if_raised _ c.from_residual-in_err-ends.result c.from_residual-in_err-ends.ensures (λ other.
+    subst P (ap (λ (ns : NameLists). ns.places) c.new-timetable.ensures.names ∙ c.in_ok-network.ensures.places) c.in_err-ends.ensures.fault)

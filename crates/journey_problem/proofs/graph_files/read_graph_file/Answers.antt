@@ -1,10 +1,9 @@
-use Rattle.std.proofs.Common.{◌≡◌, Option, sym, subst, IfSome}
 use Rattle.file_ports.specs.Ports.{file_at}
-use Rattle.journey_model.specs.declared.faults.Input.{Input}
 use Rattle.journey_model.specs.declared.faults.Input.TheVariants as input
 use Rattle.journey_problem.proofs.Causes.{causes-quiet}
+use Rattle.journey_problem.proofs.FeedSteps.{none_unread_of}
 use Rattle.std.proofs.lemmas.Option.{IfSome_then}
-use Rattle.std.proofs.lemmas.Result.{IfOk-weaker, IfErr-weaker}
+use Rattle.std.proofs.lemmas.Result.{IfOk-weaker}
 use Rattle.graph_text.proofs.Accepted.{graph_deadline}
 use Rattle.journey_problem.proofs.GraphFiles.{graph_finds}
 use Rattle.journey_problem.proofs.graph_files.read_graph_file.Goals as goal
@@ -35,9 +34,7 @@ returns-clause-deadline g c =
     c.graph_of_bytes.ensures.graph
 
 pub returns-clause-own : goal.returns-clause-own
-returns-clause-own g c =
-    IfErr-weaker c.graph_of_bytes.result _ _
-    (λ fault none. subst (λ (u : Option Input). IfSome u (λ other. other ≡ input.Graph)) (sym none) tt) c.graph_of_bytes.ensures.read
+returns-clause-own g c = none_unread_of input.Graph c.graph_of_bytes.result c.graph_of_bytes.ensures.read
 
 pub returns-clause-causes : goal.returns-clause-causes
 returns-clause-causes g c = causes-quiet c.in_ok-bytes.bytes _ c.in_ok-bytes.ensures.causes c.graph_of_bytes.ensures.read
