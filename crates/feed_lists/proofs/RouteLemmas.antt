@@ -4,7 +4,8 @@ use Rattle.csv_rows.specs.declared.columns.Column.TheVariants.{RouteId}
 use Rattle.csv_rows.specs.First.{first_below}
 use Rattle.csv_rows.specs.Names.{name_in}
 use Rattle.csv_rows.specs.Tables.{row_count, field}
-use Rattle.csv_rows.proofs.FirstLemmas.{none-each}
+use Rattle.csv_rows.proofs.FirstLemmas.{none-each, first-zero, first-next}
+use Rattle.csv_rows.proofs.ListLemmas.{list_below-zero, list_below-next}
 use Rattle.feed_lists.specs.declared.routes.RouteColumns.{RouteColumns}
 use Rattle.feed_lists.specs.Routes.{route_columns, route_in, route_at, bad_route}
 use Rattle.csv_rows.proofs.RowLemmas.{name_is}
@@ -14,6 +15,9 @@ use Rattle.plan_model.proofs.Results.{result_err-require}
 pub route_is : (t : List (List (List ℕ))) (c : RouteColumns) (i : ℕ) → c ≡ route_columns t → route_at t i ≡ route_in t c i
 unfolding route_at
 route_is t c i e = ap (λ k. route_in t k i) (sym e)
+
+-- the start and the step of a loop over the rows
+pub ruleset route_steps = (route_is, first-zero, first-next, list_below-zero, list_below-next)
 
 -- each route has a name
 pub routes_named : (t : List (List (List ℕ))) → first_below (bad_route t) (row_count t) ≡ None → (i : ℕ) → i < row_count t → name_in (field t RouteId i) ≡ Some (field t RouteId i)

@@ -78,6 +78,7 @@ fn read_route(rows: &Rows, columns: RouteColumns, row: usize) -> Result<Route<'_
 }
 
 /// The type of each route, or the first field that is not of its form.
+#[tactic(auto, using(crate::proofs::RouteLemmas::route_steps))]
 fn read_types(alloc: Global, rows: &Rows) -> Result<Vec<u16>, FeedFault>
     ensures types { IfOk result (λ types. types.items ≡ route_types rows.now) }
     ensures reports { ReportsFirst RoutesTable (first_below (bad_route rows.now) (row_count rows.now)) result }

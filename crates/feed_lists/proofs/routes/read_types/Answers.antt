@@ -1,18 +1,10 @@
 use Rattle.std.proofs.Common.{ap, arith}
 use Rattle.std.specs.Result.{result_err}
 use Rattle.csv_rows.proofs.FaultLemmas.{match_raised, fault-at}
-use Rattle.csv_rows.proofs.FirstLemmas.{first-zero, first-next}
-use Rattle.csv_rows.proofs.ListLemmas.{list_below-zero, list_below-next}
 use Rattle.feed_lists.proofs.RouteLemmas.{route_is}
 use Rattle.feed_lists.proofs.routes.read_types.Goals as goal
-
-pub loop-i-init : goal.loop-i-init
-loop-i-init c = grind (arith, list_below-zero, first-zero)
 
 pub returns-in_err-route-clause-reports : goal.returns-in_err-route-clause-reports
 returns-in_err-route-clause-reports c = match_raised _ _ c.from_residual.result c.from_residual.ensures
     (fault-at _ c.loop-i.i _ (omega arith) c.loop-i.invariant.none
     (ap result_err (route_is c.args.rows.now _ c.loop-i.i c.route_columns-columns.ensures)) c.in_err-route.ensures.reports)
-
-pub loop-i-preserved : goal.loop-i-preserved
-loop-i-preserved c = grind (arith, route_is, list_below-next, first-next)
