@@ -29,7 +29,8 @@ count_one : {A : Type 0} (p : A → Bool) (a : A) → count_by p (a ∷ []) ≡ 
 count_one p a = omega arith
 
 -- the count of those that pass a test, with one more
-pub count-next : {A : Type 0} (p : A → Bool) (f : ℕ → A) (n old new : ℕ) (a : A) → old ≡ count_by p (list_below f n) → new ≡ old + (if p a then 1 else 0) → f n ≡ a
+pub count-next : {A : Type 0} (p : A → Bool) (f : ℕ → A) (n old new : ℕ) (a : A) → old ≡ count_by p (list_below f n)
+    → new ≡ old + (if p a then 1 else 0) → f n ≡ a
     → new ≡ count_by p (list_below f (n + 1))
 count-next p f n old new a e h here =
     h ∙ ap (λ k. k + (if p a then 1 else 0)) e ∙ ap (λ k. count_by p (list_below f n) + k) (sym (count_one p a))
@@ -70,12 +71,14 @@ no_rows feed c reported links passed =
           ∙ sym (ways-none (λ from. greatest_below (λ i. link_between from place (transfer_reported_by feed [] i)) 0) (length feed.stop_ids)
           (λ from. greatest-zero (λ i. link_between from place (transfer_reported_by feed [] i))));
       few = omega (arith, ap length links);
-      seconds = λ place. ap (λ es. change_seconds (lookup (nat_eq place) es)) reported ∙ ap change_seconds (sym (greatest-zero (λ i. seconds_between place place (transfer_reported_by feed [] i))));
+      seconds = λ place. ap (λ es. change_seconds (lookup (nat_eq place) es)) reported
+          ∙ ap change_seconds (sym (greatest-zero (λ i. seconds_between place place (transfer_reported_by feed [] i))));
       passed = passed ∙ sym (ap (count_by is_none) (list_below-zero (transfer_reported_by feed [])));
     }
 
 -- what no rows give
-pub reported_none : (feed : FeedParts) (t : Records) (reported : TransfersSoFar) → length reported.walks.items ≡ length feed.stop_ids → ((from : ℕ) → walks_of reported.walks.items from ≡ [])
+pub reported_none : (feed : FeedParts) (t : Records) (reported : TransfersSoFar) → length reported.walks.items ≡ length feed.stop_ids
+    → ((from : ℕ) → walks_of reported.walks.items from ≡ [])
     → reported.seconds.entries ≡ [] → reported.passed ≡ 0 → AreCollected feed t 0 reported
 reported_none feed t reported size walks seconds passed =
     let zero : (from to : ℕ) → greatest_link feed t 0 from to ≡ None = λ from to. greatest-zero (λ i. link_between from to (transfer_reported_by feed t i)) in

@@ -7,7 +7,8 @@ unfolding greatest_below
 greatest-zero f = refl
 
 -- the greatest with one more
-pub greatest-next : (f : ℕ → Option ℕ) (n : ℕ) (old new o : Option ℕ) → old ≡ greatest_below f n → new ≡ greater old o → f n ≡ o → new ≡ greatest_below f (n + 1)
+pub greatest-next : (f : ℕ → Option ℕ) (n : ℕ) (old new o : Option ℕ) → old ≡ greatest_below f n → new ≡ greater old o → f n ≡ o
+    → new ≡ greatest_below f (n + 1)
 unfolding greatest_below
 greatest-next f n old new o e h here = rw add-one (h ∙ ap (λ x. greater x o) e ∙ ap (greater (greatest_below f n)) (sym here))
 

@@ -38,7 +38,8 @@ ways-same f g (suc n) same =
 
 one_before : (n : ℕ) (o : Option ℕ) → ComeBefore (link_from n o) (n + 1)
 one_before n None = All-nil (λ (way : Way). way.from.0 < n + 1)
-one_before n (Some s) = All-push (λ (way : Way). way.from.0 < n + 1) [] (record { from = record { 0 = n }; seconds = max 1 s }) (All-nil (λ (way : Way). way.from.0 < n + 1)) (omega arith)
+one_before n (Some s) = All-push (λ (way : Way). way.from.0 < n + 1) [] (record { from = record { 0 = n }; seconds = max 1 s })
+    (All-nil (λ (way : Way). way.from.0 < n + 1)) (omega arith)
 
 pub ways_before : (f : ℕ → Option ℕ) (n : ℕ) → ComeBefore (ways_below f n) n
 ways_before f zero = subst (λ ws. ComeBefore ws 0) (sym (ways-zero f)) (All-nil (λ (way : Way). way.from.0 < 0))
@@ -55,17 +56,21 @@ pub most-push : (to : ℕ) (walks : List Walk) (walk : Walk) → most_to to (wal
 most-push to [] walk = greater-none (walk_to to walk)
 most-push to (w ∷ walks) walk = ap (greater (walk_to to w)) (most-push to walks walk) ∙ sym (greater-assoc (walk_to to w) (most_to to walks) (walk_to to walk))
 
-pub most-next : (to : ℕ) (walks : List Walk) (i : ℕ) (d : Walk) → i < length walks → most_to to (take (i + 1) walks) ≡ greater (most_to to (take i walks)) (walk_to to (get_or walks i d))
+pub most-next : (to : ℕ) (walks : List Walk) (i : ℕ) (d : Walk) → i < length walks
+    → most_to to (take (i + 1) walks) ≡ greater (most_to to (take i walks)) (walk_to to (get_or walks i d))
 most-next to walks i d h = ap (most_to to) (take_more walks i d h) ∙ most-push to (take i walks) (get_or walks i d)
 
 abbrev way : ℕ → ℕ → Way
 way from seconds = record { from = record { 0 = from }; seconds = seconds }
 
 -- where the last way comes from a place, it is that of the place
-last_before : (base : List Way) (from : ℕ) (d : Way) → ComeBefore base from → 0 < length base → (get_or base (length base - 1) d).from.0 ≡ from → {P : Type 0} → P
-last_before base from d before some e = absurd (let h = All-get_or (λ (w : Way). w.from.0 < from) base (length base - 1) d (omega arith) before in omega (arith, h, e))
+last_before : (base : List Way) (from : ℕ) (d : Way) → ComeBefore base from → 0 < length base → (get_or base (length base - 1) d).from.0 ≡ from
+    → {P : Type 0} → P
+last_before base from d before some e = absurd
+    (let h = All-get_or (λ (w : Way). w.from.0 < from) base (length base - 1) d (omega arith) before in omega (arith, h, e))
 
-pub put-raised : (old base : List Way) (i from seconds most : ℕ) (o : Option ℕ) (last : Way) → ComeBefore base from → old ≡ base ++ link_from from o → 0 < length old → i ≡ length old - 1
+pub put-raised : (old base : List Way) (i from seconds most : ℕ) (o : Option ℕ) (last : Way) → ComeBefore base from → old ≡ base ++ link_from from o
+    → 0 < length old → i ≡ length old - 1
     → last ≡ get_or old i last → last.from.0 ≡ from → most ≡ max last.seconds seconds
     → set old i (record { from = last.from; seconds = most }) ≡ base ++ link_from from (greater o (Some seconds))
 put-raised old base i from seconds most None last before e some at is same m =
@@ -85,7 +90,8 @@ put-raised old base i from seconds most (Some s) last before e some at is same m
     ∙ ap (λ n. base ++ way from n ∷ []) long
 
 -- with the walk of a transfer more
-walk_is : (t : Transfer) (from to : ℕ) → (t.from ≡ t.to → ⊥) → t.from ≡ from → link_between from to (Some t) ≡ walk_to to (record { to = t.to; seconds = t.seconds })
+walk_is : (t : Transfer) (from to : ℕ) → (t.from ≡ t.to → ⊥) → t.from ≡ from
+    → link_between from to (Some t) ≡ walk_to to (record { to = t.to; seconds = t.seconds })
 walk_is t from to apart e = grind (arith, nat_tests)
 
 no_walk : (t : Transfer) (from to : ℕ) → (t.from ≡ from → ⊥) → link_between from to (Some t) ≡ None
@@ -98,7 +104,8 @@ add-walk walks t old new inside apart is more from to = elim (cases_eq t.from fr
   | inl here ↦
       let same : old ≡ walks_of walks from = is ∙ get_or_default walks t.from old [] inside ∙ ap (λ k. get_or walks k []) here in
       ap (λ k. most_to to (get_or (set walks t.from new) k [])) (sym here) ∙ ap (most_to to) (get_or-set_same walks t.from new [] inside) ∙ ap (most_to to) more
-      ∙ most-push to old (record { to = t.to; seconds = t.seconds }) ∙ ap (λ ws. greater (most_to to ws) (walk_to to (record { to = t.to; seconds = t.seconds }))) same
+      ∙ most-push to old (record { to = t.to; seconds = t.seconds })
+      ∙ ap (λ ws. greater (most_to to ws) (walk_to to (record { to = t.to; seconds = t.seconds }))) same
       ∙ ap (greater (most_to to (walks_of walks from))) (sym (walk_is t from to apart here))
   | inr other ↦
       let away : from ≡ t.from → ⊥ = λ e. other (sym e) in

@@ -1,5 +1,6 @@
 -- Ways that rise, come from others and take a second to a day.
-use Rattle.std.proofs.Common.{◌≡◌, ◌≢◌, ℕ, zero, suc, ◌+◌, ◌<◌, ◌≤◌, max, List, [], ◌∷◌, ◌++◌, length, get_or, All, Option, Some, None, sym, ap, ◌∙◌, subst, arith, length-append, ⊎_elim}
+use Rattle.std.proofs.Common.{◌≡◌, ◌≢◌, ℕ, zero, suc, ◌+◌, ◌<◌, ◌≤◌, max, List, [], ◌∷◌, ◌++◌, length, get_or, All, Option, Some, None, sym, ap, ◌∙◌}
+use Rattle.std.proofs.Common.{subst, arith, length-append, ⊎_elim}
 use Rattle.std.proofs.lemmas.Bool.{cases_lt}
 use Rattle.std.proofs.lemmas.List.{append-nil, get_or_append_left, get_or_past, get_or_push}
 use Rattle.std.proofs.lemmas.List.Elements.{All-get_or, All-nil, All-push}
@@ -61,8 +62,10 @@ sound places r (suc n) f few own short =
     (add places r n (ways_below f n) (f n) (omega arith) (λ same. ap f same ∙ own) (short n) (ways_before f n) (sound places r n f (omega arith) own short)))
 
 -- the links of rows, by their walks
-module _ (feed : FeedParts) (t : Records) (n : ℕ) (reported : TransfersSoFar) (is : AreCollected feed t n reported) (links : List (List Way)) (size : length links ≡ length feed.stop_ids)
-    (ways : (to : ℕ) → to < length feed.stop_ids → ways_at links to ≡ ways_below (λ from. most_to to (walks_of reported.walks.items from)) (length feed.stop_ids)) where
+module _ (feed : FeedParts) (t : Records) (n : ℕ) (reported : TransfersSoFar) (is : AreCollected feed t n reported) (links : List (List Way))
+    (size : length links ≡ length feed.stop_ids)
+    (ways : (to : ℕ) → to < length feed.stop_ids
+    → ways_at links to ≡ ways_below (λ from. most_to to (walks_of reported.walks.items from)) (length feed.stop_ids)) where
   reported_into : (places to : ℕ) → length feed.stop_ids ≤ places → to < length feed.stop_ids → AreLinksInto places to (ways_at links to)
   reported_into places to few inside =
       subst (AreLinksInto places to) (sym (ways to inside))
@@ -80,5 +83,6 @@ module _ (feed : FeedParts) (t : Records) (n : ℕ) (reported : TransfersSoFar) 
   reported_from to =
       ⊎_elim (λ (inside : to < length feed.stop_ids). (reported_into (length feed.stop_ids) to (omega arith) inside).inside)
       (λ (past : length feed.stop_ids ≤ to).
-      subst (All (λ (way : Way). way.from.0 < length feed.stop_ids)) (sym (get_or_past links to [] (omega (arith, size)))) (All-nil (λ (way : Way). way.from.0 < length feed.stop_ids)))
+      subst (All (λ (way : Way). way.from.0 < length feed.stop_ids)) (sym (get_or_past links to [] (omega (arith, size))))
+      (All-nil (λ (way : Way). way.from.0 < length feed.stop_ids)))
       (cases_lt to (length feed.stop_ids))

@@ -6,7 +6,7 @@ ghost use Rattle.csv_rows.specs.declared.feed_tables.Table.TheVariants.{Transfer
 ghost use Rattle.csv_rows.specs.FeedTables.{unread_table, IsFaultOf};
 ghost use Rattle.csv_rows.specs.RowFaults.{ReportsFirst};
 ghost use Rattle.csv_rows.specs.Tables.{row_count};
-ghost use Rattle.change_times.specs.Transfers.{place_named_by, transfer_between, transfer_columns, timed_transfer_in, is_general_in, transfer_in};
+ghost use Rattle.change_times.specs.Transfers.{place_named_by, transfer_between, transfer_columns, is_general_in, transfer_in};
 
 use crate::forms::read_is_timed;
 use crate::stops::FeedStops;
@@ -83,31 +83,6 @@ fn transfer_between(from: PlaceId, to: PlaceId, seconds: Option<u32>) -> Option<
     }
 }
 
-/// The transfer of a row of type 2 for all routes and trips, or the first of its faults.
-fn read_timed(
-    feed: &FeedStops<'_>,
-    rows: &Rows,
-    columns: TransferColumns,
-    row: usize,
-) -> Result<Option<Transfer>, FeedFault>
-    requires { row < row_count rows.now }
-    ensures transfer { IfOk result (λ t. timed_transfer_in feed.now rows.now columns row ≡ Ok t) }
-    ensures from { IfOk result (λ t. IfSome t (λ transfer. transfer.from < length feed.now.stop_ids)) }
-    ensures short { IfOk result (λ t. IfSome t (λ transfer. transfer.seconds ≤ seconds_per_day)) }
-    ensures fault { IfErr result (λ f. timed_transfer_in feed.now rows.now columns row ≡ Err f) }
-    ensures content { IfErr result (λ f. unread_table f ≡ None) }
-    ensures own { IfErr result (IsFaultOf TransfersTable) }
-{
-    let line = rows.line(row);
-    let from = rows.field_at(row, columns.from);
-    let from = read_place(feed, from, line, Column::FromStopId)?;
-    let to = rows.field_at(row, columns.to);
-    let to = read_place(feed, to, line, Column::ToStopId)?;
-    let bad = FeedFault::BadField(Table::Transfers, line, Column::MinTransferTime);
-    let seconds = read_optional_seconds(rows.field_at(row, columns.seconds)).ok_or(bad)?;
-    Ok(transfer_between(from, to, seconds))
-}
-
 /// Whether a row is for all routes and trips.
 fn is_general(rows: &Rows, columns: TransferColumns, row: usize) -> bool
     requires { row < row_count rows.now }
@@ -134,10 +109,18 @@ pub(crate) fn read_transfer(
     ensures reports { ReportsFirst TransfersTable
         (result_err (transfer_in feed.now rows.now columns row)) result }
 {
-    let bad = FeedFault::BadField(Table::Transfers, rows.line(row), Column::TransferType);
-    let is_timed = read_is_timed(rows.field_at(row, columns.kind)).ok_or(bad)?;
-    if is_timed && is_general(rows, columns, row) {
-        return read_timed(feed, rows, columns, row);
+    let line = rows.line(row);
+    let bad = |column: Column| FeedFault::BadField(Table::Transfers, line, column);
+    let kind = rows.field_at(row, columns.kind);
+    let is_timed = read_is_timed(kind).ok_or(bad(Column::TransferType))?;
+    if !is_timed || !is_general(rows, columns, row) {
+        return Ok(None);
     }
-    Ok(None)
+    let from = rows.field_at(row, columns.from);
+    let from = read_place(feed, from, line, Column::FromStopId)?;
+    let to = rows.field_at(row, columns.to);
+    let to = read_place(feed, to, line, Column::ToStopId)?;
+    let seconds = rows.field_at(row, columns.seconds);
+    let seconds = read_optional_seconds(seconds).ok_or(bad(Column::MinTransferTime))?;
+    Ok(transfer_between(from, to, seconds))
 }

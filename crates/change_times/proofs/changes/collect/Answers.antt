@@ -41,20 +41,25 @@ loop-i-preserved c =
       reported = record {
         size = step.size ∙ old.size;
         seconds = λ place.
-            greatest-next (λ k. seconds_between place place (transfer_reported_by feed t k)) i (get nat_eq old_reported.seconds place) (get nat_eq new_reported.seconds place)
+            greatest-next (λ k. seconds_between place place (transfer_reported_by feed t k)) i (get nat_eq old_reported.seconds place)
+            (get nat_eq new_reported.seconds place)
             (seconds_between place place c.in_ok-transfer.transfer) (old.seconds place) (step.seconds place) (ap (seconds_between place place) reported);
         walks = λ from to.
-            greatest-next (λ k. link_between from to (transfer_reported_by feed t k)) i (most_to to (walks_of old_reported.walks.items from)) (most_to to (walks_of new_reported.walks.items from))
+            greatest-next (λ k. link_between from to (transfer_reported_by feed t k)) i (most_to to (walks_of old_reported.walks.items from))
+            (most_to to (walks_of new_reported.walks.items from))
             (link_between from to c.in_ok-transfer.transfer) (old.walks from to) (step.walks from to) (ap (link_between from to) reported);
         short = λ place.
-            short_next (get nat_eq old_reported.seconds place) (get nat_eq new_reported.seconds place) (seconds_between place place c.in_ok-transfer.transfer) (old.short place)
+            short_next (get nat_eq old_reported.seconds place) (get nat_eq new_reported.seconds place)
+            (seconds_between place place c.in_ok-transfer.transfer) (old.short place)
             (short_between place place c.in_ok-transfer.transfer c.in_ok-transfer.ensures.short) (step.seconds place);
         brief = λ from to.
-            short_next (greatest_link feed t i from to) (greatest_link feed t (i + 1) from to) (link_between from to c.in_ok-transfer.transfer) (old.brief from to)
+            short_next (greatest_link feed t i from to) (greatest_link feed t (i + 1) from to) (link_between from to c.in_ok-transfer.transfer)
+            (old.brief from to)
             (short_link from to c.in_ok-transfer.transfer c.in_ok-transfer.ensures.short)
             (sym (greatest-next (λ k. link_between from to (transfer_reported_by feed t k)) i (greatest_link feed t i from to) _
             (link_between from to c.in_ok-transfer.transfer) refl refl (ap (link_between from to) reported)));
-        passed = count-next is_none (transfer_reported_by feed t) i old_reported.passed new_reported.passed c.in_ok-transfer.transfer old.passed step.passed reported;
+        passed = count-next is_none (transfer_reported_by feed t) i old_reported.passed new_reported.passed c.in_ok-transfer.transfer old.passed
+            step.passed reported;
         few = omega (arith, old.few, step.passed, one_at_most (is_none c.in_ok-transfer.transfer));
       };
       none = first-next (bad_transfer feed t) i None c.loop-i.invariant.none (ap result_err here);

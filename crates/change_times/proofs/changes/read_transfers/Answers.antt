@@ -4,7 +4,8 @@ use Rattle.change_times.proofs.changes.read_transfers.Goals as goal
 
 pub returns-in_err-check_columns-clause-reports : goal.returns-in_err-check_columns-clause-reports
 unfolding transfers_fault
-returns-in_err-check_columns-clause-reports c = match_raised _ _ c.from_residual.result c.from_residual.ensures (fault-first _ _ _ c.in_err-check_columns.ensures)
+returns-in_err-check_columns-clause-reports c = match_raised _ _ c.from_residual.result c.from_residual.ensures
+    (fault-first _ _ _ c.in_err-check_columns.ensures)
 
 pub returns-clause-reports : goal.returns-clause-reports
 unfolding transfers_fault

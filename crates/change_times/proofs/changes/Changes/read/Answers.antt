@@ -9,10 +9,12 @@ use Rattle.change_times.specs.Changes.{ChangeParts, AreCollectedChanges, AreRepo
 use Rattle.change_times.proofs.changes.Changes.read.Goals as goal
 
 -- what is said of a table with no fault is said by some
-reported_by_some : {T : Type 0} (view : T → ChangeParts) (feed : FeedParts) (l : Loaded) (r : Result T FeedFault) → IfOk r (λ c. AreCollectedChanges feed (view c) (loaded_rows l))
+reported_by_some : {T : Type 0} (view : T → ChangeParts) (feed : FeedParts) (l : Loaded) (r : Result T FeedFault)
+    → IfOk r (λ c. AreCollectedChanges feed (view c) (loaded_rows l))
     → ReportsFirst Transfers (fault_of_transfers feed l) r → IfOk r (λ c. AreReportedBySome feed (view c))
 reported_by_some view feed l (Ok c) reported reports = record { loaded = l; no_fault = reports; reported = reported }
 reported_by_some view feed l (Err fault) reported reports = tt
 
 pub returns-clause-sound : goal.returns-clause-sound
-returns-clause-sound g c = reported_by_some _ c.args.feed.now c.in_ok-loaded.loaded c.changes_of.result c.changes_of.ensures.changes c.changes_of.ensures.reports
+returns-clause-sound g c = reported_by_some _ c.args.feed.now c.in_ok-loaded.loaded c.changes_of.result c.changes_of.ensures.changes
+    c.changes_of.ensures.reports
