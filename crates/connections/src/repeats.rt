@@ -1,5 +1,5 @@
 //! The runs that the rows of frequencies of a trip start.
-ghost use Rattle.std.specs.Prelude.{◌≡◌, ℕ, ◌+◌, ◌-◌, ◌<◌, ◌≤◌, ◌++◌, ◌<ℤ◌, ◌≤ℤ◌, pos, length, All, OnOk, IfOk};
+ghost use Rattle.std.specs.Prelude.{◌≡◌, ℕ, ◌+◌, ◌-◌, ◌<◌, ◌≤◌, ◌++◌, ◌<ℤ◌, ◌≤ℤ◌, pos, length, OnOk, IfOk};
 ghost use Rattle.csv_rows.specs.Lists.{list_below};
 ghost use Rattle.stop_times.specs.StopTimeBounds.{end_of_times};
 ghost use Rattle.gtfs_tables.specs.TripRepeats.{IsFrequency};
@@ -97,25 +97,16 @@ fn add_riding(
     Ok(())
 }
 
-/// The runs of a trip that repeats which ride in the window, row by row.
+/// The runs of a trip that repeats which ride in the window, by departure and then by line.
 #[tactic(auto, using(crate::proofs::JoinLemmas::join_steps), unfolding(crate::specs::RepeatedRuns::riding_of))]
-fn riding_of(alloc: Global, trip: &TripWindow<'_>) -> Result<Vec<Repeat>, NoMemory>
+pub(crate) fn repeats_of(alloc: Global, trip: &TripWindow<'_>) -> Result<Vec<Repeat>, NoMemory>
     ensures { IfOk result (λ found. found.items
-        ≡ riding_of trip.now.window trip.now.rows.now trip.now.day trip.now.frequencies.now) }
+        ≡ in_order (riding_of trip.now.window trip.now.rows.now trip.now.day trip.now.frequencies.now)) }
 {
     let mut repeats: Vec<Repeat> = Vec::new(alloc);
     for i in 0..trip.frequencies.len() {
         add_riding(&mut repeats, trip, &trip.frequencies[i])?;
     }
-    Ok(repeats)
-}
-
-/// The same by departure and then by line.
-pub(crate) fn repeats_of(alloc: Global, trip: &TripWindow<'_>) -> Result<Vec<Repeat>, NoMemory>
-    ensures { IfOk result (λ found. found.items
-        ≡ in_order (riding_of trip.now.window trip.now.rows.now trip.now.day trip.now.frequencies.now)) }
-{
-    let mut repeats = riding_of(alloc, trip)?;
     repeats.sort_unstable();
     Ok(repeats)
 }
