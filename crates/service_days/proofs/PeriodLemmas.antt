@@ -1,9 +1,7 @@
 -- The rows of the calendar.
-use Rattle.std.proofs.Common.{◌≡◌, ℕ, ◌<◌, ◌≤◌, length, arith, List, Some, None, sym, ap}
+use Rattle.std.proofs.Common.{◌≡◌, ℕ, ◌<◌, List, Some, None, sym, ap}
 use Rattle.csv_rows.specs.declared.columns.Column.TheVariants.{ServiceId}
 use Rattle.csv_rows.specs.First.{first_below}
-use Rattle.csv_rows.specs.Lists.{list_below}
-use Rattle.csv_rows.proofs.ListLemmas.{length-list_below}
 use Rattle.csv_rows.specs.Names.{name_in}
 use Rattle.csv_rows.specs.Tables.{row_count, field}
 use Rattle.csv_rows.proofs.FirstLemmas.{none-each}
@@ -23,7 +21,3 @@ unfolding period_at
 periods_named t none i inside =
     let w = result_err-require _ _ _ (none-each (bad_period t) (row_count t) none i inside) in
     name_is (field t ServiceId i) w.0 w.1
-
--- as many ids as rows
-pub few_ids : (t : List (List (List ℕ))) (ids : List (List ℕ)) (id : ℕ → List ℕ) → row_count t ≤ 1048576 → ids ≡ list_below id (row_count t) → length ids ≤ 1048576
-few_ids t ids id few e = omega (arith, few, ap length e, length-list_below id (row_count t))
