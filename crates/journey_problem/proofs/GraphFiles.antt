@@ -1,12 +1,9 @@
 -- The head and the graph of a graph file, from its bytes.
-use Rattle.std.proofs.Common.{◌≡◌, ℕ, List, Option, None, Result, Ok, Err, ap, ◌∙◌, refl, sym, ◌≢◌, IfErr, IfOk, IfSome}
+use Rattle.std.proofs.Common.{◌≡◌, ℕ, List, Option, None, Result, Ok, Err, ap, ◌∙◌, refl, sym, ◌≢◌, IfErr, IfOk}
 use Rattle.plan_model.specs.Results.{and_then}
-use Rattle.file_ports.specs.Ports.{FileMap, file_at}
 use Rattle.csv_rows.specs.declared.limits.Limits.{Limits}
 use Rattle.plan_graph.specs.declared.PlanGraph.{PlanGraph}
-use Rattle.plan_graph.specs.Tidy.{IsFit}
 use Rattle.graph_text.specs.declared.Head.{Head}
-use Rattle.graph_text.specs.Asked.{IsHeadOf}
 use Rattle.graph_text.specs.Reading.{graph_of}
 use Rattle.journey_model.specs.declared.faults.Input.{Input}
 use Rattle.journey_model.specs.declared.faults.Input.TheVariants as input
@@ -15,7 +12,7 @@ use Rattle.journey_model.specs.declared.faults.Fault.TheVariants.{NoMemory}
 use Rattle.journey_model.specs.Faults.{unread_input}
 use Rattle.journey_model.specs.declared.problem.Problem.{Problem}
 use Rattle.journey_problem.specs.Files.{bytes_of, Finds}
-use Rattle.journey_problem.specs.GraphFiles.{graph_as, graph_in, IsGraphFile}
+use Rattle.journey_problem.specs.GraphFiles.{graph_as, graph_in}
 
 module _ (limits : Limits) (p : Problem) (start : ℕ) (file : Option (List ℕ)) (bytes text : List ℕ) (there : bytes_of limits.bytes input.Graph None file ≡ Ok bytes) (same : text ≡ bytes) where
   -- what is read of the bytes of the file is read of the file
@@ -30,9 +27,3 @@ module _ (limits : Limits) (p : Problem) (start : ℕ) (file : Option (List ℕ)
       → IfErr r (λ fault. unread_input fault ≡ None) → Finds (λ f. (f.0, f.1)) (λ unread. graph_in limits p start unread file) r
   graph_finds (Ok f) ok err none = read_of None refl ∙ ap graph_as ok
   graph_finds (Err fault) ok err none = λ other. read_of (unread_input fault) none ∙ err other
-
--- the head and the graph that were read
-pub graph_file : (contents : Option FileMap) (limits : Limits) (start : ℕ) (path : List ℕ) (p : Problem) (head : Head) (graph : PlanGraph)
-    → IfSome contents (λ files. graph_in limits p start None (file_at files path) ≡ Ok (head, graph))
-    → IsFit p.timetable.network head.query graph → IsHeadOf p.source.0 p.target.0 start head → IsGraphFile contents limits start path p head graph
-graph_file contents limits start path p head graph reads fit is = record { reads = reads; fit = fit; head_is = is }

@@ -1,5 +1,5 @@
 //! The certificate that a command reads.
-ghost use Rattle.std.specs.Prelude.{◌≡◌, ◌≢◌, Some, None, IfOk, IfErr, IfSome};
+ghost use Rattle.std.specs.Prelude.{◌≡◌, ◌≢◌, Some, None, IfOk, IfErr};
 ghost use Rattle.journey_model.specs.Faults.{MayBeUnread, unread_input};
 ghost use Rattle.journey_model.specs.Stages.{IsOfInput};
 ghost use Rattle.journey_problem.specs.Files.{HasCauses};
