@@ -74,11 +74,7 @@ pub(crate) fn no_walks(alloc: Global, places: u32) -> Result<Vec<List<Walk>>, No
     ensures size { IfOk result (λ walks. length walks.items ≡ places) }
     ensures none { IfOk result (λ walks. (from : ℕ) → walks_of walks.items from ≡ []) }
 {
-    let mut walks = Vec::new(alloc);
-    for _ in 0..places {
-        walks.push(List::new(alloc))?;
-    }
-    Ok(walks)
+    Ok((0..places).map(|_| List::new(alloc)).collect(alloc)?)
 }
 
 /// Adds the walk of a transfer between two places to those from its first place.
@@ -100,11 +96,7 @@ fn no_links(alloc: Global, places: usize) -> Result<Vec<Ways>, NoMemory>
     ensures size { IfOk result (λ links. length links.items ≡ places) }
     ensures none { IfOk result (λ links. (to : ℕ) → ways_at links.items to ≡ []) }
 {
-    let mut links = Vec::new(alloc);
-    for _ in 0..places {
-        links.push(Ways::new(alloc))?;
-    }
-    Ok(links)
+    Ok((0..places).map(|_| Ways::new(alloc)).collect(alloc)?)
 }
 
 /// Puts a walk from a place to the ways into the place that it leads to.
