@@ -20,7 +20,8 @@ route_is t c i e = ap (λ k. route_in t k i) (sym e)
 pub ruleset route_steps = (route_is, first-zero, first-next, list_below-zero, list_below-next)
 
 -- each route has a name
-pub routes_named : (t : List (List (List ℕ))) → first_below (bad_route t) (row_count t) ≡ None → (i : ℕ) → i < row_count t → name_in (field t RouteId i) ≡ Some (field t RouteId i)
+pub routes_named : (t : List (List (List ℕ))) → first_below (bad_route t) (row_count t) ≡ None → (i : ℕ) → i < row_count t
+    → name_in (field t RouteId i) ≡ Some (field t RouteId i)
 unfolding route_at
 routes_named t none i inside =
     let w = result_err-require _ _ _ (none-each (bad_route t) (row_count t) none i inside) in

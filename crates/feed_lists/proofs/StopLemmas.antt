@@ -22,8 +22,11 @@ stop_is t c i e = ap (λ k. stop_in t k i) (sym e)
 pub listed : {A B : Type 0} (g : A → B) (xs : List A) (f : ℕ → B) (n : ℕ) → map g xs ≡ list_below f n
     → (length xs ≡ n) × ((i : ℕ) (d : A) → i < length xs → g (slice_index_or xs i d) ≡ f i)
 listed g xs f n e =
-    let size : length xs ≡ n = sym (length-map xs g) ∙ ap length e ∙ length-list_below f n in
-    (size, λ i d inside. sym (get_or-map g xs i d (f i) inside) ∙ ap (λ ys. slice_index_or ys i (f i)) e ∙ get-list_below f n i (f i) (omega (arith, size, inside)))
+    let size : length xs ≡ n = sym (length-map xs g) ∙ ap length e ∙ length-list_below f n in (
+      size,
+      λ i d inside. sym (get_or-map g xs i d (f i) inside) ∙ ap (λ ys. slice_index_or ys i (f i)) e
+          ∙ get-list_below f n i (f i) (omega (arith, size, inside)),
+    )
 
 -- the parent of a stop, by that of its row
 pub unknown_is : (t : List (List (List ℕ))) (ids : List (List ℕ)) (parent : List ℕ) (i : ℕ) → ids ≡ stop_ids t → parent ≡ parent_of t i
@@ -35,7 +38,8 @@ pub place_is_from : (t : List (List (List ℕ))) (ids : List (List ℕ)) (parent
 place_is_from t ids parent i p e h is = sym is ∙ ap₂ (λ names name. place_from names name i) e h
 
 -- each stop has a name
-pub stops_named : (t : List (List (List ℕ))) → first_below (bad_stop t) (row_count t) ≡ None → (i : ℕ) → i < row_count t → name_in (field t StopId i) ≡ Some (field t StopId i)
+pub stops_named : (t : List (List (List ℕ))) → first_below (bad_stop t) (row_count t) ≡ None → (i : ℕ) → i < row_count t
+    → name_in (field t StopId i) ≡ Some (field t StopId i)
 unfolding stop_at
 stops_named t none i inside =
     let w = result_err-require _ _ _ (none-each (bad_stop t) (row_count t) none i inside) in

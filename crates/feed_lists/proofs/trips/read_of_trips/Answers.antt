@@ -28,13 +28,15 @@ loop-i-preserved c =
     let before = c.loop-i.of_trips in
     let new = c.add_trip.new.of_trips in
     let here = trip_is ids t _ c.loop-i.i c.trip_columns-columns.ensures
-    ∙ ap (λ (ids : List (List ℕ)). trip_in ids t c.trip_columns-columns.result c.loop-i.i) (sym (c.in_ok-index.ensures ∙ c.texts.ensures)) ∙ c.in_ok-trip.ensures.trip in
+    ∙ ap (λ (ids : List (List ℕ)). trip_in ids t c.trip_columns-columns.result c.loop-i.i) (sym (c.in_ok-index.ensures ∙ c.texts.ensures))
+    ∙ c.in_ok-trip.ensures.trip in
     let known = subst (λ (ids : List (List ℕ)). trip.route < length ids) (c.in_ok-index.ensures ∙ c.texts.ensures) c.in_ok-trip.ensures.route in
     record {
       services = list_below-next (λ i. (trip_or_none (trip_at ids t i)).service) c.loop-i.i (texts before.services.items) (texts new.services.items)
           trip.service.now c.loop-i.invariant.services c.in_ok-add_trip.ensures.services (sym (ap (λ r. (trip_or_none r).service) here));
       types = list_below-next (λ i. slice_index_or types (trip_or_none (trip_at ids t i)).route 0) c.loop-i.i before.types.items new.types.items
-          (slice_index_or types trip.route 0) c.loop-i.invariant.types c.in_ok-add_trip.ensures.types (sym (ap (λ r. slice_index_or types (trip_or_none r).route 0) here));
+          (slice_index_or types trip.route 0) c.loop-i.invariant.types c.in_ok-add_trip.ensures.types
+          (sym (ap (λ r. slice_index_or types (trip_or_none r).route 0) here));
       routes = list_below-next (λ i. (trip_or_none (trip_at ids t i)).route) c.loop-i.i before.routes.items new.routes.items
           trip.route c.loop-i.invariant.routes c.in_ok-add_trip.ensures.routes (sym (ap (λ r. (trip_or_none r).route) here));
       known = subst (All (λ route. route < length ids)) (sym c.in_ok-add_trip.ensures.routes)
