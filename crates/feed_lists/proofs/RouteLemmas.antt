@@ -24,5 +24,4 @@ pub routes_named : (t : List (List (List ℕ))) → first_below (bad_route t) (r
     → name_in (field t RouteId i) ≡ Some (field t RouteId i)
 unfolding route_at
 routes_named t none i inside =
-    let w = result_err-require _ _ _ (none-each (bad_route t) (row_count t) none i inside) in
-    name_is (field t RouteId i) w.0 w.1
+    let w = result_err-require _ _ _ (none-each (bad_route t) (row_count t) none i inside) in name_is (field t RouteId i) w.0 w.1

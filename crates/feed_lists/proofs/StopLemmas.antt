@@ -42,5 +42,4 @@ pub stops_named : (t : List (List (List ℕ))) → first_below (bad_stop t) (row
     → name_in (field t StopId i) ≡ Some (field t StopId i)
 unfolding stop_at
 stops_named t none i inside =
-    let w = result_err-require _ _ _ (none-each (bad_stop t) (row_count t) none i inside) in
-    name_is (field t StopId i) w.0 w.1
+    let w = result_err-require _ _ _ (none-each (bad_stop t) (row_count t) none i inside) in name_is (field t StopId i) w.0 w.1
