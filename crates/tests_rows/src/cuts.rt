@@ -14,10 +14,7 @@ fn rows_in(alloc: Global, text: &[u8]) -> Result<Rows, RowsFault> {
 }
 
 fn rows_of(alloc: Global, text: &[u8]) -> Result<Rows, CutFault> {
-    match rows_in(alloc, text) {
-        Ok(rows) => Ok(rows),
-        Err(_) => Err(CutFault::NoMemory),
-    }
+    rows_in(alloc, text).map_err(|_| CutFault::NoMemory)
 }
 
 /// What rows say, of which three are read at most.
@@ -76,11 +73,8 @@ const FAULTS: [(&str, CutFault); 4] = [
 #[test]
 fn first_fault_of_a_field(rt: HostRuntime) {
     for (text, fault) in FAULTS {
-        assert_eq!(rt;
-            fault_of(rt.alloc(), text.as_bytes()),
-            Some(fault),
-            "{text}"
-        );
+        let found = fault_of(rt.alloc(), text.as_bytes());
+        assert_eq!(rt; found, Some(fault), "{text}");
     }
 }
 

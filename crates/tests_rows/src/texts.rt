@@ -23,30 +23,38 @@ fn list_of(alloc: Global) -> Result<(TextList, u32), Fail> {
     Ok((list, new))
 }
 
-/// Whether a list has each text at its place, and no other.
-fn lists_all(list: &TextList) -> bool {
+/// Where a list has a text, if it has that text there.
+fn place_in(list: &TextList, text: &str) -> Option<usize> {
+    let number = list.number(text)?;
+    (number < list.len() && list.get(number) == text).then_some(number as usize)
+}
+
+/// Where an index has a text, if it has that text there.
+fn found_in(index: &TextIndex<'_>, text: &str) -> Option<usize> {
+    let number = index.number(text)?;
+    (number < index.len() && index.get(number) == text).then_some(number as usize)
+}
+
+/// Whether each text is found at its place, and no other is.
+fn are_all<F: Fn(&str) -> Option<usize>>(len: u32, place: F) -> bool
+    requires { F.IsAlwaysCallable place }
+{
     for (i, text) in TEXTS.iter().enumerate() {
-        let Some(number) = list.number(text) else {
-            return false;
-        };
-        if number as usize != i || number >= list.len() || list.get(number) != *text {
+        if place(text) != Some(i) {
             return false;
         }
     }
-    list.len() == 20 && list.number("zz").is_none() && list.number("a").is_none()
+    len == 20 && place("zz").is_none() && place("a").is_none()
+}
+
+/// Whether a list has each text at its place, and no other.
+fn lists_all(list: &TextList) -> bool {
+    are_all(list.len(), |text: &str| place_in(list, text))
 }
 
 /// The same of an index.
 fn finds_all(index: &TextIndex<'_>) -> bool {
-    for (i, text) in TEXTS.iter().enumerate() {
-        let Some(number) = index.number(text) else {
-            return false;
-        };
-        if number as usize != i || number >= index.len() || index.get(number) != *text {
-            return false;
-        }
-    }
-    index.len() == 20 && index.number("zz").is_none() && index.number("a").is_none()
+    are_all(index.len(), |text: &str| found_in(index, text))
 }
 
 #[test]
