@@ -186,3 +186,17 @@ pub fn refuses(
     let output = output_of(alloc, sources, line)?;
     is_output(alloc, line, &output, status, "", err)
 }
+
+/// Fails unless a line of words over these files, of which one fails at a call, ends with status 7 and this line.
+pub fn cannot_read(
+    alloc: Global,
+    sources: &[Source],
+    failing: (&str, u32),
+    line: &str,
+    err: &str,
+) -> Result<(), Fail> {
+    let mut files = files_of(alloc, sources)?;
+    files.fail(failing.0, failing.1)?;
+    let output = output_over(alloc, &mut files, line)?;
+    is_output(alloc, line, &output, 7, "", err)
+}

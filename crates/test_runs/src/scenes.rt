@@ -23,28 +23,46 @@ pub const STOPS: SceneFile = SceneFile {
     path: "f/stops.txt",
     input: Input::Feed(Table::Stops),
     name: "stops.txt",
-    text: "\u{FEFF}stop_name,stop_id,parent_station,location_type\n\"Old Town, Square\",\"S,1\",,1\nPlatform 1,S1a,\"S,1\",0\nPlatform 2,S1b,\"S,1\",\nAirport,AIR,,\nMill,MIL,,0\nHalfway,HLF,,0\n",
+    text: "\u{FEFF}stop_name,stop_id,parent_station,location_type\n\
+        \"Old Town, Square\",\"S,1\",,1\n\
+        Platform 1,S1a,\"S,1\",0\n\
+        Platform 2,S1b,\"S,1\",\n\
+        Airport,AIR,,\n\
+        Mill,MIL,,0\n\
+        Halfway,HLF,,0\n",
 };
 
 pub const ROUTES: SceneFile = SceneFile {
     path: "f/routes.txt",
     input: Input::Feed(Table::Routes),
     name: "routes.txt",
-    text: "route_id,route_short_name,route_type\nT1,1,0\nB7,7,3\n",
+    text: "route_id,route_short_name,route_type\n\
+        T1,1,0\n\
+        B7,7,3\n",
 };
 
 pub const TRIPS: SceneFile = SceneFile {
     path: "f/trips.txt",
     input: Input::Feed(Table::Trips),
     name: "trips.txt",
-    text: "route_id,service_id,trip_id\nT1,WK,t100\nB7,WK,b200\nB7,WK,b201\n",
+    text: "route_id,service_id,trip_id\n\
+        T1,WK,t100\n\
+        B7,WK,b200\n\
+        B7,WK,b201\n",
 };
 
 pub const STOP_TIMES: SceneFile = SceneFile {
     path: "f/stop_times.txt",
     input: Input::Feed(Table::StopTimes),
     name: "stop_times.txt",
-    text: "trip_id,stop_sequence,stop_id,arrival_time,departure_time,pickup_type\nt100,10,MIL,8:00:00,8:00:00,0\nt100,15,HLF,,,\nt100,20,S1a,8:20:00,8:21:00,0\nb200,1,S1b,08:24:00,08:24:00,\nb200,2,AIR,08:50:00,08:50:00,\nb201,1,S1b,08:40:00,08:40:00,\nb201,2,AIR,09:06:00\n",
+    text: "trip_id,stop_sequence,stop_id,arrival_time,departure_time,pickup_type\n\
+        t100,10,MIL,8:00:00,8:00:00,0\n\
+        t100,15,HLF,,,\n\
+        t100,20,S1a,8:20:00,8:21:00,0\n\
+        b200,1,S1b,08:24:00,08:24:00,\n\
+        b200,2,AIR,08:50:00,08:50:00,\n\
+        b201,1,S1b,08:40:00,08:40:00,\n\
+        b201,2,AIR,09:06:00\n",
 };
 
 pub const FREQUENCIES: SceneFile = SceneFile {
@@ -58,28 +76,34 @@ pub const CALENDAR: SceneFile = SceneFile {
     path: "f/calendar.txt",
     input: Input::Feed(Table::Calendar),
     name: "calendar.txt",
-    text: "service_id,monday,tuesday,wednesday,thursday,friday,saturday,sunday,start_date,end_date\nWK,1,1,1,1,1,0,0,20240101,20241231\n",
+    text: "service_id,monday,tuesday,wednesday,thursday,friday,saturday,sunday,start_date,end_date\n\
+        WK,1,1,1,1,1,0,0,20240101,20241231\n",
 };
 
 pub const CALENDAR_DATES: SceneFile = SceneFile {
     path: "f/calendar_dates.txt",
     input: Input::Feed(Table::CalendarDates),
     name: "calendar_dates.txt",
-    text: "service_id,date,exception_type\nWK,20240610,2\nWK,20240615,1\n",
+    text: "service_id,date,exception_type\n\
+        WK,20240610,2\nWK,20240615,1\n",
 };
 
 pub const TRANSFERS: SceneFile = SceneFile {
     path: "f/transfers.txt",
     input: Input::Feed(Table::Transfers),
     name: "transfers.txt",
-    text: "from_stop_id,to_stop_id,transfer_type,min_transfer_time\nS1a,S1b,2,120\nS1b,S1a,2,60\n",
+    text: "from_stop_id,to_stop_id,transfer_type,min_transfer_time\n\
+        S1a,S1b,2,120\nS1b,S1a,2,60\n",
 };
 
 pub const DELAYS: SceneFile = SceneFile {
     path: "d",
     input: Input::Delays,
     name: "delay file",
-    text: "class,delay,weight\n*,0,8000\n*,300,1500\n*,900,500\n",
+    text: "class,delay,weight\n\
+        *,0,8000\n\
+        *,300,1500\n\
+        *,900,500\n",
 };
 
 pub const GRAPH: SceneFile = SceneFile {
@@ -93,14 +117,20 @@ pub const CUT: SceneFile = SceneFile {
     path: "c",
     input: Input::Cut,
     name: "cut file",
-    text: "run,step,from,to,dep,arr\nr1,1,A,B,2024-06-03T08:00:00,2024-06-03T08:20:00\nr2,1,B,T,2024-06-03T08:24:00,2024-06-03T08:50:00\nr3,1,B,T,2024-06-03T08:40:00,2024-06-03T09:06:00\n",
+    text: "run,step,from,to,dep,arr\n\
+        r1,1,A,B,2024-06-03T08:00:00,2024-06-03T08:20:00\n\
+        r2,1,B,T,2024-06-03T08:24:00,2024-06-03T08:50:00\n\
+        r3,1,B,T,2024-06-03T08:40:00,2024-06-03T09:06:00\n",
 };
 
 pub const PROOF: SceneFile = SceneFile {
     path: "p",
     input: Input::Proof,
     name: "proof file",
-    text: "bounds,1,A,T,2024-06-03T08:00:00,2024-06-03T10:42:00,3\nvalue,r1,1,2024-06-03T08:54:42.000000000\nvalue,r2,1,2024-06-03T08:51:30.000000000\nvalue,r3,1,2024-06-03T09:07:30.000000000\n",
+    text: "bounds,1,A,T,2024-06-03T08:00:00,2024-06-03T10:42:00,3\n\
+        value,r1,1,2024-06-03T08:54:42.000000000\n\
+        value,r2,1,2024-06-03T08:51:30.000000000\n\
+        value,r3,1,2024-06-03T09:07:30.000000000\n",
 };
 
 /// The words of a plan over Old Town.

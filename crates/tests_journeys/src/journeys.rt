@@ -20,16 +20,10 @@ struct Journey<'a> {
 
 /// A command about a journey, as a line of words.
 fn line_of(alloc: Global, command: &str, journey: &Journey) -> Result<String, Fail> {
-    let Journey {
-        alpha,
-        from,
-        at,
-        ..
-    } = *journey;
-    let line = format!(in alloc;
-        "{command} --alpha {alpha} --cut c --delays d --from {from} --to T --at 2024-06-03T{at}"
-    )?;
-    Ok(line)
+    Ok(format!(in alloc;
+        "{command} --alpha {} --cut c --delays d --from {} --to T --at 2024-06-03T{}",
+        journey.alpha, journey.from, journey.at
+    )?)
 }
 
 /// Stops where the least worst arrival of a journey or its deadline is another.
@@ -42,17 +36,10 @@ fn has_worst(alloc: Global, journey: &Journey) -> Result<(), Fail> {
 
 /// What `safe` prints of a journey.
 fn worst_text(alloc: Global, journey: &Journey) -> Result<String, Fail> {
-    let Journey {
-        from,
-        at,
-        worst,
-        deadline,
-        ..
-    } = *journey;
-    let text = format!(in alloc;
-        "safe,{from},T,2024-06-03T{at},2024-06-03T{worst},2024-06-03T{deadline}\n"
-    )?;
-    Ok(text)
+    Ok(format!(in alloc;
+        "safe,{},T,2024-06-03T{},2024-06-03T{},2024-06-03T{}\n",
+        journey.from, journey.at, journey.worst, journey.deadline
+    )?)
 }
 
 /// How a graph of a journey begins.
@@ -87,9 +74,10 @@ fn agrees(alloc: Global, journey: &Journey) -> Result<(), Fail> {
     has_graph(alloc, journey, "plan", "graph")
 }
 
-fn two_buses<'a>(cut: &'a str) -> Journey<'a> {
+/// A bus and two others that go on, of which the first is just caught by a bus in time.
+fn two_buses() -> Journey<'static> {
     Journey {
-        cut,
+        cut: "run,step,from,to,dep,arr\nr1,1,A,B,2024-06-03T08:00:00,2024-06-03T08:20:00\nr2,1,B,T,2024-06-03T08:22:00,2024-06-03T08:50:00\nr3,1,B,T,2024-06-03T08:40:00,2024-06-03T09:06:00\n",
         delays: USUAL_DELAYS,
         from: "A",
         at: "08:00:00",
@@ -107,16 +95,16 @@ const WITH_DIRECT: &str =
 
 const DIRECT_IS_SURE: &str = "class,delay,weight\n*,0,8000\n*,300,1500\n*,900,500\n1,0,10000\n";
 
-/// Two buses and a direct one that is never late, by a percentage.
-fn beside_direct<'a>(alpha: &'a str, deadline: &'a str) -> Journey<'a> {
+/// Two buses and a direct one that is never late, with no time to spare.
+fn beside_direct() -> Journey<'static> {
     Journey {
         cut: WITH_DIRECT,
         delays: DIRECT_IS_SURE,
         from: "A",
         at: "08:00:00",
-        alpha,
+        alpha: "100",
         worst: "09:00:00",
-        deadline,
+        deadline: "09:00:00",
         lower: "09:00:00.000000000",
         upper: "09:00:00.000000000",
         start: "08:00:00,r4,1,2024-06-03T08:00:00,1,T,2024-06-03T09:00:00",
@@ -125,25 +113,29 @@ fn beside_direct<'a>(alpha: &'a str, deadline: &'a str) -> Journey<'a> {
 
 #[test]
 fn changes_that_are_just_caught_or_missed(rt: HostRuntime) -> Result<(), Fail> {
-    let caught =
-        "run,step,from,to,dep,arr\nr1,1,A,B,2024-06-03T08:00:00,2024-06-03T08:20:00\nr2,1,B,T,2024-06-03T08:22:00,2024-06-03T08:50:00\nr3,1,B,T,2024-06-03T08:40:00,2024-06-03T09:06:00\n";
-    let missed =
-        "run,step,from,to,dep,arr\nr1,1,A,B,2024-06-03T08:00:00,2024-06-03T08:20:00\nr2,1,B,T,2024-06-03T08:21:59,2024-06-03T08:50:00\nr3,1,B,T,2024-06-03T08:40:00,2024-06-03T09:06:00\n";
-    agrees(rt.alloc(), &two_buses(caught))?;
+    agrees(rt.alloc(), &two_buses())?;
     agrees(
         rt.alloc(),
         &Journey {
+            cut: "run,step,from,to,dep,arr\nr1,1,A,B,2024-06-03T08:00:00,2024-06-03T08:20:00\nr2,1,B,T,2024-06-03T08:21:59,2024-06-03T08:50:00\nr3,1,B,T,2024-06-03T08:40:00,2024-06-03T09:06:00\n",
             lower: "09:07:30.000000000",
             upper: "09:07:30.000000000",
-            ..two_buses(missed)
+            ..two_buses()
         },
     )
 }
 
 #[test]
 fn deadlines_to_the_second(rt: HostRuntime) -> Result<(), Fail> {
-    agrees(rt.alloc(), &beside_direct("100", "09:00:00"))?;
-    agrees(rt.alloc(), &beside_direct("134", "09:20:24"))
+    agrees(
+        rt.alloc(),
+        &Journey {
+            alpha: "134",
+            deadline: "09:20:24",
+            ..beside_direct()
+        },
+    )?;
+    agrees(rt.alloc(), &beside_direct())
 }
 
 #[test]
@@ -151,59 +143,55 @@ fn a_deadline_that_the_buses_just_meet(rt: HostRuntime) -> Result<(), Fail> {
     agrees(
         rt.alloc(),
         &Journey {
+            cut: WITH_DIRECT,
             delays: DIRECT_IS_SURE,
             alpha: "135",
             worst: "09:00:00",
             deadline: "09:21:00",
-            ..two_buses(WITH_DIRECT)
+            ..two_buses()
         },
     )
 }
-
-/// The last bus arrives a second later.
-const LATE_BUS: &str =
-    "run,step,from,to,dep,arr,class\nr1,1,A,B,2024-06-03T08:00:00,2024-06-03T08:20:00,\nr2,1,B,T,2024-06-03T08:24:00,2024-06-03T08:50:00,\nr3,1,B,T,2024-06-03T08:40:00,2024-06-03T09:06:01,\nr4,1,A,T,2024-06-03T08:00:00,2024-06-03T09:00:00,1\n";
 
 #[test]
 fn a_deadline_that_a_bus_misses_by_a_second(rt: HostRuntime) -> Result<(), Fail> {
     agrees(
         rt.alloc(),
         &Journey {
-            cut: LATE_BUS,
-            ..beside_direct("135", "09:21:00")
+            // The last bus arrives a second later.
+            cut: "run,step,from,to,dep,arr,class\nr1,1,A,B,2024-06-03T08:00:00,2024-06-03T08:20:00,\nr2,1,B,T,2024-06-03T08:24:00,2024-06-03T08:50:00,\nr3,1,B,T,2024-06-03T08:40:00,2024-06-03T09:06:01,\nr4,1,A,T,2024-06-03T08:00:00,2024-06-03T09:00:00,1\n",
+            alpha: "135",
+            deadline: "09:21:00",
+            ..beside_direct()
         },
     )
 }
-
-/// The direct bus takes a second longer.
-const LONGER_DIRECT: &str =
-    "run,step,from,to,dep,arr,class\nr1,1,A,B,2024-06-03T08:00:00,2024-06-03T08:20:00,\nr2,1,B,T,2024-06-03T08:24:00,2024-06-03T08:50:00,\nr3,1,B,T,2024-06-03T08:40:00,2024-06-03T09:06:00,\nr4,1,A,T,2024-06-03T08:00:00,2024-06-03T09:00:01,1\n";
 
 #[test]
 fn a_deadline_by_a_second_more(rt: HostRuntime) -> Result<(), Fail> {
     agrees(
         rt.alloc(),
         &Journey {
-            cut: LONGER_DIRECT,
+            // The direct bus takes a second longer.
+            cut: "run,step,from,to,dep,arr,class\nr1,1,A,B,2024-06-03T08:00:00,2024-06-03T08:20:00,\nr2,1,B,T,2024-06-03T08:24:00,2024-06-03T08:50:00,\nr3,1,B,T,2024-06-03T08:40:00,2024-06-03T09:06:00,\nr4,1,A,T,2024-06-03T08:00:00,2024-06-03T09:00:01,1\n",
+            alpha: "134",
             worst: "09:00:01",
+            deadline: "09:20:25",
             lower: "09:00:01.000000000",
             upper: "09:00:01.000000000",
             start: "08:00:00,r4,1,2024-06-03T08:00:00,1,T,2024-06-03T09:00:01",
-            ..beside_direct("134", "09:20:25")
+            ..beside_direct()
         },
     )
 }
 
 #[test]
 fn bounds_are_rounded_outward(rt: HostRuntime) -> Result<(), Fail> {
-    let cut =
-        "run,step,from,to,dep,arr,class,change\na,1,S,P,2024-06-03T08:00:00,2024-06-03T08:30:00,1,60\nb,1,P,R,2024-06-03T08:31:00,2024-06-03T09:00:00,1,60\nc,1,P,R,2024-06-03T08:40:00,2024-06-03T09:20:00,1,60\nd,1,R,T,2024-06-03T09:01:00,2024-06-03T10:00:00,*,60\ne,1,R,T,2024-06-03T09:10:00,2024-06-03T10:10:00,2,60\nf,1,R,T,2024-06-03T09:30:00,2024-06-03T10:10:07,*,60\n";
-    let delays = "class,delay,weight\n*,0,10000\n1,0,9999\n1,60,1\n2,0,9999\n2,1,1\n";
     agrees(
         rt.alloc(),
         &Journey {
-            cut,
-            delays,
+            cut: "run,step,from,to,dep,arr,class,change\na,1,S,P,2024-06-03T08:00:00,2024-06-03T08:30:00,1,60\nb,1,P,R,2024-06-03T08:31:00,2024-06-03T09:00:00,1,60\nc,1,P,R,2024-06-03T08:40:00,2024-06-03T09:20:00,1,60\nd,1,R,T,2024-06-03T09:01:00,2024-06-03T10:00:00,*,60\ne,1,R,T,2024-06-03T09:10:00,2024-06-03T10:10:00,2,60\nf,1,R,T,2024-06-03T09:30:00,2024-06-03T10:10:07,*,60\n",
+            delays: "class,delay,weight\n*,0,10000\n1,0,9999\n1,60,1\n2,0,9999\n2,1,1\n",
             from: "S",
             at: "08:00:00",
             alpha: "200",
@@ -216,34 +204,30 @@ fn bounds_are_rounded_outward(rt: HostRuntime) -> Result<(), Fail> {
     )
 }
 
-/// Who stays seated at B changes at C.
-const SEATED: &str =
-    "run,step,from,to,dep,arr\nr1,1,A,B,2024-06-03T08:00:00,2024-06-03T08:20:00\nr1,2,B,C,2024-06-03T08:21:00,2024-06-03T08:40:00\nr2,1,B,T,2024-06-03T08:40:00,2024-06-03T09:30:00\nr3,1,C,T,2024-06-03T08:45:00,2024-06-03T09:00:00\nr4,1,C,T,2024-06-03T09:00:00,2024-06-03T09:15:00\n";
-
 #[test]
 fn staying_seated(rt: HostRuntime) -> Result<(), Fail> {
     agrees(
         rt.alloc(),
         &Journey {
+            // Who stays seated at B changes at C.
+            cut: "run,step,from,to,dep,arr\nr1,1,A,B,2024-06-03T08:00:00,2024-06-03T08:20:00\nr1,2,B,C,2024-06-03T08:21:00,2024-06-03T08:40:00\nr2,1,B,T,2024-06-03T08:40:00,2024-06-03T09:30:00\nr3,1,C,T,2024-06-03T08:45:00,2024-06-03T09:00:00\nr4,1,C,T,2024-06-03T09:00:00,2024-06-03T09:15:00\n",
             worst: "09:30:00",
             deadline: "11:00:00",
             lower: "09:04:30.000000000",
             upper: "09:04:30.000000000",
             start: "08:00:00,r1,1,2024-06-03T08:00:00,2,C,2024-06-03T08:40:00",
-            ..two_buses(SEATED)
+            ..two_buses()
         },
     )
 }
-
-/// A ride of a run takes no time.
-const AT_ONCE: &str =
-    "run,step,from,to,dep,arr\nr1,1,A,B,2024-06-03T08:00:00,2024-06-03T08:20:00\nr1,2,B,C,2024-06-03T08:20:00,2024-06-03T08:20:00\nr1,3,C,T,2024-06-03T08:20:00,2024-06-03T08:40:00\n";
 
 #[test]
 fn staying_seated_for_no_time(rt: HostRuntime) -> Result<(), Fail> {
     agrees(
         rt.alloc(),
         &Journey {
+            // A ride of a run takes no time.
+            cut: "run,step,from,to,dep,arr\nr1,1,A,B,2024-06-03T08:00:00,2024-06-03T08:20:00\nr1,2,B,C,2024-06-03T08:20:00,2024-06-03T08:20:00\nr1,3,C,T,2024-06-03T08:20:00,2024-06-03T08:40:00\n",
             from: "B",
             at: "08:20:00",
             worst: "08:55:00",
@@ -251,26 +235,24 @@ fn staying_seated_for_no_time(rt: HostRuntime) -> Result<(), Fail> {
             lower: "08:41:30.000000000",
             upper: "08:41:30.000000000",
             start: "08:20:00,r1,2,2024-06-03T08:20:00,3,T,2024-06-03T08:40:00",
-            ..two_buses(AT_ONCE)
+            ..two_buses()
         },
     )
 }
-
-/// The first ride may not be boarded, and of the second none may alight.
-const FORBIDDEN: &str =
-    "run,step,from,to,dep,arr,board,exit\nr1,1,A,T,2024-06-03T08:00:00,2024-06-03T08:30:00,0,\nr2,1,A,T,2024-06-03T08:05:00,2024-06-03T08:40:00,,0\nr3,1,A,T,2024-06-03T08:10:00,2024-06-03T09:00:00,1,1\n";
 
 #[test]
 fn what_may_not_be_boarded_or_left(rt: HostRuntime) -> Result<(), Fail> {
     agrees(
         rt.alloc(),
         &Journey {
+            // The first ride may not be boarded, and of the second none may alight.
+            cut: "run,step,from,to,dep,arr,board,exit\nr1,1,A,T,2024-06-03T08:00:00,2024-06-03T08:30:00,0,\nr2,1,A,T,2024-06-03T08:05:00,2024-06-03T08:40:00,,0\nr3,1,A,T,2024-06-03T08:10:00,2024-06-03T09:00:00,1,1\n",
             worst: "09:15:00",
             deadline: "10:30:00",
             lower: "09:01:30.000000000",
             upper: "09:01:30.000000000",
             start: "08:10:00,r3,1,2024-06-03T08:10:00,1,T,2024-06-03T09:00:00",
-            ..two_buses(FORBIDDEN)
+            ..two_buses()
         },
     )
 }
@@ -279,62 +261,69 @@ const DIRECT: &str = "run,step,from,to,dep,arr\nr1,1,A,T,2024-06-03T08:00:00,202
 
 const PLAN: &str = "plan --alpha 200 --cut c --delays d --from A --to T --at 2024-06-03T08:00:00";
 
-#[test]
-fn cut_files_are_refused_by_line(rt: HostRuntime) -> Result<(), Fail> {
-    for (cut, line) in [
-        ("", "meat: cut file has no column run\n"),
-        (
-            "run,step,from,to,dep,arr\nr1,1,A,T,09:00:00,2024-06-03T09:00:00\n",
-            "meat: cut file line 2: bad dep\n",
-        ),
-        (
-            "run,step,from,to,dep,arr\nr1,1,A,T,2024-06-03T08:00:00,2024-06-03T09:00:00\nr1,1,A,T,2024-06-03T08:00:00,2024-06-03T09:00:00\n",
-            "meat: cut file line 3: repeated step\n",
-        ),
-        (
-            "run,step,from,to,dep,arr\nr1,1,A,T,2024-06-03T08:00:00,2024-06-03T07:00:00\n",
-            "meat: cut file line 2: time goes back\n",
-        ),
-        (
-            "run,step,from,to,dep,arr\nr1,1,A,B,2024-06-03T08:00:00,2024-06-03T08:10:00\nr1,2,C,T,2024-06-03T08:20:00,2024-06-03T09:00:00\n",
-            "meat: cut file line 3: run is broken\n",
-        ),
-    ] {
-        let files = [("c", cut), ("d", USUAL_DELAYS)];
-        refuses(rt.alloc(), files.as_slice(), PLAN, 3, line)?;
+/// Cut files with the line by which each is refused.
+const CUT_FAULTS: [(&str, &str); 5] = [
+    ("", "meat: cut file has no column run\n"),
+    (
+        "run,step,from,to,dep,arr\nr1,1,A,T,09:00:00,2024-06-03T09:00:00\n",
+        "meat: cut file line 2: bad dep\n",
+    ),
+    (
+        "run,step,from,to,dep,arr\nr1,1,A,T,2024-06-03T08:00:00,2024-06-03T09:00:00\nr1,1,A,T,2024-06-03T08:00:00,2024-06-03T09:00:00\n",
+        "meat: cut file line 3: repeated step\n",
+    ),
+    (
+        "run,step,from,to,dep,arr\nr1,1,A,T,2024-06-03T08:00:00,2024-06-03T07:00:00\n",
+        "meat: cut file line 2: time goes back\n",
+    ),
+    (
+        "run,step,from,to,dep,arr\nr1,1,A,B,2024-06-03T08:00:00,2024-06-03T08:10:00\nr1,2,C,T,2024-06-03T08:20:00,2024-06-03T09:00:00\n",
+        "meat: cut file line 3: run is broken\n",
+    ),
+];
+
+/// Delay files with the line by which each is refused.
+const DELAY_FAULTS: [(&str, &str); 6] = [
+    (
+        "class,delay\n*,0\n",
+        "meat: delay file has no column weight\n",
+    ),
+    (
+        "class,delay,weight\n*,86401,10000\n",
+        "meat: delay file line 2: bad field\n",
+    ),
+    (
+        "class,delay,weight\n*,0,8000\n*,300,1500\n*,300,500\n",
+        "meat: delay file line 4: delay does not rise\n",
+    ),
+    (
+        "class,delay,weight\n*,0,8000\n*,300,1500\n*,900,499\n",
+        "meat: delay class * weights sum to 9999\n",
+    ),
+    (
+        "class,delay,weight\n3,0,10000\n",
+        "meat: delay class * is missing\n",
+    ),
+    ("", "meat: delay file has no column class\n"),
+];
+
+/// Fails unless a plan over a direct ride with each of these texts at a path is refused with this status and its line.
+fn refuses_each(alloc: Global, path: &str, status: u8, cases: &[(&str, &str)]) -> Result<(), Fail> {
+    for (text, line) in cases {
+        let files = [("c", DIRECT), ("d", USUAL_DELAYS), (path, *text)];
+        refuses(alloc, files.as_slice(), PLAN, status, line)?;
     }
     Ok(())
 }
 
 #[test]
+fn cut_files_are_refused_by_line(rt: HostRuntime) -> Result<(), Fail> {
+    refuses_each(rt.alloc(), "c", 3, CUT_FAULTS.as_slice())
+}
+
+#[test]
 fn delay_files_are_refused_by_line_or_class(rt: HostRuntime) -> Result<(), Fail> {
-    for (delays, line) in [
-        (
-            "class,delay\n*,0\n",
-            "meat: delay file has no column weight\n",
-        ),
-        (
-            "class,delay,weight\n*,86401,10000\n",
-            "meat: delay file line 2: bad field\n",
-        ),
-        (
-            "class,delay,weight\n*,0,8000\n*,300,1500\n*,300,500\n",
-            "meat: delay file line 4: delay does not rise\n",
-        ),
-        (
-            "class,delay,weight\n*,0,8000\n*,300,1500\n*,900,499\n",
-            "meat: delay class * weights sum to 9999\n",
-        ),
-        (
-            "class,delay,weight\n3,0,10000\n",
-            "meat: delay class * is missing\n",
-        ),
-        ("", "meat: delay file has no column class\n"),
-    ] {
-        let files = [("c", DIRECT), ("d", delays)];
-        refuses(rt.alloc(), files.as_slice(), PLAN, 4, line)?;
-    }
-    Ok(())
+    refuses_each(rt.alloc(), "d", 4, DELAY_FAULTS.as_slice())
 }
 
 #[test]

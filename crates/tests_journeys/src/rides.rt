@@ -2,7 +2,7 @@
 use std::alloc::Global;
 use std::test::Fail;
 use test_runs::{
-    CHANGE, CHANGE_PLAN, Output, Source, USUAL_DELAYS, answers, files_of, is_output, output_over,
+    CHANGE, CHANGE_PLAN, Output, Source, USUAL_DELAYS, answers, cannot_read, files_of, is_output,
     output_where, refuses,
 };
 
@@ -80,19 +80,22 @@ fn reports_that_there_is_none(rt: HostRuntime) -> Result<(), Fail> {
     Ok(())
 }
 
+/// Lines about the rides of `CHANGE`, and the graphs that they print.
+const GRAPHS: [(&str, &str); 3] = [
+    (
+        "expand --cut c --delays d --from A --to T --at 2024-06-03T08:00:00",
+        "expanded,1,A,T,2024-06-03T08:00:00,2024-06-03T10:42:00,2024-06-03T08:54:42.000000000,2024-06-03T08:54:42.000000000\nstart,2024-06-03T08:00:00,r1,1,2024-06-03T08:00:00,1,B,2024-06-03T08:20:00\nride,3,r1,1,2024-06-03T08:00:00,1,B,2024-06-03T08:20:00\nnext,2024-06-03T08:20:00,r2,1,2024-06-03T08:24:00,1,T,2024-06-03T08:50:00\nnext,2024-06-03T08:25:00,r3,1,2024-06-03T08:40:00,1,T,2024-06-03T09:06:00\nnext,2024-06-03T08:35:00,r3,1,2024-06-03T08:40:00,1,T,2024-06-03T09:06:00\nride,0,r2,1,2024-06-03T08:24:00,1,T,2024-06-03T08:50:00\nride,0,r3,1,2024-06-03T08:40:00,1,T,2024-06-03T09:06:00\n",
+    ),
+    (PLAN, CHANGE_PLAN),
+    (
+        "expand --cut c --delays d --from A --to A --at 2024-06-03T08:00:00",
+        "expanded,1,A,A,2024-06-03T08:00:00,2024-06-03T08:00:00,2024-06-03T08:00:00.000000000,2024-06-03T08:00:00.000000000\n",
+    ),
+];
+
 #[test]
 fn prints_decision_graphs(rt: HostRuntime) -> Result<(), Fail> {
-    for (line, out) in [
-        (
-            "expand --cut c --delays d --from A --to T --at 2024-06-03T08:00:00",
-            "expanded,1,A,T,2024-06-03T08:00:00,2024-06-03T10:42:00,2024-06-03T08:54:42.000000000,2024-06-03T08:54:42.000000000\nstart,2024-06-03T08:00:00,r1,1,2024-06-03T08:00:00,1,B,2024-06-03T08:20:00\nride,3,r1,1,2024-06-03T08:00:00,1,B,2024-06-03T08:20:00\nnext,2024-06-03T08:20:00,r2,1,2024-06-03T08:24:00,1,T,2024-06-03T08:50:00\nnext,2024-06-03T08:25:00,r3,1,2024-06-03T08:40:00,1,T,2024-06-03T09:06:00\nnext,2024-06-03T08:35:00,r3,1,2024-06-03T08:40:00,1,T,2024-06-03T09:06:00\nride,0,r2,1,2024-06-03T08:24:00,1,T,2024-06-03T08:50:00\nride,0,r3,1,2024-06-03T08:40:00,1,T,2024-06-03T09:06:00\n",
-        ),
-        (PLAN, CHANGE_PLAN),
-        (
-            "expand --cut c --delays d --from A --to A --at 2024-06-03T08:00:00",
-            "expanded,1,A,A,2024-06-03T08:00:00,2024-06-03T08:00:00,2024-06-03T08:00:00.000000000,2024-06-03T08:00:00.000000000\n",
-        ),
-    ] {
+    for (line, out) in GRAPHS {
         answers(rt.alloc(), CHANGE.as_slice(), line, out)?;
     }
     Ok(())
@@ -129,23 +132,13 @@ fn reports_that_it_cannot_write(rt: HostRuntime) -> Result<(), Fail> {
     Ok(())
 }
 
-/// The output of a plan if the second read of the cut file fails.
-fn output_unread(alloc: Global) -> Result<Output, Fail> {
-    let mut files = files_of(alloc, [DIRECT, DELAYS].as_slice())?;
-    files.fail("c", 2)?;
-    output_over(alloc, &mut files, PLAN)
-}
-
 #[test]
 fn reports_that_it_cannot_read(rt: HostRuntime) -> Result<(), Fail> {
-    let output = output_unread(rt.alloc())?;
-    is_output(
+    cannot_read(
         rt.alloc(),
+        [DIRECT, DELAYS].as_slice(),
+        ("c", 2),
         PLAN,
-        &output,
-        7,
-        "",
         "meat: cannot read cut file\n",
-    )?;
-    Ok(())
+    )
 }
