@@ -6,17 +6,17 @@ use test_runs::{answers, begins, refuses};
 const SURE_AT_NINE: &str =
     "class,delay,weight,hour\n*,0,8000,\n*,300,1500,\n*,900,500,\n*,0,10000,9\n";
 
-/// A ride that arrives at nine.
-const AT_NINE: &str =
-    "run,step,from,to,dep,arr\nr1,1,A,T,2024-06-03T08:00:00,2024-06-03T09:00:00\n";
-
-/// A ride that arrives a second earlier.
-const BEFORE_NINE: &str =
-    "run,step,from,to,dep,arr\nr1,1,A,T,2024-06-03T08:00:00,2024-06-03T08:59:59\n";
+/// A ride that is sure by its route.
+const SURE_BY_ROUTE: &str =
+    "class,delay,weight,route_id\n*,0,8000,\n*,300,1500,\n*,900,500,\n*,0,10000,r1\n";
 
 const SAFE: &str = "safe --cut c --delays d --from A --to T --at 2024-06-03T08:00:00";
 
 const PLAN: &str = "plan --cut c --delays d --from A --to T --at 2024-06-03T08:00:00";
+
+/// A ride that arrives at nine.
+const AT_NINE: &str =
+    "run,step,from,to,dep,arr\nr1,1,A,T,2024-06-03T08:00:00,2024-06-03T09:00:00\n";
 
 /// Fails unless a ride that is sure at nine arrives by this moment, and on average at that one.
 fn is_there(alloc: Global, cut: &str, safe: &str, plan: &str) -> Result<(), Fail> {
@@ -39,7 +39,7 @@ fn is_sure_in_the_hour_of_its_arrival(rt: HostRuntime) -> Result<(), Fail> {
 fn is_late_a_second_before_that_hour(rt: HostRuntime) -> Result<(), Fail> {
     is_there(
         rt.alloc(),
-        BEFORE_NINE,
+        "run,step,from,to,dep,arr\nr1,1,A,T,2024-06-03T08:00:00,2024-06-03T08:59:59\n",
         "safe,A,T,2024-06-03T08:00:00,2024-06-03T09:14:59,2024-06-03T10:29:58\n",
         "graph,1,A,T,2024-06-03T08:00:00,2024-06-03T10:29:58,2024-06-03T09:01:29.000000000,2024-06-03T09:01:29.000000000\n",
     )
@@ -47,28 +47,29 @@ fn is_late_a_second_before_that_hour(rt: HostRuntime) -> Result<(), Fail> {
 
 #[test]
 fn is_of_no_route_in_a_cut_file(rt: HostRuntime) -> Result<(), Fail> {
-    let by_route =
-        "class,delay,weight,route_id\n*,0,8000,\n*,300,1500,\n*,900,500,\n*,0,10000,r1\n";
     answers(
         rt.alloc(),
-        [("c", AT_NINE), ("d", by_route)].as_slice(),
+        [("c", AT_NINE), ("d", SURE_BY_ROUTE)].as_slice(),
         SAFE,
         "safe,A,T,2024-06-03T08:00:00,2024-06-03T09:15:00,2024-06-03T10:30:00\n",
     )
 }
 
+/// Delay files with the line by which a group of each is refused.
+const GROUP_FAULTS: [(&str, &str); 2] = [
+    (
+        "class,delay,weight,hour\n*,0,8000,\n*,300,1500,\n*,900,500,\n*,0,9000,9\n",
+        "meat: delay file line 5: group weights sum to 9000\n",
+    ),
+    (
+        "class,delay,weight,route_id\n*,0,8000,\n*,300,1500,\n*,900,500,\n3,0,10000,T1\n",
+        "meat: delay file line 5: bad field\n",
+    ),
+];
+
 #[test]
 fn reports_the_line_of_a_group(rt: HostRuntime) -> Result<(), Fail> {
-    for (delays, line) in [
-        (
-            "class,delay,weight,hour\n*,0,8000,\n*,300,1500,\n*,900,500,\n*,0,9000,9\n",
-            "meat: delay file line 5: group weights sum to 9000\n",
-        ),
-        (
-            "class,delay,weight,route_id\n*,0,8000,\n*,300,1500,\n*,900,500,\n3,0,10000,T1\n",
-            "meat: delay file line 5: bad field\n",
-        ),
-    ] {
+    for (delays, line) in GROUP_FAULTS {
         let sources = [("c", AT_NINE), ("d", delays)];
         refuses(rt.alloc(), sources.as_slice(), SAFE, 4, line)?;
     }

@@ -1,22 +1,11 @@
 //! Journeys over feeds, trips by their graphs, and made timetables, through the top call.
-use std::alloc::Global;
 use std::test::Fail;
 use test_runs::{
-    CALENDAR, FOLDER_PLAN, FOLDER_PLAN_WORDS, Output, ROUTES, STOP_TIMES, STOPS, Source, TRIPS,
-    USUAL_DELAYS, answers, files_of, is_output, old_town, output_over, refuses, source_of,
+    CALENDAR, FOLDER_PLAN, FOLDER_PLAN_WORDS, ROUTES, STOP_TIMES, STOPS, Source, TRIPS,
+    USUAL_DELAYS, answers, cannot_read, old_town, refuses, source_of,
 };
 
 const SAFE: &str = "safe --feed f --delays d --from MIL --to AIR --at 2024-06-03T08:00:00";
-
-#[test]
-fn plans_over_a_small_folder(rt: HostRuntime) -> Result<(), Fail> {
-    answers(
-        rt.alloc(),
-        old_town(USUAL_DELAYS).as_slice(),
-        FOLDER_PLAN_WORDS,
-        FOLDER_PLAN,
-    )
-}
 
 /// The tram is never late.
 const SURE_TRAM: &str =
@@ -24,6 +13,44 @@ const SURE_TRAM: &str =
 
 const SURE_TRAM_PLAN: &str =
     "graph,1,MIL,AIR,2024-06-03T08:00:00,2024-06-03T10:10:00,2024-06-03T08:51:30.000000000,2024-06-03T08:51:30.000000000\nstart,2024-06-03T08:00:00,20240603:t100,0,2024-06-03T08:00:00,0,\"S,1\",2024-06-03T08:20:00\nplace,\"S,1\",120,1,,,,\nleg,2024-06-03T08:22:00,20240603:b200,0,2024-06-03T08:24:00,0,AIR,2024-06-03T08:50:00\n";
+
+/// Delays by the hour after midnight, with the least worst arrival of a bus that leaves at ten to one.
+const BY_HOUR: [(&str, &str); 2] = [
+    (
+        "class,delay,weight,hour\n*,0,8000,\n*,300,1500,\n*,900,500,\n*,0,10000,1\n",
+        "safe,MIL,AIR,2024-06-04T00:40:00,2024-06-04T01:10:00,2024-06-04T01:40:00\n",
+    ),
+    (
+        "class,delay,weight,hour\n*,0,8000,\n*,300,1500,\n*,900,500,\n*,0,10000,0\n",
+        "safe,MIL,AIR,2024-06-04T00:40:00,2024-06-04T01:25:00,2024-06-04T02:10:00\n",
+    ),
+];
+
+/// Trips by the graph of the plan, with the line by which their delays are refused.
+const DELAYS_THAT_DO_NOT_FIT: [(&str, &str); 3] = [
+    (
+        "replay --feed f --delays d --from MIL --to AIR --at 2024-06-03T08:00:00 --graph g --late 0,1",
+        "meat: late 2 is not a delay\n",
+    ),
+    (
+        "replay --feed f --delays d --from MIL --to AIR --at 2024-06-03T08:00:00 --graph g --late none",
+        "meat: too few delays: 0 ridden\n",
+    ),
+    (
+        "replay --feed f --delays d --from MIL --to AIR --at 2024-06-03T08:00:00 --graph g --late 0,0,0",
+        "meat: too many delays: 2 ridden\n",
+    ),
+];
+
+#[test]
+fn plans_over_a_small_folder(rt: HostRuntime) -> Result<(), Fail> {
+    answers(
+        rt.alloc(),
+        &old_town(USUAL_DELAYS),
+        FOLDER_PLAN_WORDS,
+        FOLDER_PLAN,
+    )
+}
 
 #[test]
 fn plans_with_the_delays_of_a_route(rt: HostRuntime) -> Result<(), Fail> {
@@ -80,16 +107,7 @@ fn night_bus<'a>(delays: &'a str) -> [Source<'a>; 6] {
 
 #[test]
 fn is_sure_in_the_first_hour_of_the_next_day(rt: HostRuntime) -> Result<(), Fail> {
-    for (delays, safe) in [
-        (
-            "class,delay,weight,hour\n*,0,8000,\n*,300,1500,\n*,900,500,\n*,0,10000,1\n",
-            "safe,MIL,AIR,2024-06-04T00:40:00,2024-06-04T01:10:00,2024-06-04T01:40:00\n",
-        ),
-        (
-            "class,delay,weight,hour\n*,0,8000,\n*,300,1500,\n*,900,500,\n*,0,10000,0\n",
-            "safe,MIL,AIR,2024-06-04T00:40:00,2024-06-04T01:25:00,2024-06-04T02:10:00\n",
-        ),
-    ] {
+    for (delays, safe) in BY_HOUR {
         answers(
             rt.alloc(),
             night_bus(delays).as_slice(),
@@ -132,25 +150,15 @@ fn reports_the_line_of_an_unknown_trip(rt: HostRuntime) -> Result<(), Fail> {
     )
 }
 
-/// The output of a safe journey if the first read of the stop times fails.
-fn output_without_times(alloc: Global) -> Result<Output, Fail> {
-    let mut files = files_of(alloc, old_town(USUAL_DELAYS).as_slice())?;
-    files.fail("f/stop_times.txt", 1)?;
-    output_over(alloc, &mut files, SAFE)
-}
-
 #[test]
 fn reports_a_table_that_cannot_be_read(rt: HostRuntime) -> Result<(), Fail> {
-    let output = output_without_times(rt.alloc())?;
-    is_output(
+    cannot_read(
         rt.alloc(),
+        old_town(USUAL_DELAYS).as_slice(),
+        ("f/stop_times.txt", 1),
         SAFE,
-        &output,
-        7,
-        "",
         "meat: cannot read stop_times.txt\n",
-    )?;
-    Ok(())
+    )
 }
 
 /// The feed of Old Town with the graph of its plan.
@@ -178,20 +186,7 @@ fn replays_a_missed_connection(rt: HostRuntime) -> Result<(), Fail> {
 
 #[test]
 fn refuses_delays_that_do_not_fit(rt: HostRuntime) -> Result<(), Fail> {
-    for (line, err) in [
-        (
-            "replay --feed f --delays d --from MIL --to AIR --at 2024-06-03T08:00:00 --graph g --late 0,1",
-            "meat: late 2 is not a delay\n",
-        ),
-        (
-            "replay --feed f --delays d --from MIL --to AIR --at 2024-06-03T08:00:00 --graph g --late none",
-            "meat: too few delays: 0 ridden\n",
-        ),
-        (
-            "replay --feed f --delays d --from MIL --to AIR --at 2024-06-03T08:00:00 --graph g --late 0,0,0",
-            "meat: too many delays: 2 ridden\n",
-        ),
-    ] {
+    for (line, err) in DELAYS_THAT_DO_NOT_FIT {
         refuses(rt.alloc(), with_plan().as_slice(), line, 11, err)?;
     }
     Ok(())

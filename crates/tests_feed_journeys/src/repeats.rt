@@ -2,7 +2,7 @@
 use memory_ports::MemoryFiles;
 use std::alloc::Global;
 use std::test::Fail;
-use test_runs::{Output, PIECE, USUAL_DELAYS, output_over};
+use test_runs::{Output, PIECE, USUAL_DELAYS, is_output, output_over};
 
 const REPEATS: &[u8] = b"trip_id,start_time,end_time,headway_secs\nf1,08:05:00,08:35:00,900\n";
 
@@ -37,41 +37,38 @@ fn plan_at(alloc: Global, frequencies: &[u8], at: &str) -> Result<Output, Fail> 
     output_over(alloc, &mut files, line.as_str())
 }
 
+/// Fails unless a plan from A to T, from a moment on, prints this.
+fn plans(alloc: Global, at: &str, out: &str) -> Result<(), Fail> {
+    let output = plan_at(alloc, REPEATS, at)?;
+    is_output(alloc, at, &output, 0, out, "")
+}
+
 #[test]
 fn takes_the_first_run(rt: HostRuntime) -> Result<(), Fail> {
-    let output = plan_at(rt.alloc(), REPEATS, "2024-06-03T08:00:00")?;
-    assert_eq!(rt;
-        output.out.as_str(),
-        "graph,1,A,T,2024-06-03T08:00:00,2024-06-03T09:40:00,2024-06-03T08:36:30.000000000,2024-06-03T08:36:30.000000000
-start,2024-06-03T08:05:00,20240603@29100.2:f1,0,2024-06-03T08:05:00,0,T,2024-06-03T08:35:00
-"
-    );
-    Ok(())
+    plans(
+        rt.alloc(),
+        "2024-06-03T08:00:00",
+        "graph,1,A,T,2024-06-03T08:00:00,2024-06-03T09:40:00,2024-06-03T08:36:30.000000000,2024-06-03T08:36:30.000000000\nstart,2024-06-03T08:05:00,20240603@29100.2:f1,0,2024-06-03T08:05:00,0,T,2024-06-03T08:35:00\n",
+    )
 }
 
 #[test]
 fn takes_the_second_run(rt: HostRuntime) -> Result<(), Fail> {
-    let output = plan_at(rt.alloc(), REPEATS, "2024-06-03T08:06:00")?;
-    assert_eq!(rt;
-        output.out.as_str(),
-        "graph,1,A,T,2024-06-03T08:06:00,2024-06-03T10:04:00,2024-06-03T08:51:30.000000000,2024-06-03T08:51:30.000000000
-start,2024-06-03T08:20:00,20240603@30000.2:f1,0,2024-06-03T08:20:00,0,T,2024-06-03T08:50:00
-"
-    );
-    Ok(())
+    plans(
+        rt.alloc(),
+        "2024-06-03T08:06:00",
+        "graph,1,A,T,2024-06-03T08:06:00,2024-06-03T10:04:00,2024-06-03T08:51:30.000000000,2024-06-03T08:51:30.000000000\nstart,2024-06-03T08:20:00,20240603@30000.2:f1,0,2024-06-03T08:20:00,0,T,2024-06-03T08:50:00\n",
+    )
 }
 
 /// No run leaves at 08:35, the end itself.
 #[test]
 fn waits_for_the_next_day_at_the_end(rt: HostRuntime) -> Result<(), Fail> {
-    let output = plan_at(rt.alloc(), REPEATS, "2024-06-03T08:21:00")?;
-    assert_eq!(rt;
-        output.out.as_str(),
-        "graph,1,A,T,2024-06-03T08:21:00,2024-06-05T09:19:00,2024-06-04T08:36:30.000000000,2024-06-04T08:36:30.000000000
-start,2024-06-04T08:05:00,20240604@29100.2:f1,0,2024-06-04T08:05:00,0,T,2024-06-04T08:35:00
-"
-    );
-    Ok(())
+    plans(
+        rt.alloc(),
+        "2024-06-03T08:21:00",
+        "graph,1,A,T,2024-06-03T08:21:00,2024-06-05T09:19:00,2024-06-04T08:36:30.000000000,2024-06-04T08:36:30.000000000\nstart,2024-06-04T08:05:00,20240604@29100.2:f1,0,2024-06-04T08:05:00,0,T,2024-06-04T08:35:00\n",
+    )
 }
 
 #[test]
