@@ -10,6 +10,9 @@ use std::test::Fail;
 /// A journey from A to T, from a moment on that is 1,717,401,600 seconds after 1970-01-01.
 const JOURNEY: &str = "--delays d --from A --to T --at 2024-06-03T08:00:00";
 
+/// The start of a journey over a cut file, without its moment.
+const TO_T: &str = "--cut c --delays d --from A --to T";
+
 /// The words of some lines, which are parted by spaces.
 fn words_of(alloc: Global, lines: &[&str]) -> Result<Vec<String>, Fail> {
     let mut words = Vec::new(alloc);
@@ -56,7 +59,7 @@ fn asks(alloc: Global, line: &str, timetable: Timetable, asked: Ask) -> Result<b
 
 /// When the journey of a line begins.
 fn start_of(alloc: Global, line: &str) -> Result<Option<Moment>, Fail> {
-    let words = words_of(alloc, &["safe --cut c --delays d --from A --to T", line])?;
+    let words = words_of(alloc, &["safe", TO_T, line])?;
     match read_job(words.as_slice()) {
         Ok(Job::Journey(journey, _)) => Ok(Some(journey.start)),
         _ => Ok(None),
@@ -79,6 +82,8 @@ fn fault_of(alloc: Global, lines: &[&str]) -> Result<Option<WordsFault>, Fail> {
 }
 
 const CUT: Timetable<'static> = Timetable::Cut("c");
+
+const FEED: Timetable<'static> = Timetable::Feed("f", 24);
 
 /// Lines of a journey, with the timetable and what is asked.
 const JOURNEYS: [(&str, Timetable<'static>, Ask<'static>); 17] = [
@@ -127,21 +132,13 @@ const JOURNEYS: [(&str, Timetable<'static>, Ask<'static>); 17] = [
         CUT,
         Ask::CheckGraph { graph: "g" },
     ),
-    (
-        "safe --feed f",
-        Timetable::Feed("f", 24),
-        Ask::Safe { alpha: 200 },
-    ),
+    ("safe --feed f", FEED, Ask::Safe { alpha: 200 }),
     (
         "expand --feed f --horizon 1",
         Timetable::Feed("f", 1),
         Ask::Expand { alpha: 200 },
     ),
-    (
-        "plan --alpha 150 --feed f",
-        Timetable::Feed("f", 24),
-        Ask::Plan { alpha: 150 },
-    ),
+    ("plan --alpha 150 --feed f", FEED, Ask::Plan { alpha: 150 }),
     (
         "plan --horizon 72 --alpha 300 --feed f",
         Timetable::Feed("f", 72),
@@ -149,7 +146,7 @@ const JOURNEYS: [(&str, Timetable<'static>, Ask<'static>); 17] = [
     ),
     (
         "replay --feed f --graph g --late none",
-        Timetable::Feed("f", 24),
+        FEED,
         Ask::Replay {
             graph: "g",
             late: "none",
@@ -185,8 +182,7 @@ fn begins_at_the_moment(rt: HostRuntime) -> Result<(), Fail> {
         ("--at 2024-06-03T08:00:01", 1_717_401_601),
         ("--at 2399-12-31T23:59:59", 13_569_465_599),
     ] {
-        let found = start_of(rt.alloc(), line)?;
-        assert_eq!(rt; found, Some(Moment(start)), "{line}");
+        assert_eq!(rt; start_of(rt.alloc(), line)?, Some(Moment(start)), "{line}");
     }
     Ok(())
 }
@@ -213,92 +209,86 @@ fn reports_the_delays(rt: HostRuntime) -> Result<(), Fail> {
     Ok(())
 }
 
+/// Lines that are refused, in parts, with the reason.
+const REFUSED: [(&[&str], WordsFault); 33] = [
+    (&["sample --size"], WordsFault::Line),
+    (&["sample --size 10 --size 10"], WordsFault::Line),
+    (&["sample --sizes 10"], WordsFault::Line),
+    (&["sample --size=10"], WordsFault::Line),
+    (&["fly"], WordsFault::UnknownCommand),
+    (&["Sample --size 10"], WordsFault::UnknownCommand),
+    (&[" --size 10"], WordsFault::UnknownCommand),
+    (&["plan --feed f --cut c"], WordsFault::NotUsed(1)),
+    (&["sample --size 10 --to T"], WordsFault::NotUsed(5)),
+    (&["replay --feed f --alpha 200"], WordsFault::NotUsed(7)),
+    (&["safe --cut c --horizon 24"], WordsFault::NotUsed(8)),
+    (&["expand --graph g"], WordsFault::NotUsed(9)),
+    (&["safe --size 10"], WordsFault::NotUsed(11)),
+    (&["check --proof p --alpha 200"], WordsFault::NotUsed(7)),
+    (&["certify --proof p"], WordsFault::NotUsed(12)),
+    (&["check --proof p --graph g"], WordsFault::NotUsed(9)),
+    (&["plan --by x"], WordsFault::NotUsed(13)),
+    (&["latest --until x --alpha 200"], WordsFault::NotUsed(7)),
+    (&["latest --until x --last x"], WordsFault::NotUsed(15)),
+    (&["safe"], WordsFault::Missing(2)),
+    (&["safe --cut c"], WordsFault::Missing(3)),
+    (&["plan --feed f --delays d"], WordsFault::Missing(4)),
+    (&["expand", TO_T], WordsFault::Missing(6)),
+    (
+        &["replay", TO_T, "--at x --late none"],
+        WordsFault::Missing(9),
+    ),
+    (&["sample"], WordsFault::Missing(11)),
+    (&["check", TO_T, "--at x"], WordsFault::Missing(12)),
+    (&["punctual", TO_T, "--at x"], WordsFault::Missing(13)),
+    (&["departures", TO_T, "--at x"], WordsFault::Missing(14)),
+    (
+        &["departures", TO_T, "--at x --until x"],
+        WordsFault::Missing(15),
+    ),
+    (
+        &["safe", TO_T, "--at 1970-01-07T23:59:59"],
+        WordsFault::BadValue(6),
+    ),
+    (
+        &["safe", TO_T, "--at 2400-01-01T00:00:00"],
+        WordsFault::BadValue(6),
+    ),
+    (&["sample --size 9"], WordsFault::BadValue(11)),
+    (&["sample --size 401"], WordsFault::BadValue(11)),
+];
+
 #[test]
 fn refuses_lines(rt: HostRuntime) -> Result<(), Fail> {
     assert_eq!(rt; read_job(&[]).err(), Some(WordsFault::Line));
-    for (line, fault) in [
-        ("sample --size", WordsFault::Line),
-        ("sample --size 10 --size 10", WordsFault::Line),
-        ("sample --sizes 10", WordsFault::Line),
-        ("sample --size=10", WordsFault::Line),
-        ("fly", WordsFault::UnknownCommand),
-        ("Sample --size 10", WordsFault::UnknownCommand),
-        (" --size 10", WordsFault::UnknownCommand),
-        ("plan --feed f --cut c", WordsFault::NotUsed(1)),
-        ("sample --size 10 --to T", WordsFault::NotUsed(5)),
-        ("replay --feed f --alpha 200", WordsFault::NotUsed(7)),
-        ("safe --cut c --horizon 24", WordsFault::NotUsed(8)),
-        ("expand --graph g", WordsFault::NotUsed(9)),
-        ("safe --size 10", WordsFault::NotUsed(11)),
-        ("check --proof p --alpha 200", WordsFault::NotUsed(7)),
-        ("certify --proof p", WordsFault::NotUsed(12)),
-        ("check --proof p --graph g", WordsFault::NotUsed(9)),
-        ("plan --by x", WordsFault::NotUsed(13)),
-        ("latest --until x --alpha 200", WordsFault::NotUsed(7)),
-        ("latest --until x --last x", WordsFault::NotUsed(15)),
-        ("safe", WordsFault::Missing(2)),
-        ("safe --cut c", WordsFault::Missing(3)),
-        ("plan --feed f --delays d", WordsFault::Missing(4)),
-        (
-            "expand --cut c --delays d --from A --to T",
-            WordsFault::Missing(6),
-        ),
-        (
-            "replay --cut c --delays d --from A --to T --at x --late none",
-            WordsFault::Missing(9),
-        ),
-        ("sample", WordsFault::Missing(11)),
-        (
-            "check --cut c --delays d --from A --to T --at x",
-            WordsFault::Missing(12),
-        ),
-        (
-            "punctual --cut c --delays d --from A --to T --at x",
-            WordsFault::Missing(13),
-        ),
-        (
-            "departures --cut c --delays d --from A --to T --at x",
-            WordsFault::Missing(14),
-        ),
-        (
-            "departures --cut c --delays d --from A --to T --at x --until x",
-            WordsFault::Missing(15),
-        ),
-        (
-            "safe --cut c --delays d --from A --to T --at 1970-01-07T23:59:59",
-            WordsFault::BadValue(6),
-        ),
-        (
-            "safe --cut c --delays d --from A --to T --at 2400-01-01T00:00:00",
-            WordsFault::BadValue(6),
-        ),
-        ("sample --size 9", WordsFault::BadValue(11)),
-        ("sample --size 401", WordsFault::BadValue(11)),
-    ] {
-        let reported = fault_of(rt.alloc(), &[line])?;
-        assert_eq!(rt; reported, Some(fault), "{line}");
+    for (lines, fault) in REFUSED {
+        let reported = fault_of(rt.alloc(), lines)?;
+        assert_eq!(rt; reported, Some(fault), "{lines:?}");
     }
     Ok(())
 }
 
+/// Lines of that journey, with the number of the option whose value is refused.
+const BAD_VALUES: [(&str, u8); 11] = [
+    ("safe --cut ", 1),
+    ("safe --feed ", 2),
+    ("safe --cut c --alpha 99", 7),
+    ("safe --cut c --alpha 1001", 7),
+    ("safe --feed f --horizon 0", 8),
+    ("replay --cut c --graph g --late 300,", 10),
+    ("punctual --cut c --by 2024-06-03T07:59:59", 13),
+    ("punctual --cut c --by 2024-06-10T08:00:01", 13),
+    ("latest --cut c --until 2024-06-03T07:59:59", 14),
+    ("latest --cut c --until 2401-01-01T00:00:00", 14),
+    (
+        "departures --cut c --until 2024-06-03T08:00:00 --last 2024-06-03",
+        15,
+    ),
+];
+
 #[test]
 fn refuses_values(rt: HostRuntime) -> Result<(), Fail> {
-    for (line, number) in [
-        ("safe --cut ", 1),
-        ("safe --feed ", 2),
-        ("safe --cut c --alpha 99", 7),
-        ("safe --cut c --alpha 1001", 7),
-        ("safe --feed f --horizon 0", 8),
-        ("replay --cut c --graph g --late 300,", 10),
-        ("punctual --cut c --by 2024-06-03T07:59:59", 13),
-        ("punctual --cut c --by 2024-06-10T08:00:01", 13),
-        ("latest --cut c --until 2024-06-03T07:59:59", 14),
-        ("latest --cut c --until 2401-01-01T00:00:00", 14),
-        (
-            "departures --cut c --until 2024-06-03T08:00:00 --last 2024-06-03",
-            15,
-        ),
-    ] {
+    for (line, number) in BAD_VALUES {
         let fault = fault_of(rt.alloc(), &[line, JOURNEY])?;
         assert_eq!(rt; fault, Some(WordsFault::BadValue(number)), "{line}");
     }
@@ -323,19 +313,22 @@ fn reports_the_first_reason(rt: HostRuntime) -> Result<(), Fail> {
     Ok(())
 }
 
+/// Numbers with the word of the option that has each.
+const OPTION_WORDS: [(u8, &str); 9] = [
+    (0, ""),
+    (1, "--cut"),
+    (6, "--at"),
+    (10, "--late"),
+    (11, "--size"),
+    (12, "--proof"),
+    (15, "--last"),
+    (16, ""),
+    (255, ""),
+];
+
 #[test]
 fn names_options(rt: HostRuntime) {
-    for (number, word) in [
-        (0u8, ""),
-        (1, "--cut"),
-        (6, "--at"),
-        (10, "--late"),
-        (11, "--size"),
-        (12, "--proof"),
-        (15, "--last"),
-        (16, ""),
-        (255, ""),
-    ] {
+    for (number, word) in OPTION_WORDS {
         assert_eq!(rt; option_word(number), word, "{number}");
     }
     assert_eq!(rt; OptionName::Late.number(), 10);
