@@ -38,19 +38,17 @@ fn window_with(
     changes: &Changes,
     start: Moment,
     horizon: u32,
-    most: u64,
+    limits: &Limits,
 ) -> Option<Result<(Network, Names), WindowFault>>
     requires early { first_start ≤ start.0 }
     requires late { start.0 ≤ last_start }
     requires horizon { horizon ≤ 72 }
-    requires most { most ≤ most_connections }
+    requires most { limits.now.connections ≤ most_connections }
     requires links { LinksComeFrom (length feed.now.stop_ids) changes.now }
 {
-    let mut limits = Limits::standard();
-    limits.connections = most;
     let delays = delays_of(alloc)?;
     Some(cut(
-        alloc, feed, services, changes, &delays, start, horizon, &limits,
+        alloc, feed, services, changes, &delays, start, horizon, limits,
     ))
 }
 
@@ -68,9 +66,11 @@ fn window_of(
     requires horizon { horizon ≤ 72 }
     requires most { most ≤ most_connections }
 {
+    let mut limits = Limits::standard();
+    limits.connections = most;
     let services = Services::read(alloc, files, "feed", &Limits::standard()).ok()?;
     let changes = changes_of(alloc, files, feed)?;
-    window_with(alloc, feed, &services, &changes, start, horizon, most)
+    window_with(alloc, feed, &services, &changes, start, horizon, &limits)
 }
 
 /// The window of a feed from this many seconds after 1970-01-08T00:00:00 on, if its tables are read.

@@ -127,14 +127,16 @@ fn are_half_hours(times: &[(u64, u64)], departures: &[u64]) -> bool {
 #[test]
 fn runs_of_rows(rt: HostRuntime) -> Result<(), Fail> {
     let eight = u64::from(EIGHT);
+    let two_runs = ["20240603@29100.2:f1", "20240603@30000.2:f1"];
+    let two_departures = [eight + 300, eight + 1200];
     for (stop_times, rows, seconds, horizon, runs, deps) in [
         (
             HALF_HOUR,
             TO_SIX,
             EIGHT,
             1,
-            ["20240603@29100.2:f1", "20240603@30000.2:f1"].as_slice(),
-            [eight + 300, eight + 1200].as_slice(),
+            two_runs.as_slice(),
+            two_departures.as_slice(),
         ),
         (
             HALF_HOUR,
@@ -162,8 +164,8 @@ fn runs_of_rows(rt: HostRuntime) -> Result<(), Fail> {
             TO_SIX,
             EIGHT,
             1,
-            ["20240603@29100.2:f1", "20240603@30000.2:f1"].as_slice(),
-            [eight + 300, eight + 1200].as_slice(),
+            two_runs.as_slice(),
+            two_departures.as_slice(),
         ),
         // The run of Monday leaves B at 334:00:00, which is 22:00:00 on Sunday, 13 days later.
         (

@@ -147,11 +147,8 @@ fn days_of_a_window(rt: HostRuntime) -> Result<(), Fail> {
         (0, 72, 1),
         (2 * 86_400, 72, 2),
     ] {
-        assert_eq!(rt;
-            night_count(rt.alloc(), seconds, horizon)?,
-            count,
-            "{seconds}"
-        );
+        let found = night_count(rt.alloc(), seconds, horizon)?;
+        assert_eq!(rt; found, count, "{seconds}");
     }
     Ok(())
 }
@@ -258,26 +255,18 @@ fn given_by<O: BackwardOrder>(
     given(alloc, network, order)
 }
 
-/// Whether the sorted order gives these connections of those that depart by a moment.
-fn sorted_gives_by(
+/// Whether the sorted order and the merged one give these connections of those that depart by a moment.
+fn give_by(
     alloc: Global,
     network: &Network,
     last: Moment,
     ids: &[u32],
-) -> Result<bool, NoMemory> {
+) -> Result<(bool, bool), NoMemory> {
     let mut order = SortedOrder::new(alloc, network)?;
-    Ok(given_by(alloc, network, &mut order, last)?.as_slice() == ids)
-}
-
-/// Whether the merged order gives them.
-fn merged_gives_by(
-    alloc: Global,
-    network: &Network,
-    last: Moment,
-    ids: &[u32],
-) -> Result<bool, NoMemory> {
+    let sorted = given_by(alloc, network, &mut order, last)?.as_slice() == ids;
     let mut order = MergedRuns::new(alloc, network)?;
-    Ok(given_by(alloc, network, &mut order, last)?.as_slice() == ids)
+    let merged = given_by(alloc, network, &mut order, last)?.as_slice() == ids;
+    Ok((sorted, merged))
 }
 
 /// 2024-06-03T08:00:00.
@@ -293,14 +282,8 @@ fn skips_what_departs_later(rt: HostRuntime) -> Result<(), Fail> {
         (Moment(EIGHT + 599), [2, 0].as_slice()),
         (Moment(EIGHT + 600), [5, 4, 3, 1, 2, 0].as_slice()),
     ] {
-        assert!(rt;
-            sorted_gives_by(rt.alloc(), &parts.0, last, ids)?,
-            "{ids:?}"
-        );
-        assert!(rt;
-            merged_gives_by(rt.alloc(), &parts.0, last, ids)?,
-            "{ids:?}"
-        );
+        let given = give_by(rt.alloc(), &parts.0, last, ids)?;
+        assert_eq!(rt; given, (true, true), "{ids:?}");
     }
     Ok(())
 }
