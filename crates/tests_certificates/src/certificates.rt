@@ -15,12 +15,41 @@ const CHECK_THERE: &str =
 const CHECK_TO_B: &str =
     "check --cut c --delays d --from A --to B --at 2024-06-03T08:00:00 --proof p";
 
+const CHECK_GRAPH: &str =
+    "check --cut c --delays d --from A --to T --at 2024-06-03T08:00:00 --graph g";
+
+/// The plan of `CHANGE` without its last row.
+const UNSAFE_GRAPH: &str =
+    "graph,1,A,T,2024-06-03T08:00:00,2024-06-03T10:42:00,2024-06-03T08:54:42.000000000,2024-06-03T08:54:42.000000000\nstart,2024-06-03T08:00:00,r1,1,2024-06-03T08:00:00,1,B,2024-06-03T08:20:00\nplace,B,120,1,,,,\nleg,2024-06-03T08:22:00,r2,1,2024-06-03T08:24:00,1,T,2024-06-03T08:50:00\n";
+
+/// Fails unless a check of this certificate has this status, answer and line.
+fn checks(
+    alloc: Global,
+    proof: &str,
+    line: &str,
+    status: u8,
+    out: &str,
+    err: &str,
+) -> Result<(), Fail> {
+    let [cut, delays] = CHANGE;
+    let sources = [cut, delays, ("p", proof)];
+    let output = output_of(alloc, sources.as_slice(), line)?;
+    is_output(alloc, proof, &output, status, out, err)
+}
+
+/// Fails unless a check of this graph has this status, answer and line.
+fn checks_graph(alloc: Global, graph: &str, status: u8, out: &str, err: &str) -> Result<(), Fail> {
+    let [cut, delays] = CHANGE;
+    let sources = [cut, delays, ("g", graph)];
+    let output = output_of(alloc, sources.as_slice(), CHECK_GRAPH)?;
+    is_output(alloc, graph, &output, status, out, err)
+}
+
 /// The certificate of the journey of `CHANGE`, by its value of r3.
 fn certificate(alloc: Global, third: &str) -> Result<String, Fail> {
-    let text = format!(in alloc;
+    Ok(format!(in alloc;
         "bounds,1,A,T,2024-06-03T08:00:00,2024-06-03T10:42:00,3\nvalue,r1,1,2024-06-03T08:54:42.000000000\nvalue,r2,1,2024-06-03T08:51:30.000000000\nvalue,r3,1,2024-06-03T{third}\n"
-    )?;
-    Ok(text)
+    )?)
 }
 
 #[test]
@@ -41,22 +70,6 @@ fn certifies_that_one_is_there(rt: HostRuntime) -> Result<(), Fail> {
         "holds,A,A,2024-06-03T08:00:00,2024-06-03T08:00:00,2024-06-03T08:00:00.000000000\n",
         "",
     )
-}
-
-/// Fails unless a check of this certificate has this status, answer and line.
-fn checks(
-    alloc: Global,
-    proof: &str,
-    line: &str,
-    status: u8,
-    out: &str,
-    err: &str,
-) -> Result<(), Fail> {
-    let [cut, delays] = CHANGE;
-    let sources = [cut, delays, ("p", proof)];
-    let output = output_of(alloc, sources.as_slice(), line)?;
-    is_output(alloc, proof, &output, status, out, err)?;
-    Ok(())
 }
 
 /// Fails unless a check of the certificate with this value of r3 has this status, answer and line.
@@ -145,22 +158,6 @@ fn refuses_a_proof_file_of_another_query(rt: HostRuntime) -> Result<(), Fail> {
         "meat: proof file line 1: other query\n",
     )
 }
-
-const CHECK_GRAPH: &str =
-    "check --cut c --delays d --from A --to T --at 2024-06-03T08:00:00 --graph g";
-
-/// Fails unless a check of this graph has this status, answer and line.
-fn checks_graph(alloc: Global, graph: &str, status: u8, out: &str, err: &str) -> Result<(), Fail> {
-    let [cut, delays] = CHANGE;
-    let sources = [cut, delays, ("g", graph)];
-    let output = output_of(alloc, sources.as_slice(), CHECK_GRAPH)?;
-    is_output(alloc, graph, &output, status, out, err)?;
-    Ok(())
-}
-
-/// The plan of `CHANGE` without its last row.
-const UNSAFE_GRAPH: &str =
-    "graph,1,A,T,2024-06-03T08:00:00,2024-06-03T10:42:00,2024-06-03T08:54:42.000000000,2024-06-03T08:54:42.000000000\nstart,2024-06-03T08:00:00,r1,1,2024-06-03T08:00:00,1,B,2024-06-03T08:20:00\nplace,B,120,1,,,,\nleg,2024-06-03T08:22:00,r2,1,2024-06-03T08:24:00,1,T,2024-06-03T08:50:00\n";
 
 #[test]
 fn reports_the_bounds_of_a_graph(rt: HostRuntime) -> Result<(), Fail> {

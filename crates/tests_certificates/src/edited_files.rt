@@ -52,8 +52,13 @@ fn is_looked_at(rt: &impl Abort, output: &Output, status: u8, front: &str, place
     assert!(rt; so, "{front}{place}: {status} {line}");
 }
 
-/// Fails unless each field of a line, edited in its turn, is refused with this status and a line that
-/// begins like this.
+/// How the refusal of a file begins that is at a line, counted from 0.
+fn front_of(alloc: Global, name: &str, at: usize) -> Result<String, Fail> {
+    let line = at.saturating_add(1);
+    Ok(format!(in alloc; "meat: {name} line {line}: ")?)
+}
+
+/// Fails unless each field of a line, edited in its turn, is refused with this status and at that line.
 fn are_looked_at(
     rt: &impl Abort,
     alloc: Global,
@@ -62,11 +67,12 @@ fn are_looked_at(
     at: usize,
     fields: usize,
     status: u8,
-    front: &str,
+    name: &str,
 ) -> Result<(), Fail> {
+    let front = front_of(alloc, name, at)?;
     for place in 0..fields {
         let output = output_edited(alloc, words, whole, at, place)?;
-        is_looked_at(rt, &output, status, front, place);
+        is_looked_at(rt, &output, status, front.as_str(), place);
     }
     Ok(())
 }
@@ -80,27 +86,25 @@ fn the_whole_graph_is_taken(rt: HostRuntime) -> Result<(), Fail> {
 
 #[test]
 fn each_field_of_a_graph_is_looked_at(rt: HostRuntime) -> Result<(), Fail> {
-    for (line, front) in [
-        (0, "meat: graph file line 1: "),
-        (1, "meat: graph file line 2: "),
-        (2, "meat: graph file line 3: "),
-        (3, "meat: graph file line 4: "),
-        (4, "meat: graph file line 5: "),
-    ] {
-        are_looked_at(&rt, rt.alloc(), REPLAY, CHANGE_PLAN, line, 8, 10, front)?;
+    for at in 0..5 {
+        are_looked_at(
+            &rt,
+            rt.alloc(),
+            REPLAY,
+            CHANGE_PLAN,
+            at,
+            8,
+            10,
+            "graph file",
+        )?;
     }
     Ok(())
 }
 
 #[test]
 fn each_field_of_a_proof_is_looked_at(rt: HostRuntime) -> Result<(), Fail> {
-    for (line, fields, front) in [
-        (0, 7, "meat: proof file line 1: "),
-        (1, 4, "meat: proof file line 2: "),
-        (2, 4, "meat: proof file line 3: "),
-        (3, 4, "meat: proof file line 4: "),
-    ] {
-        are_looked_at(&rt, rt.alloc(), CHECK, PROOF, line, fields, 14, front)?;
+    for (at, fields) in [(0, 7), (1, 4), (2, 4), (3, 4)] {
+        are_looked_at(&rt, rt.alloc(), CHECK, PROOF, at, fields, 14, "proof file")?;
     }
     Ok(())
 }
