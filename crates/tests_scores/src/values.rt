@@ -32,16 +32,16 @@ fn usual() -> [Outcome; 3]
 /// Each call of a score, through the bound: the blend of three arrivals, lowered to the last
 /// of them where that is not better, and whether the last is better than the blend.
 fn through_the_bound<V: Score>(alloc: Global) -> Result<(V, bool), Fail> {
-    let mut kids = Vec::new(alloc);
+    let mut children = Vec::new(alloc);
     for moment in [5, 9, 7] {
-        kids.push(V::arrive(Moment(moment)))?;
+        children.push(V::arrive(Moment(moment)))?;
     }
     let row = usual();
-    if kids.len() != row.len() {
-        return Err("as many kids as outcomes".into());
+    if children.len() != row.len() {
+        return Err("as many children as outcomes".into());
     }
-    let blend = V::blend(&row, &kids);
-    let last = kids[2];
+    let blend = V::blend(&row, &children);
+    let last = children[2];
     if last.better(&blend) {
         Ok((blend, true))
     } else {

@@ -77,7 +77,7 @@ fn is_ride(network: &Network, enter: u32, exit: u32) -> bool {
 
 /// The best value from a place on, over at most this many rides.
 #[cycle(rides)]
-fn from_place(search: Search<'_>, place: PlaceId, arrival: Moment, left: u32) -> Option<u128> {
+fn from_place(search: Search<'_>, place: PlaceId, arrival: Moment, remaining: u32) -> Option<u128> {
     if place.0 == search.target.0 {
         if arrival.0 > search.deadline.0 {
             return None;
@@ -85,13 +85,13 @@ fn from_place(search: Search<'_>, place: PlaceId, arrival: Moment, left: u32) ->
         let moment = u128::from(arrival.0);
         return match search.goal {
             Goal::Worst => Some(moment),
-            Goal::Expected => Some(moment.saturating_mul(scale_of(left))),
+            Goal::Expected => Some(moment.saturating_mul(scale_of(remaining))),
         };
     }
     let mut best = None;
     for enter in 0..search.network.count() {
         if boards(search.network, enter, place, arrival) {
-            best = lesser(best, by_entry(search, enter, left));
+            best = lesser(best, by_entry(search, enter, remaining));
         }
     }
     best
@@ -99,11 +99,11 @@ fn from_place(search: Search<'_>, place: PlaceId, arrival: Moment, left: u32) ->
 
 /// The best value of the rides from a connection, over at most this many rides.
 #[cycle(rides)]
-fn by_entry(search: Search<'_>, enter: u32, left: u32) -> Option<u128> {
+fn by_entry(search: Search<'_>, enter: u32, remaining: u32) -> Option<u128> {
     let mut best = None;
     for exit in 0..search.network.count() {
         if is_ride(search.network, enter, exit) {
-            best = lesser(best, by_exit(search, exit, left));
+            best = lesser(best, by_exit(search, exit, remaining));
         }
     }
     best
@@ -111,18 +111,20 @@ fn by_entry(search: Search<'_>, enter: u32, left: u32) -> Option<u128> {
 
 /// The best value of a ride that ends with a connection; none where some outcome has none.
 #[cycle(rides)]
-fn by_exit(search: Search<'_>, exit: u32, left: u32) -> Option<u128> {
-    if exit >= search.network.count() || left == 0 {
+fn by_exit(search: Search<'_>, exit: u32, remaining: u32) -> Option<u128> {
+    if exit >= search.network.count() || remaining == 0 {
         return None;
     }
     let connection = search.network.get(ConnectionId(exit));
     let mut value: u128 = 0;
     for outcome in search.network.row(connection.class) {
         let arrival = Moment(connection.arr.0.saturating_add(u64::from(outcome.delay)));
-        let kid = from_place(search, connection.to, arrival, left - 1)?;
+        let child = from_place(search, connection.to, arrival, remaining - 1)?;
         value = match search.goal {
-            Goal::Worst => value.max(kid),
-            Goal::Expected => value.saturating_add(kid.saturating_mul(u128::from(outcome.weight))),
+            Goal::Worst => value.max(child),
+            Goal::Expected => value.saturating_add(child.saturating_mul(u128::from(
+                outcome.weight,
+            ))),
         };
     }
     Some(value)
