@@ -254,26 +254,29 @@ fn refuses_any_connection_where_the_limit_is_none(rt: HostRuntime) -> Result<(),
     )
 }
 
-/// What is just not too much is taken.
+/// Limits at which that feed is just not too much.
+fn just_enough() -> Limits {
+    let mut limits = Limits::standard();
+    limits.stops = 6;
+    limits.routes = 2;
+    limits.trips = 3;
+    limits.stop_times = 7;
+    limits.calendar = 1;
+    limits.calendar_dates = 1;
+    limits.transfers = 2;
+    limits.cut_rows = 0;
+    limits.connections = 4;
+    limits
+}
+
 #[test]
 fn plans_over_a_feed_at_its_limits(rt: HostRuntime) -> Result<(), Fail> {
-    let enough = changed(|limits: &mut Limits| {
-        limits.stops = 6;
-        limits.routes = 2;
-        limits.trips = 3;
-        limits.stop_times = 7;
-        limits.calendar = 1;
-        limits.calendar_dates = 1;
-        limits.transfers = 2;
-        limits.cut_rows = 0;
-        limits.connections = 4;
-    });
     answers_within(
         &rt,
         rt.alloc(),
         with_dates().as_slice(),
         FOLDER_PLAN_WORDS,
-        &enough,
+        &just_enough(),
         FOLDER_PLAN,
     )
 }
