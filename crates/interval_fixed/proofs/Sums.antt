@@ -1,5 +1,5 @@
 -- Sums by weight, and their means, against the trees of a ride.
-use Rattle.std.proofs.Common.{◌≡◌, ℕ, ◌+◌, ◌-◌, ◌*◌, ◌/◌, ◌^◌, ◌≤◌, List, [], ◌∷◌, map, arith, ap, ◌∙◌, mul-le-mul_left, mul-le-mul_right, mul_assoc, mul_comm}
+use Rattle.std.proofs.Common.{◌≡◌, ℕ, ◌+◌, ◌-◌, ◌*◌, ◌/◌, ◌^◌, ◌≤◌, List, [], ◌∷◌, arith, ap, ◌∙◌, mul-le-mul_left, mul-le-mul_right, mul_assoc, mul_comm}
 use Rattle.std.proofs.Common.{mul_left_comm, add-mul, mul-add}
 use Rattle.plan_model.specs.declared.model.Outcome.{Outcome}
 use Rattle.plan_model.specs.Tree.{Tree, Kids, Ride, Nil, Kid, height, height_of}
@@ -36,13 +36,6 @@ rounded_covers u p n covers =
     let whole : u ≤ (u + 9999) / 10000 * 10000 = omega arith in
     let scaled = mul-le-mul_right p whole in
     rw turned (omega (arith, split, scaled, covers))
-
--- what holds of what f gives for each value holds of each of these
-pub each_mapped : {A B : Type 0} (f : A → B) (P : B → Tree → Type 0) (row : List Outcome) (values : List A) (kids : Kids)
-    → EachKid (λ v t. P (f v) t) row values kids → EachKid P row (map f values) kids
-each_mapped f P [] [] Nil each = each
-each_mapped f P (o ∷ row) (v ∷ values) (Kid w t kids) each = (each.0, each.1, each_mapped f P row values kids each.2)
-each_mapped f P _ _ _ each = absurd each
 
 -- of whatever leaf gives for the arrivals, in units of which there are scale in one
 module _ (scale : ℕ) (leaf : ℕ → ℕ) where

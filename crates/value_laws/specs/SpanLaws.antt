@@ -11,7 +11,7 @@ use Rattle.plan_model.specs.Expected.{BelowBy, CoversBy}
 use Rattle.interval_fixed.specs.Interval.{Interval}
 use Rattle.interval_fixed.specs.Means.{weighted, mean_of}
 use Rattle.interval_fixed.proofs.Enclosed.{mean_gap_within}
-use Rattle.interval_fixed.proofs.Sums.{each_mapped, mean_below, mean_covers}
+use Rattle.interval_fixed.proofs.Sums.{mean_below, mean_covers}
 use Rattle.value_laws.specs.ScoreLaws.{Scoring, ScoreLaws}
 use Rattle.value_laws.specs.Rounded.{rounded_up, sum_up, rounded_down, sum_down}
 use Rattle.value_laws.specs.Spans.{span_scoring}
@@ -25,12 +25,6 @@ lesser_below a b p n (inr other) =
     let lesser : min a b ≤ b = omega arith in
     omega (arith, mul-le-mul_right p lesser)
 
--- what holds of each value and its child gives what follows from it
-each_weaker : {V : Type 0} (P Q : V → Tree → Type 0) → ((v : V) (t : Tree) → P v t → Q v t) → (row : List Outcome) (values : List V) (kids : Kids) → EachKid P row values kids → EachKid Q row values kids
-each_weaker P Q weaker [] [] Nil each = each
-each_weaker P Q weaker (o ∷ row) (v ∷ values) (Kid w t kids) each = (each.0, weaker v t each.1, each_weaker P Q weaker row values kids each.2)
-each_weaker P Q weaker _ _ _ each = absurd each
-
 -- values that are spans, of whatever leaf gives for the arrivals, in units of which there are scale in one
 module _ {V : Type 0} (scale : ℕ) (leaf : ℕ → ℕ) (span : V → Interval) (value : Interval → V) (same : (s : Interval) → span (value s) ≡ s) where
   abbrev scoring : Scoring V
@@ -39,13 +33,18 @@ module _ {V : Type 0} (scale : ℕ) (leaf : ℕ → ℕ) (span : V → Interval)
   at_value : (P : Interval → Type 0) (s : Interval) → P s → P (span (value s))
   at_value P s p = rw (same s) p
 
+  -- what holds of each value and its child gives what follows for a bound of its span
+  each_bound : (bound : Interval → ℕ) (P : V → Tree → Type 0) (Q : ℕ → Tree → Type 0) → ((v : V) (t : Tree) → P v t → Q (bound (span v)) t)
+      → (row : List Outcome) (values : List V) (kids : Kids) → EachKid P row values kids → EachKid Q row (map bound (map span values)) kids
+  each_bound bound P Q gives [] [] Nil each = each
+  each_bound bound P Q gives (o ∷ row) (v ∷ values) (Kid w t kids) each = (each.0, gives v t each.1, each_bound bound P Q gives row values kids each.2)
+  each_bound bound P Q gives _ _ _ each = absurd each
+
   blended_below : (row : List Outcome) (values : List V) (kids : Kids) (enter exit : ℕ) → EachKid scoring.below row values kids
       → BelowBy scale leaf (mean_of row (map span values)).lo (Ride enter exit kids)
   blended_below row values kids enter exit each =
       mean_below scale leaf row (map (λ s. s.lo) (map span values)) kids enter exit
-      (each_mapped (λ (s : Interval). s.lo) (BelowBy scale leaf) row (map span values) kids
-      (each_mapped span (λ s t. BelowBy scale leaf s.lo t) row values kids
-      (each_weaker scoring.below (λ v t. BelowBy scale leaf (span v).lo t) (λ v t is. is.0) row values kids each)))
+      (each_bound (λ s. s.lo) scoring.below (BelowBy scale leaf) (λ v t is. is.0) row values kids each)
 
   -- the sum of lower bounds is at most that of the means
   lo_sum : (row : List Outcome) (values : List V) (kids : Kids) → EachKid scoring.below row values kids
@@ -63,9 +62,7 @@ module _ {V : Type 0} (scale : ℕ) (leaf : ℕ → ℕ) (span : V → Interval)
       → CoversBy scale leaf (mean_of row (map span values)).hi (Ride enter exit kids)
   blended_covers row values kids enter exit each =
       mean_covers scale leaf row (map (λ s. s.hi) (map span values)) kids enter exit
-      (each_mapped (λ (s : Interval). s.hi) (CoversBy scale leaf) row (map span values) kids
-      (each_mapped span (λ s t. CoversBy scale leaf s.hi t) row values kids
-      (each_weaker scoring.covers (λ v t. CoversBy scale leaf (span v).hi t) (λ v t is. is.0) row values kids each)))
+      (each_bound (λ s. s.hi) scoring.covers (CoversBy scale leaf) (λ v t is. is.0) row values kids each)
 
   -- the sum of upper bounds is that of the means
   hi_sum : (row : List Outcome) (values : List V) (kids : Kids) → EachKid scoring.covers row values kids
