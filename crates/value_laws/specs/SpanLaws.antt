@@ -43,8 +43,7 @@ module _ {V : Type 0} (scale : ℕ) (leaf : ℕ → ℕ) (span : V → Interval)
   blended_below : (row : List Outcome) (values : List V) (kids : Kids) (enter exit : ℕ) → EachKid scoring.below row values kids
       → BelowBy scale leaf (mean_of row (map span values)).lo (Ride enter exit kids)
   blended_below row values kids enter exit each =
-      mean_below scale leaf row (map (λ s. s.lo) (map span values)) kids enter exit
-      (each_bound (λ s. s.lo) scoring.below (BelowBy scale leaf) (λ v t is. is.0) row values kids each)
+      mean_below scale leaf row _ kids enter exit (each_bound (λ s. s.lo) scoring.below (BelowBy scale leaf) (λ v t is. is.0) row values kids each)
 
   -- the sum of lower bounds is at most that of the means
   lo_sum : (row : List Outcome) (values : List V) (kids : Kids) → EachKid scoring.below row values kids
@@ -61,8 +60,7 @@ module _ {V : Type 0} (scale : ℕ) (leaf : ℕ → ℕ) (span : V → Interval)
   blended_covers : (row : List Outcome) (values : List V) (kids : Kids) (enter exit : ℕ) → EachKid scoring.covers row values kids
       → CoversBy scale leaf (mean_of row (map span values)).hi (Ride enter exit kids)
   blended_covers row values kids enter exit each =
-      mean_covers scale leaf row (map (λ s. s.hi) (map span values)) kids enter exit
-      (each_bound (λ s. s.hi) scoring.covers (CoversBy scale leaf) (λ v t is. is.0) row values kids each)
+      mean_covers scale leaf row _ kids enter exit (each_bound (λ s. s.hi) scoring.covers (CoversBy scale leaf) (λ v t is. is.0) row values kids each)
 
   -- the sum of upper bounds is that of the means
   hi_sum : (row : List Outcome) (values : List V) (kids : Kids) → EachKid scoring.covers row values kids
