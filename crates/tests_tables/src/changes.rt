@@ -10,31 +10,30 @@ use std::test::Fail;
 
 const STOPS: &str = "stop_id,location_type,parent_station\nA,,\nX,1,\nX1,0,X\nX2,0,X\nT,,\n";
 
+const STOP_TIMES: &str =
+    "trip_id,arrival_time,departure_time,stop_id,stop_sequence\nt1,08:00:00,08:00:00,A,1\n";
+
 /// The files of the feed, with this table of transfers.
 fn files_with(alloc: Global, transfers: &str) -> Result<SteadyFiles, NoMemory> {
     let mut files = SteadyFiles::new(alloc, 64);
-    files.add("feed/stops.txt", STOPS.as_bytes())?;
-    files.add("feed/routes.txt", b"route_id,route_type\nR,1\n")?;
-    files.add("feed/trips.txt", b"route_id,service_id,trip_id\nR,WK,t1\n")?;
-    files.add(
-        "feed/stop_times.txt",
-        b"trip_id,arrival_time,departure_time,stop_id,stop_sequence\nt1,08:00:00,08:00:00,A,1\n",
-    )?;
-    files.add("feed/transfers.txt", transfers.as_bytes())?;
+    for (path, text) in [
+        ("feed/stops.txt", STOPS),
+        ("feed/routes.txt", "route_id,route_type\nR,1\n"),
+        ("feed/trips.txt", "route_id,service_id,trip_id\nR,WK,t1\n"),
+        ("feed/stop_times.txt", STOP_TIMES),
+        ("feed/transfers.txt", transfers),
+    ] {
+        files.add(path, text.as_bytes())?;
+    }
     Ok(files)
 }
 
-/// The limits with which the largest feed is read.
-fn limits() -> Limits {
-    Limits::standard()
-}
-
 fn feed_in(alloc: Global, files: &mut SteadyFiles) -> Result<Feed, FeedFault> {
-    Feed::read(alloc, files, "feed", &limits())
+    Feed::read(alloc, files, "feed", &Limits::standard())
 }
 
 fn changes_in(alloc: Global, files: &mut SteadyFiles, feed: &Feed) -> Result<Changes, FeedFault> {
-    Changes::read(alloc, files, "feed", feed, &limits())
+    Changes::read(alloc, files, "feed", feed, &Limits::standard())
 }
 
 fn read_in(alloc: Global, files: &mut SteadyFiles) -> Result<Changes, FeedFault> {

@@ -9,10 +9,7 @@ fn rows_in(alloc: Global, text: &[u8]) -> Result<Rows, RowsFault> {
 }
 
 fn rows_of(alloc: Global, text: &[u8]) -> Result<Rows, DelayFault> {
-    match rows_in(alloc, text) {
-        Ok(rows) => Ok(rows),
-        Err(_) => Err(DelayFault::NoMemory),
-    }
+    rows_in(alloc, text).map_err(|_| DelayFault::NoMemory)
 }
 
 fn table_of(alloc: Global, rows: &Rows) -> Result<DelayTable, DelayFault> {
@@ -295,10 +292,7 @@ const FAULTS: [(&str, DelayFault); 16] = [
 #[test]
 fn first_fault(rt: HostRuntime) {
     for (text, fault) in FAULTS {
-        assert_eq!(rt;
-            fault_of(rt.alloc(), text.as_bytes()),
-            Some(fault),
-            "{text}"
-        );
+        let found = fault_of(rt.alloc(), text.as_bytes());
+        assert_eq!(rt; found, Some(fault), "{text}");
     }
 }
