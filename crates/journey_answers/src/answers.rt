@@ -13,13 +13,11 @@ use graph_text::{Head, fit_is_printable, ready_is_printable, write, write_expand
 use interval_fixed::Span;
 use journey_model::{Fault, Percent, Problem, Start};
 use journey_report::{Answer, NamedQuery, Report, safe_text};
-use meat_scan::ScanTables;
 use merged_runs::MergedRuns;
 use plan_graph::{ExpandedGraph, PlanGraph};
 use plan_model::{BackwardOrder, Moment, NoMemory, Query};
-use safe_arrival::{deadline, least_worst};
+use safe_arrival::{deadline, reserved_worst};
 use std::alloc::Global;
-use value_laws::WorstMoment;
 
 /// An answer; or the fault for which there is none.
 pub type Answered = Result<Answer, Fault>;
@@ -67,15 +65,14 @@ fn worst_of<B: BackwardOrder>(
     ensures fits { IfOk result (λ worst. B.fits order.new problem.now.timetable.network) }
 {
     let network = &problem.timetable.network;
-    let tables: ScanTables<WorstMoment> = ScanTables::reserve(alloc, network)?;
-    let worst = least_worst(
-        tables,
+    let worst = reserved_worst(
+        alloc,
         network,
         order,
         problem.source,
         problem.target,
         start.moment,
-    );
+    )?;
     Ok(worst)
 }
 

@@ -62,7 +62,7 @@ fn scan_of(alloc: Global, network: &Network, query: &Query) -> Result<Scanned<Me
     ensures ruled { IfOk result (IsRuled network.now query.now) }
 {
     let mut order = MergedRuns::new(alloc, network)?;
-    let tables: ScanTables<MeanSpan> = ScanTables::reserve(alloc, network)?;
+    let tables: ScanTables<MeanSpan> = ScanTables::reserve_until(alloc, network, query.deadline)?;
     Ok(scan(tables, network, &mut order, query))
 }
 

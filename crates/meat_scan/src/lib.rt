@@ -532,6 +532,7 @@ pub fn start_value<V: Score, B: BackwardOrder>(
     requires differ { query.now.source.0 ≢ query.now.target.0 }
     ensures solves { SolvesStart V.scoring network.now query.now result.1 }
     ensures tables_fit { FitsTables network.now tables → FitsTables network.now result.0 }
+    ensures by { FitsTables network.now tables → (last : ℕ) → FitsTablesBy network.now last result.0 }
     ensures valid { IsValid network.now }
     ensures fits { B.fits order.new network.now }
 {

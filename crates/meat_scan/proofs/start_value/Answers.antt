@@ -1,7 +1,7 @@
 use Rattle.std.proofs.Common.{◌∙◌}
 use Rattle.meat_scan.specs.ScanResult.{found_in}
 use Rattle.meat_scan.proofs.Ends.{value_solved}
-use Rattle.meat_scan.proofs.Reserves.{fits_again}
+use Rattle.meat_scan.proofs.Reserves.{fits_again, fits_any}
 use Rattle.meat_scan.proofs.start_value.Goals as goal
 
 pub returns-clause-solves : goal.returns-clause-solves
@@ -18,3 +18,10 @@ returns-clause-tables_fit g c fit =
     let made = c.emptied.ensures in
     fits_again c.args.network.now c.args.tables c.emptied.result used.result.0.profiles fit made.empty made.spare
     used.ensures.capacity (made.places ∙ used.ensures.places) (made.runs ∙ used.ensures.runs)
+
+pub returns-clause-by : goal.returns-clause-by
+returns-clause-by g c fit last =
+    let used = c.scan_all-tables in
+    let made = c.emptied.ensures in
+    fits_any c.args.network.now last c.emptied.result (fits_again c.args.network.now c.args.tables c.emptied.result used.result.0.profiles fit made.empty made.spare
+    used.ensures.capacity (made.places ∙ used.ensures.places) (made.runs ∙ used.ensures.runs))
