@@ -13,7 +13,7 @@ hand_of f = option_and_then (λ i. option_map (λ e. string_bytes e.path) (slice
 
 -- what is unread of it
 abbrev pub left_of : SteadyFiles → Option (List ℕ)
-left_of f = option_and_then (λ i. option_map (λ e. drop f.place e.value.items) (slice_get f.held.items i)) f.hand
+left_of f = option_and_then (λ i. option_map (λ e. drop f.offset e.value.items) (slice_get f.held.items i)) f.hand
 
 -- all of it
 abbrev pub state_of : SteadyFiles → FilesState

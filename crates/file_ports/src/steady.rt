@@ -13,7 +13,7 @@ pub struct SteadyFiles {
     piece: usize,
     held: Vec<Named<Vec<u8>>>,
     hand: Option<usize>,
-    place: usize,
+    offset: usize,
     ghost some: { 0 < piece },
 }
 
@@ -33,7 +33,7 @@ impl SteadyFiles {
             piece,
             held: Vec::new(alloc),
             hand: None,
-            place: 0,
+            offset: 0,
         }
     }
 
@@ -83,7 +83,7 @@ impl Files for SteadyFiles {
         ensures never_fails { IsOk result }
         ensures piece { piece_of self.new ≡ piece_of self.old }
     {
-        self.place = 0;
+        self.offset = 0;
         self.hand = index_of(&self.held, path);
         match self.hand {
             Some(_) => Ok(Presence::Present),
@@ -104,9 +104,9 @@ impl Files for SteadyFiles {
             unreachable!()
         };
         let file = &self.held[index];
-        let from = self.place.min(file.value.len());
+        let from = self.offset.min(file.value.len());
         let count = copy_front(buffer, &file.value[from..], self.piece);
-        self.place = from + count;
+        self.offset = from + count;
         Ok(count)
     }
 }

@@ -10,7 +10,7 @@ use Rattle.trip_replay.specs.Rides.{IsStuckAfter}
 use Rattle.trip_replay.specs.Walk.{IsAnswer}
 use Rattle.journey_model.specs.declared.faults.Fault.TheVariants.{Replay, NoMemory}
 use Rattle.journey_model.specs.Faults.{unread_input}
-use Rattle.journey_model.specs.Sites.{last_printable, IsTellable}
+use Rattle.journey_model.specs.Sites.{last_printable, HasSite}
 use Rattle.journey_model.specs.declared.problem.Problem.{Problem}
 use Rattle.journey_model.specs.Known.{parts_of}
 use Rattle.plan_model.specs.Bounds.{last_start}
@@ -18,18 +18,18 @@ use Rattle.journey_report.proofs.TextLemmas.{arrivals, places}
 use Rattle.journey_answers.specs.Trips.{replay_as, IsSafeTrip, trip_by, IsTripFault}
 
 -- a trip is stuck at a place with a name, at a moment that has a text
-pub stuck_tellable : (p : Problem) (q : Query) → q.source.0 < length p.timetable.network.change → q.start.0 ≤ last_start
-    → (fault : ReplayFault) → IsStuckAfter p.timetable.network q fault → IsTellable (Some (parts_of p)) (replay_as fault)
-stuck_tellable p q source early (replay.Stuck place moment) (rides, all, at, since) =
+pub stuck_has_site : (p : Problem) (q : Query) → q.source.0 < length p.timetable.network.change → q.start.0 ≤ last_start
+    → (fault : ReplayFault) → IsStuckAfter p.timetable.network q fault → HasSite (Some (parts_of p)) (replay_as fault)
+stuck_has_site p q source early (replay.Stuck place moment) (rides, all, at, since) =
     let few : q.start.0 ≤ last_printable = omega (arith, early) in
     let inside : place.0 < length p.timetable.network.change = subst (λ (k : ℕ). k < length p.timetable.network.change) (sym at) (places p.timetable.network p.timetable.valid q.source.0 rides source all) in (
       subst (λ (k : ℕ). place.0 < k) (sym p.timetable.fit.places) inside,
       subst (λ (k : ℕ). k ≤ last_printable) (sym since) (arrivals p.timetable.network p.timetable.valid q.start.0 rides few all),
     )
-stuck_tellable p q source early (replay.NotADelay number) stuck = tt
-stuck_tellable p q source early (replay.TooFew ridden) stuck = tt
-stuck_tellable p q source early (replay.TooMany ridden) stuck = tt
-stuck_tellable p q source early replay.NoMemory stuck = tt
+stuck_has_site p q source early (replay.NotADelay number) stuck = tt
+stuck_has_site p q source early (replay.TooFew ridden) stuck = tt
+stuck_has_site p q source early (replay.TooMany ridden) stuck = tt
+stuck_has_site p q source early replay.NoMemory stuck = tt
 
 answer_is : (fault : ReplayFault) (trip : Result Trace ReplayFault) → fault ≢ replay.NoMemory → IsAnswer (Err fault) trip → trip ≡ Err fault
 answer_is replay.NoMemory trip other is = absurd (other refl)

@@ -77,10 +77,10 @@ module _ (n : NetworkModel) (valid : IsValid n) (q : Query) (target_in : q.targe
       (or_stuck (unfold_after n q.target.0 choice (count n - 1)) first p x within (after_printed (count n - 1)) is)
 
 -- the place where one may fail first has a name, and the moment a text
-pub unsafe_tellable : (p : Problem) (q : Query) (graph : PlanGraph) → IsFit p.timetable.network q graph
+pub unsafe_has_site : (p : Problem) (q : Query) (graph : PlanGraph) → IsFit p.timetable.network q graph
     → q.source.0 < length p.timetable.network.change → q.target.0 < length p.timetable.network.change
     → q.start.0 ≤ last_start → (place moment : ℕ) → IsUnsafe p.timetable.network q (unfold_plan graph p.timetable.network q) place moment → (place < length p.timetable.names.places) × (moment ≤ last_printable)
-unsafe_tellable p q graph fit source target early place moment unsafe =
+unsafe_has_site p q graph fit source target early place moment unsafe =
     let n = p.timetable.network in
     let chosen : (leg : Leg) (x : ℕ) (next : Leg) → by_place n (pick_at graph.tables) leg x ≡ Some next
     → next.exit.0 < count n = λ leg x next is. (picked_leg n graph.tables fit.tables (end_of n leg) x next is).exit in

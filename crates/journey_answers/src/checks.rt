@@ -2,7 +2,7 @@
 ghost use Rattle.std.specs.Prelude.{◌≡◌, ◌≢◌, ◌≤◌, length, Some, None, IfOk, IfErr};
 ghost use Rattle.plan_model.specs.Network.{count};
 ghost use Rattle.journey_model.specs.Faults.{unread_input};
-ghost use Rattle.journey_model.specs.Sites.{last_printable, IsTellable};
+ghost use Rattle.journey_model.specs.Sites.{last_printable, HasSite};
 ghost use Rattle.journey_model.specs.Known.{parts_of};
 ghost use Rattle.journey_report.specs.Findings.{findings_of, check_findings};
 ghost use Rattle.journey_report.specs.AnswerTexts.{holds_text};
@@ -67,7 +67,7 @@ pub fn check_over(alloc: Global, read: ReadCertificate) -> Result<Answer, Fault>
         a.text.items read.entry.query read.entry.certificate) }
     ensures fault { IfErr result (λ fault. fault ≢ Fault.NoMemory
         → IsBroken read.entry.problem.now fault read.entry.query read.entry.certificate) }
-    ensures tellable { IfErr result (IsTellable (Some (parts_of read.entry.problem.now))) }
+    ensures has_site { IfErr result (HasSite (Some (parts_of read.entry.problem.now))) }
     ensures read { IfErr result (λ fault. unread_input fault ≡ None) }
 {
     let network = &read.problem.timetable.network;

@@ -2,7 +2,7 @@
 ghost use Rattle.std.specs.Prelude.{◌≡◌, ◌≢◌, Some, None, IfOk, IfErr};
 ghost use Rattle.plan_graph.specs.Tidy.{IsFit};
 ghost use Rattle.journey_model.specs.Faults.{unread_input};
-ghost use Rattle.journey_model.specs.Sites.{IsTellable};
+ghost use Rattle.journey_model.specs.Sites.{HasSite};
 ghost use Rattle.journey_model.specs.Known.{parts_of};
 ghost use Rattle.journey_report.specs.Findings.{findings_of, score_findings};
 ghost use Rattle.journey_report.specs.AnswerTexts.{encloses_text};
@@ -52,7 +52,7 @@ pub fn score_over(alloc: Global, read: ReadGraph) -> Result<Answer, Fault>
         a.text.items read.entry.head read.entry.graph) }
     ensures fault { IfErr result (λ fault. fault ≢ Fault.NoMemory
         → IsUnsafeGraph read.entry.problem.now fault read.entry.head read.entry.graph) }
-    ensures tellable { IfErr result (IsTellable (Some (parts_of read.entry.problem.now))) }
+    ensures has_site { IfErr result (HasSite (Some (parts_of read.entry.problem.now))) }
     ensures read { IfErr result (λ fault. unread_input fault ≡ None) }
 {
     let network = &read.problem.timetable.network;

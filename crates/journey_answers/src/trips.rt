@@ -3,7 +3,7 @@ ghost use Rattle.std.specs.Prelude.{◌≡◌, ◌≢◌, ◌≤◌, All, Some, 
 ghost use Rattle.plan_graph.specs.Tidy.{IsFit};
 ghost use Rattle.command_line.specs.Jobs.{late_in};
 ghost use Rattle.journey_model.specs.Faults.{unread_input};
-ghost use Rattle.journey_model.specs.Sites.{last_printable, IsTellable};
+ghost use Rattle.journey_model.specs.Sites.{last_printable, HasSite};
 ghost use Rattle.journey_model.specs.Known.{parts_of};
 ghost use Rattle.journey_report.specs.Findings.{findings_of, replay_findings};
 ghost use Rattle.journey_report.specs.AnswerTexts.{trace_text};
@@ -64,7 +64,7 @@ pub fn trip_over(alloc: Global, read: ReadGraph, late: &str) -> Result<Answer, F
     ensures fault { IfErr result (λ fault. fault ≢ Fault.NoMemory
         → IsTripFault read.entry.problem.now (late_in late.now) fault
         read.entry.head read.entry.graph) }
-    ensures tellable { IfErr result (IsTellable (Some (parts_of read.entry.problem.now))) }
+    ensures has_site { IfErr result (HasSite (Some (parts_of read.entry.problem.now))) }
     ensures read { IfErr result (λ fault. unread_input fault ≡ None) }
 {
     let delays = read_late(alloc, late)?;

@@ -68,15 +68,15 @@ site_text_in None (Some site) = []
 site_text_in (Some known) (Some site) = site_text known site
 
 -- the place has a name, and the moment a text; the connection is there, and its run has a name
-abbrev pub IsTellableSite : NamedParts → Site → Type 0
-IsTellableSite known (Arrival place moment) = (place.0 < length known.names.places) × (moment.0 ≤ last_printable)
-IsTellableSite known (Connection connection) = (connection.0 < count known.network) × (run_of known.network connection.0 < length known.names.runs)
+abbrev pub IsSiteOf : NamedParts → Site → Type 0
+IsSiteOf known (Arrival place moment) = (place.0 < length known.names.places) × (moment.0 ≤ last_printable)
+IsSiteOf known (Connection connection) = (connection.0 < count known.network) × (run_of known.network connection.0 < length known.names.runs)
 
 -- where a fault is at a site, a timetable is known that has this site
-abbrev pub IsTellableIn : Option NamedParts → Option Site → Type 0
-IsTellableIn known None = Unit {0}
-IsTellableIn None (Some site) = ⊥
-IsTellableIn (Some known) (Some site) = IsTellableSite known site
+abbrev pub HasSiteIn : Option NamedParts → Option Site → Type 0
+HasSiteIn known None = Unit {0}
+HasSiteIn None (Some site) = ⊥
+HasSiteIn (Some known) (Some site) = IsSiteOf known site
 
-abbrev pub IsTellable : Option NamedParts → Fault → Type 0
-IsTellable known fault = IsTellableIn known (site_of fault)
+abbrev pub HasSite : Option NamedParts → Fault → Type 0
+HasSite known fault = HasSiteIn known (site_of fault)

@@ -1,7 +1,7 @@
 //! The lines of faults, by the names of their timetable.
 ghost use Rattle.std.specs.Prelude.{◌≡◌, ◌<◌, ◌≤◌, ◌++◌, length, Option as Optional, IfOk, IfSome, IfNone, codes};
 ghost use Rattle.journey_model.specs.FaultLines.{fault_text, line_of, IsFormatted};
-ghost use Rattle.journey_model.specs.Sites.{last_printable, arrival_text, step_text, site_of, site_text, site_text_in, IsTellable, IsTellableSite, NamedParts};
+ghost use Rattle.journey_model.specs.Sites.{last_printable, arrival_text, step_text, site_of, site_text, site_text_in, HasSite, IsSiteOf, NamedParts};
 ghost use Rattle.journey_model.specs.Known.{known_in, named_parts};
 
 use crate::faults::{Fault, Input, Site};
@@ -38,7 +38,7 @@ fn with_step(
     known: &Timetable,
     id: ConnectionId,
 ) -> Result<Vec<u8>, NoMemory>
-    requires { IsTellableSite (named_parts known.now) (Site.Connection id) }
+    requires { IsSiteOf (named_parts known.now) (Site.Connection id) }
     ensures { IfOk result (λ text.
         text.items ≡ line.items ++ step_text (named_parts known.now) id.0) }
 {
@@ -59,7 +59,7 @@ fn with_site(
     site: Site,
     known: &Timetable,
 ) -> Result<Vec<u8>, NoMemory>
-    requires { IsTellableSite (named_parts known.now) site }
+    requires { IsSiteOf (named_parts known.now) site }
     ensures { IfOk result (λ text.
         text.items ≡ line.items ++ site_text (named_parts known.now) site) }
 {
@@ -71,7 +71,7 @@ fn with_site(
 
 /// What a fault is, and where in the timetable, if this is known.
 fn front_of(alloc: Global, fault: Fault, known: Option<&Timetable>) -> Result<Vec<u8>, NoMemory>
-    requires { IsTellable (known_in known) fault }
+    requires { HasSite (known_in known) fault }
     ensures { IfOk result (λ text. text.items
         ≡ (codes "meat: " ++ fault_text fault) ++ site_text_in (known_in known.entry) (site_of fault)) }
 {
@@ -88,7 +88,7 @@ pub fn fault_line(
     fault: Fault,
     known: Option<&Timetable>,
 ) -> Result<Vec<u8>, NoMemory>
-    requires { IsTellable (known_in known) fault }
+    requires { HasSite (known_in known) fault }
     ensures { IfOk result (λ line. line.items ≡ line_of (known_in known.entry) fault) }
 {
     let mut line = front_of(alloc, fault, known)?;

@@ -10,7 +10,7 @@ use Rattle.journey_model.specs.declared.faults.Fault.TheVariants.{NoSafe, NoMemo
 use Rattle.journey_model.specs.declared.problem.Problem.{Problem}
 use Rattle.journey_model.specs.Faults.{unread_input}
 use Rattle.journey_model.specs.Known.{parts_of}
-use Rattle.journey_model.specs.Sites.{IsTellable}
+use Rattle.journey_model.specs.Sites.{HasSite}
 use Rattle.journey_model.specs.Wants.{OrNoMemory}
 use Rattle.journey_report.specs.declared.answer.Answer.{Answer}
 use Rattle.journey_report.specs.Findings.{findings_of}
@@ -32,15 +32,15 @@ module _ (contents : Option FileMap) (limits : Limits) (start : ℕ) (p : Proble
   -- and no file of its own is read: it fails only as no strategy is safe, or there was no memory
   pub record IsAnsweredAlone (ask : AskModel) (r : Result Answer Fault) : Type 0 where
     pub own : IsAnswered ask r
-    pub tellable : IfErr r (IsTellable (Some (parts_of p)))
+    pub has_site : IfErr r (HasSite (Some (parts_of p)))
     pub unread : IfErr r (λ fault. unread_input fault ≡ None)
 
   alone : (ask : AskModel) → ((fault : Fault) → FailsAsk contents limits start p ask fault → fault ≡ NoSafe) → (r : Result Answer Fault)
       → IfOk r (λ a. AnswersAsk contents limits start p ask (findings_of a.report) a.text.items) → IfErr r (OrNoMemory (FailsAsk contents limits start p ask)) → IsAnsweredAlone ask r
-  alone ask unsafe (Ok a) answer fails = record { own = record { answer = answer; fault = tt }; tellable = tt; unread = tt }
+  alone ask unsafe (Ok a) answer fails = record { own = record { answer = answer; fault = tt }; has_site = tt; unread = tt }
   alone ask unsafe (Err fault) answer fails =
       let h = unsafe_reported (FailsAsk contents limits start p ask) unsafe (Some (parts_of p)) fault fails in
-      record { own = record { answer = tt; fault = h.why }; tellable = h.tellable; unread = h.unread }
+      record { own = record { answer = tt; fault = h.why }; has_site = h.has_site; unread = h.unread }
 
   pub alone-asked : {ask asked : Ask} (r : Result Answer Fault) → ask ≡ asked
       → ((fault : Fault) → FailsAsk contents limits start p (ask_shown asked) fault → fault ≡ NoSafe)

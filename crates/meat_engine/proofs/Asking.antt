@@ -8,9 +8,9 @@ use Rattle.journey_model.specs.declared.faults.Input.TheVariants as input
 use Rattle.journey_model.specs.declared.faults.Fault.{Fault}
 use Rattle.journey_model.specs.declared.faults.Fault.TheVariants.{Read, NoSafe, NoMemory}
 use Rattle.journey_model.specs.Faults.{unread_input}
-use Rattle.journey_model.specs.Sites.{NamedParts, IsTellable}
+use Rattle.journey_model.specs.Sites.{NamedParts, HasSite}
 use Rattle.journey_model.specs.Stages.{IsStageBeforeSearch}
-use Rattle.journey_model.proofs.Sited.{tellable}
+use Rattle.journey_model.proofs.Sited.{has_site}
 use Rattle.journey_model.specs.declared.problem.Problem.{Problem}
 use Rattle.journey_problem.specs.FaultsBeforeSearch.{IsBeforeSearch}
 use Rattle.journey_problem.specs.Files.{path_of, HasCauses}
@@ -22,33 +22,33 @@ use Rattle.journey_model.specs.Known.{parts_of}
 use Rattle.meat_engine.specs.Refusals.{IsRefusalBy}
 
 -- an early fault is at no site
-pub early_tellable : (known : Option NamedParts) (timetable : TimetableModel) (fault : Fault) → IsBeforeSearch timetable fault → IsTellable known fault
-early_tellable known timetable fault early = tellable known fault (λ at. subst IsStageBeforeSearch at early.stage)
+pub early_has_site : (known : Option NamedParts) (timetable : TimetableModel) (fault : Fault) → IsBeforeSearch timetable fault → HasSite known fault
+early_has_site known timetable fault early = has_site known fault (λ at. subst IsStageBeforeSearch at early.stage)
 
 -- nor is that there are no strategies: what holds where it fails only as no strategy is safe, or there was no memory
 pub record IsUnsafeReported (Fails : Fault → Type 0) (known : Option NamedParts) (fault : Fault) : Type 0 where
   pub why : fault ≢ NoMemory → Fails fault
-  pub tellable : IsTellable known fault
+  pub has_site : HasSite known fault
   pub unread : unread_input fault ≡ None
 
 pub unsafe_reported : (Fails : Fault → Type 0) → ((fault : Fault) → Fails fault → fault ≡ NoSafe) → (known : Option NamedParts) (fault : Fault)
     → OrNoMemory Fails fault → IsUnsafeReported Fails known fault
 unsafe_reported Fails unsafe known fault (inl why) = record {
   why = λ other. why;
-  tellable = subst (IsTellable known) (sym (unsafe fault why)) tt;
+  has_site = subst (HasSite known) (sym (unsafe fault why)) tt;
   unread = ap unread_input (unsafe fault why);
 }
 unsafe_reported Fails unsafe known fault (inr memory) = record {
   why = λ other. absurd (other memory);
-  tellable = subst (IsTellable known) (sym memory) tt;
+  has_site = subst (HasSite known) (sym memory) tt;
   unread = ap unread_input memory;
 }
 
 -- a refusal before there is a problem
-pub plain_refusal : (cause : Option NamedParts → Fault → Type 0) (r : Refusal) (fault : Fault) → r.fault ≡ fault → r.problem ≡ None → IsTellable None fault
+pub plain_refusal : (cause : Option NamedParts → Fault → Type 0) (r : Refusal) (fault : Fault) → r.fault ≡ fault → r.problem ≡ None → HasSite None fault
     → (fault ≢ NoMemory → cause None fault) → IsRefusalBy cause r
 plain_refusal cause r fault is none reports holds = record {
-  tellable = subst (λ (o : Option Problem). IsTellable (option_map parts_of o) r.fault) (sym none) (subst (IsTellable None) (sym is) reports);
+  has_site = subst (λ (o : Option Problem). HasSite (option_map parts_of o) r.fault) (sym none) (subst (HasSite None) (sym is) reports);
   holds = λ other. subst (λ (o : Option Problem). cause (option_map parts_of o) r.fault) (sym none) (subst (cause None) (sym is) (holds (λ same. other (is ∙ same))));
 }
 

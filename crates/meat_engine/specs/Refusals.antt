@@ -2,7 +2,7 @@
 use Rattle.std.specs.Prelude.{◌≢◌, Option, option_map, Result, Ok, Err}
 use Rattle.journey_model.specs.declared.faults.Fault.{Fault}
 use Rattle.journey_model.specs.declared.faults.Fault.TheVariants.{NoMemory}
-use Rattle.journey_model.specs.Sites.{NamedParts, IsTellable}
+use Rattle.journey_model.specs.Sites.{NamedParts, HasSite}
 use Rattle.meat_engine.specs.declared.refusal.Refusal.{Refusal}
 use Rattle.journey_model.specs.Known.{parts_of}
 
@@ -17,5 +17,5 @@ by_fault (Err r) = Err r.fault
 
 -- its line has a text by the timetable that is known, by which the fault has its cause, or there was no memory
 pub record IsRefusalBy (cause : Option NamedParts → Fault → Type 0) (r : Refusal) : Type 0 where
-  pub tellable : IsTellable (known_of r) r.fault
+  pub has_site : HasSite (known_of r) r.fault
   pub holds : r.fault ≢ NoMemory → cause (known_of r) r.fault

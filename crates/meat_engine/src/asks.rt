@@ -2,7 +2,7 @@
 ghost use Rattle.std.specs.Prelude.{◌≡◌, ◌≢◌, Some, IfOk, IfErr};
 ghost use Rattle.command_line.specs.Ranges.{IsJourney, IsAsk};
 ghost use Rattle.command_line.specs.Shown.{journey_shown, ask_shown};
-ghost use Rattle.journey_model.specs.Sites.{IsTellable};
+ghost use Rattle.journey_model.specs.Sites.{HasSite};
 ghost use Rattle.journey_problem.specs.Files.{path_of, HasCauses};
 ghost use Rattle.journey_problem.specs.Problems.{InProblem};
 ghost use Rattle.meat_engine.specs.Asks.{own_paths, AnswersAsk, FailsAsk, FailsCheck, FailsJourney, FailsReplay, FailsScore};
@@ -47,7 +47,7 @@ fn replay_over<F: Files>(
     ensures fault { IfErr result (λ fault. fault ≢ Fault.NoMemory
         → FailsReplay (F.state files.old).files limits.now start.moment.0 graph.now (late_in late.now)
         problem.now fault) }
-    ensures tellable { IfErr result (IsTellable (Some (parts_of problem.now))) }
+    ensures has_site { IfErr result (HasSite (Some (parts_of problem.now))) }
     ensures causes { HasCauses (graph_path graph.now) (F.state files.old) (F.state files.new) result }
 {
     let (head, graph) = read_graph_file(alloc, files, graph, problem, start.moment, limits)?;
@@ -73,7 +73,7 @@ fn check_graph_over<F: Files>(
         graph.now problem.now (IsEnclosed problem.now (findings_of a.report) a.text.items)) }
     ensures fault { IfErr result (λ fault. fault ≢ Fault.NoMemory
         → FailsScore (F.state files.old).files limits.now start.moment.0 graph.now problem.now fault) }
-    ensures tellable { IfErr result (IsTellable (Some (parts_of problem.now))) }
+    ensures has_site { IfErr result (HasSite (Some (parts_of problem.now))) }
     ensures causes { HasCauses (graph_path graph.now) (F.state files.old) (F.state files.new) result }
 {
     let (head, graph) = read_graph_file(alloc, files, graph, problem, start.moment, limits)?;
@@ -99,7 +99,7 @@ fn check_certificate_over<F: Files>(
         path.now problem.now (IsHeld problem.now (findings_of a.report) a.text.items)) }
     ensures fault { IfErr result (λ fault. fault ≢ Fault.NoMemory
         → FailsCheck (F.state files.old).files limits.now start.moment.0 path.now problem.now fault) }
-    ensures tellable { IfErr result (IsTellable (Some (parts_of problem.now))) }
+    ensures has_site { IfErr result (HasSite (Some (parts_of problem.now))) }
     ensures causes { HasCauses (certificate_path path.now) (F.state files.old) (F.state files.new) result }
 {
     let (query, certificate) = read_certificate_file(
@@ -132,7 +132,7 @@ fn ask_over<F: Files>(
         problem.now (ask_shown ask.now) (findings_of a.report) a.text.items) }
     ensures fault { IfErr result (λ fault. fault ≢ Fault.NoMemory
         → FailsAsk (F.state files.old).files limits.now start.moment.0 problem.now (ask_shown ask.now) fault) }
-    ensures tellable { IfErr result (IsTellable (Some (parts_of problem.now))) }
+    ensures has_site { IfErr result (HasSite (Some (parts_of problem.now))) }
     ensures causes { HasCauses (own_paths (ask_shown ask.now))
         (F.state files.old) (F.state files.new) result }
 {

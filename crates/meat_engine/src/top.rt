@@ -7,7 +7,7 @@ ghost use Rattle.command_line.specs.Ranges.{IsJob};
 ghost use Rattle.command_line.specs.Shown.{wanted_job};
 ghost use Rattle.journey_model.specs.Faults.{status_of};
 ghost use Rattle.journey_model.specs.FaultLines.{line_of};
-ghost use Rattle.journey_model.specs.Sites.{NamedParts, IsTellable};
+ghost use Rattle.journey_model.specs.Sites.{NamedParts, HasSite};
 ghost use Rattle.journey_problem.specs.Files.{HasCauses};
 ghost use Rattle.journey_model.specs.Known.{known_in, parts_of};
 ghost use Rattle.journey_report.specs.Findings.{findings_of, no_findings};
@@ -71,7 +71,7 @@ fn named<'a>(problem: &'a Option<Problem>) -> Option<&'a Timetable>
 /// The report of a fault, whose line is written to `err`. Without memory for the line, that is the
 /// fault.
 fn report_fault<E: Sink>(alloc: Global, err: &mut E, refusal: &Refusal) -> Report
-    requires { IsTellable (known_of refusal.now) refusal.now.fault }
+    requires { HasSite (known_of refusal.now) refusal.now.fault }
     ensures status { result.status.0 ≡ status_of result.fault }
     ensures findings { findings_of result ≡ no_findings }
     ensures reported { IsRefusedWith (E.written err.old) (E.written err.new)
@@ -96,7 +96,7 @@ fn report_fault<E: Sink>(alloc: Global, err: &mut E, refusal: &Refusal) -> Repor
 
 /// Ends with a fault, and drops its problem.
 fn refuse<E: Sink>(alloc: Global, err: &mut E, refusal: Refusal) -> Report
-    requires { IsTellable (known_of refusal) refusal.fault }
+    requires { HasSite (known_of refusal) refusal.fault }
     ensures status { result.status.0 ≡ status_of result.fault }
     ensures findings { findings_of result ≡ no_findings }
     ensures reported { IsRefusedWith (E.written err.old) (E.written err.new)

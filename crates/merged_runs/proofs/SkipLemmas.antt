@@ -36,8 +36,8 @@ filter_parts p late (id ∷ ids) up = elim (cases_Bool (late id)) [
 ]
 
 -- departures do not fall along a run
-pub DepartsInOrder-run : (n : NetworkModel) → IsValid n → (starts left : List ℕ) → AreStretches n starts left → (r : ℕ) → r < length left → DepartsInOrder n (get_or starts r 0) (get_or left r 0)
-DepartsInOrder-run n v starts left s r h i j from up to =
+pub DepartsInOrder-run : (n : NetworkModel) → IsValid n → (starts remaining : List ℕ) → AreStretches n starts remaining → (r : ℕ) → r < length remaining → DepartsInOrder n (get_or starts r 0) (get_or remaining r 0)
+DepartsInOrder-run n v starts remaining s r h i j from up to =
     let bounds = s.within r h in
     let a = run_between n starts s.begin r i (omega (arith, s.size)) from (omega (arith, bounds.1)) in
     let b = run_between n starts s.begin r j (omega (arith, s.size)) (omega arith) (omega (arith, bounds.1)) in
@@ -45,8 +45,8 @@ DepartsInOrder-run n v starts left s r h i j from up to =
     (λ ge. let e : i ≡ j = omega arith in omega (arith, ap (λ (k : ℕ). dep_of n k) e))
     (cases_lt i j)
 
-pub left_within : (n : NetworkModel) (starts left : List ℕ) → AreStretches n starts left → (r : ℕ) → r < length left → get_or left r 0 ≤ count n
-left_within n starts left s r h = let next = s.begin.each (r + 1) (omega (arith, s.size)) in omega (arith, (s.within r h).1, next.within)
+pub left_within : (n : NetworkModel) (starts remaining : List ℕ) → AreStretches n starts remaining → (r : ℕ) → r < length remaining → get_or remaining r 0 ≤ count n
+left_within n starts remaining s r h = let next = s.begin.each (r + 1) (omega (arith, s.size)) in omega (arith, (s.within r h).1, next.within)
 
 -- where the last one departs in time, all do
 pub IsParted-whole : (n : NetworkModel) (last from to : ℕ) → from ≤ to → DepartsInOrder n from to → (from < to → dep_of n (to - 1) ≤ last) → IsParted n last from to to to
@@ -60,17 +60,17 @@ module _ (n : NetworkModel) (last from low high to : ℕ) (p : IsParted n last f
   IsParted-down middle ge less late = grind (arith, common_steps, nat_tests)
 
 -- the ends of the runs before this one are lowered to those that depart by a moment
-pub record AreLowered (n : NetworkModel) (last : ℕ) (starts left : List ℕ) (run : ℕ) (new : List ℕ) : Type 0 where
-  pub size : length new ≡ length left
-  pub done : (r : ℕ) → r < run → r < length left → IsParted n last (get_or starts r 0) (get_or new r 0) (get_or new r 0) (get_or left r 0)
-  pub same : (r : ℕ) → run ≤ r → get_or new r 0 ≡ get_or left r 0
+pub record AreLowered (n : NetworkModel) (last : ℕ) (starts remaining : List ℕ) (run : ℕ) (new : List ℕ) : Type 0 where
+  pub size : length new ≡ length remaining
+  pub done : (r : ℕ) → r < run → r < length remaining → IsParted n last (get_or starts r 0) (get_or new r 0) (get_or new r 0) (get_or remaining r 0)
+  pub same : (r : ℕ) → run ≤ r → get_or new r 0 ≡ get_or remaining r 0
 
-module _ (n : NetworkModel) (last : ℕ) (starts left : List ℕ) where
-  pub AreLowered-none : AreLowered n last starts left 0 left
+module _ (n : NetworkModel) (last : ℕ) (starts remaining : List ℕ) where
+  pub AreLowered-none : AreLowered n last starts remaining 0 remaining
   AreLowered-none = record { size = refl; done = λ r less h. absurd (omega arith); same = λ r ge. refl }
 
-  pub AreLowered-more : (run by : ℕ) (new : List ℕ) → run < length left → AreLowered n last starts left run new
-      → IsParted n last (get_or starts run 0) by by (get_or left run 0) → AreLowered n last starts left (run + 1) (set new run by)
+  pub AreLowered-more : (run by : ℕ) (new : List ℕ) → run < length remaining → AreLowered n last starts remaining run new
+      → IsParted n last (get_or starts run 0) by by (get_or remaining run 0) → AreLowered n last starts remaining (run + 1) (set new run by)
   AreLowered-more run by new h l parted = grind (arith, common_steps, nat_tests)
 
 same_tests : (i old new last dep : ℕ) → i < old → (i < new → dep ≤ last) → (new ≤ i → last < dep) → ltb i new ≡ cond (ltb last dep) false (ltb i old)
@@ -85,30 +85,30 @@ when_true last dep b passes = grind (arith, nat_tests)
 when_false : (last dep : ℕ) (b : Bool) → cond (ltb last dep) false b ≡ true → dep ≤ last
 when_false last dep b passes = grind (arith, nat_tests)
 
-module _ (n : NetworkModel) (last : ℕ) (starts left new : List ℕ) (run : ℕ) (s : AreStretches n starts left) (all : length left ≤ run) (l : AreLowered n last starts left run new) where
-  parted : (r : ℕ) → r < length left → IsParted n last (get_or starts r 0) (get_or new r 0) (get_or new r 0) (get_or left r 0)
+module _ (n : NetworkModel) (last : ℕ) (starts remaining new : List ℕ) (run : ℕ) (s : AreStretches n starts remaining) (all : length remaining ≤ run) (l : AreLowered n last starts remaining run new) where
+  parted : (r : ℕ) → r < length remaining → IsParted n last (get_or starts r 0) (get_or new r 0) (get_or new r 0) (get_or remaining r 0)
   parted r h = l.done r (omega arith) h
 
   pub AreStretches-lowered : AreStretches n starts new
   AreStretches-lowered = grind (arith, common_steps, nat_tests)
 
-  own : (id : ConnectionId) → id.0 < get_or left (run_of n id.0) 0
+  own : (id : ConnectionId) → id.0 < get_or remaining (run_of n id.0) 0
       → IsParted n last (get_or starts (run_of n id.0) 0) (get_or new (run_of n id.0) 0) (get_or new (run_of n id.0) 0)
-      (get_or left (run_of n id.0) 0) × (get_or starts (run_of n id.0) 0 ≤ id.0)
+      (get_or remaining (run_of n id.0) 0) × (get_or starts (run_of n id.0) 0 ≤ id.0)
   own id h = grind (arith, common_steps)
 
   -- what is left now is what was left and departs in time
-  kept_soon : (id : ConnectionId) → ltb id.0 (get_or new (run_of n id.0) 0) ≡ cond (ltb last (dep_of n id.0)) false (ltb id.0 (get_or left (run_of n id.0) 0))
+  kept_soon : (id : ConnectionId) → ltb id.0 (get_or new (run_of n id.0) 0) ≡ cond (ltb last (dep_of n id.0)) false (ltb id.0 (get_or remaining (run_of n id.0) 0))
   kept_soon id = grind (arith, common_steps)
 
-  pub rest_of-lowered : IsValid n → IsPrefixUpTo n last (rest_of n left) (rest_of n new)
+  pub rest_of-lowered : IsValid n → IsPrefixUpTo n last (rest_of n remaining) (rest_of n new)
   unfolding rest_of
   rest_of-lowered v =
       let ids : List ConnectionId = in_order n (count n) in
       let up : AllPairs (λ (a b : ConnectionId). ltb last (dep_of n a.0) ≡ true → ltb last (dep_of n b.0) ≡ true) ids = λ i j d less within late.
       let along : dep_of n (get_or ids i d).0 ≤ dep_of n (get_or ids j d).0 = dep_of_earlier n (get_or ids i d).0 (get_or ids j d).0 ((IsScanOrder-in_order n v).rising i j d less within) in
       lt-ltb last (dep_of n (get_or ids j d).0) (omega (arith, along, ltb-true last (dep_of n (get_or ids i d).0) late)) in
-      let p = λ (id : ConnectionId). ltb id.0 (get_or left (run_of n id.0) 0) in
+      let p = λ (id : ConnectionId). ltb id.0 (get_or remaining (run_of n id.0) 0) in
       let late = λ (id : ConnectionId). ltb last (dep_of n id.0) in
       rw (filter_agree _ (λ id. cond (late id) false (p id)) kept_soon ids) (record {
         skipped = filter (λ id. cond (late id) (p id) false) ids;

@@ -60,105 +60,105 @@ IsOver-both a b leaf over_a over_b less =
     (λ ge. absurd (omega (arith, above_mono over_a.0 over_b.0 leaf ge, over_a.1, over_b.1)))
     (cases_lt over_b.0 over_a.0)
 
-module _ (n : NetworkModel) (starts left : List ℕ) where
-  pub IsWinner-leaf : (r : ℕ) → r < length left → IsWinner n starts left (length left + r) (key_of n starts left r)
+module _ (n : NetworkModel) (starts remaining : List ℕ) where
+  pub IsWinner-leaf : (r : ℕ) → r < length remaining → IsWinner n starts remaining (length remaining + r) (key_of n starts remaining r)
   IsWinner-leaf r h = record {
     run = r;
     within = h;
     below = (0, refl);
     own = refl;
     best = λ other inside over. let same : other ≡ r = omega
-        (arith, IsOver-leaf (length left) (length left + r) (length left + other) (omega arith) (omega arith) over) in omega (arith, ap (key_of n starts left) same);
+        (arith, IsOver-leaf (length remaining) (length remaining + r) (length remaining + other) (omega arith) (omega arith) over) in omega (arith, ap (key_of n starts remaining) same);
   }
 
   -- at a node the greater of the keys of its children wins
-  pub IsWinner-first : (k first second : ℕ) → 0 < k → k < length left → IsWinner n starts left (2 * k) first
-      → IsWinner n starts left (2 * k + 1) second → second ≤ first → IsWinner n starts left k first
+  pub IsWinner-first : (k first second : ℕ) → 0 < k → k < length remaining → IsWinner n starts remaining (2 * k) first
+      → IsWinner n starts remaining (2 * k + 1) second → second ≤ first → IsWinner n starts remaining k first
   IsWinner-first k first second some h a b most = record {
     run = a.run;
     within = a.within;
-    below = IsOver-child k (2 * k) (length left + a.run) (omega arith) a.below;
+    below = IsOver-child k (2 * k) (length remaining + a.run) (omega arith) a.below;
     own = a.own;
-    best = λ r inside over. ⊎_elim (λ over_first. a.best r inside over_first) (λ over_second. omega (arith, b.best r inside over_second, most)) (IsOver-cases k (length left + r) (omega arith) over);
+    best = λ r inside over. ⊎_elim (λ over_first. a.best r inside over_first) (λ over_second. omega (arith, b.best r inside over_second, most)) (IsOver-cases k (length remaining + r) (omega arith) over);
   }
 
-  pub IsWinner-second : (k first second : ℕ) → 0 < k → k < length left → IsWinner n starts left (2 * k) first
-      → IsWinner n starts left (2 * k + 1) second → first ≤ second → IsWinner n starts left k second
+  pub IsWinner-second : (k first second : ℕ) → 0 < k → k < length remaining → IsWinner n starts remaining (2 * k) first
+      → IsWinner n starts remaining (2 * k + 1) second → first ≤ second → IsWinner n starts remaining k second
   IsWinner-second k first second some h a b most = record {
     run = b.run;
     within = b.within;
-    below = IsOver-child k (2 * k + 1) (length left + b.run) (omega arith) b.below;
+    below = IsOver-child k (2 * k + 1) (length remaining + b.run) (omega arith) b.below;
     own = b.own;
-    best = λ r inside over. ⊎_elim (λ over_first. omega (arith, a.best r inside over_first, most)) (λ over_second. b.best r inside over_second) (IsOver-cases k (length left + r) (omega arith) over);
+    best = λ r inside over. ⊎_elim (λ over_first. omega (arith, a.best r inside over_first, most)) (λ over_second. b.best r inside over_second) (IsOver-cases k (length remaining + r) (omega arith) over);
   }
 
 -- the runs before this one have their keys
-pub record AreRead (n : NetworkModel) (starts left : List ℕ) (run : ℕ) (keys : List ℕ) : Type 0 where
-  pub size : length keys ≡ 2 * length left
-  pub each : (r : ℕ) → r < run → r < length left → get_or keys (length left + r) 0 ≡ key_of n starts left r
+pub record AreRead (n : NetworkModel) (starts remaining : List ℕ) (run : ℕ) (keys : List ℕ) : Type 0 where
+  pub size : length keys ≡ 2 * length remaining
+  pub each : (r : ℕ) → r < run → r < length remaining → get_or keys (length remaining + r) 0 ≡ key_of n starts remaining r
 
 -- the nodes from this one on have the greatest keys below them
-pub record IsPlayedFrom (n : NetworkModel) (starts left : List ℕ) (node : ℕ) (keys : List ℕ) : Type 0 where
-  pub size : length keys ≡ 2 * length left
-  pub each : (k : ℕ) → node ≤ k → 0 < k → k < 2 * length left → IsWinner n starts left k (get_or keys k 0)
+pub record IsPlayedFrom (n : NetworkModel) (starts remaining : List ℕ) (node : ℕ) (keys : List ℕ) : Type 0 where
+  pub size : length keys ≡ 2 * length remaining
+  pub each : (k : ℕ) → node ≤ k → 0 < k → k < 2 * length remaining → IsWinner n starts remaining k (get_or keys k 0)
 
 -- the nodes have the greatest keys below them, but maybe those that are less than this one and above the run
-pub record IsPlayedAround (n : NetworkModel) (starts left : List ℕ) (run node : ℕ) (keys : List ℕ) : Type 0 where
-  pub size : length keys ≡ 2 * length left
+pub record IsPlayedAround (n : NetworkModel) (starts remaining : List ℕ) (run node : ℕ) (keys : List ℕ) : Type 0 where
+  pub size : length keys ≡ 2 * length remaining
   pub some : 0 < node
-  pub few : node < 2 * length left
-  pub over : IsOver node (length left + run)
-  pub each : (k : ℕ) → 0 < k → k < 2 * length left → (IsOver k (length left + run) → node ≤ k) → IsWinner n starts left k (get_or keys k 0)
+  pub few : node < 2 * length remaining
+  pub over : IsOver node (length remaining + run)
+  pub each : (k : ℕ) → 0 < k → k < 2 * length remaining → (IsOver k (length remaining + run) → node ≤ k) → IsWinner n starts remaining k (get_or keys k 0)
 
-module _ (n : NetworkModel) (starts left keys : List ℕ) where
-  pub AreRead-none : length keys ≡ 2 * length left → AreRead n starts left 0 keys
+module _ (n : NetworkModel) (starts remaining keys : List ℕ) where
+  pub AreRead-none : length keys ≡ 2 * length remaining → AreRead n starts remaining 0 keys
   AreRead-none size = record { size = size; each = λ r h. absurd (omega arith) }
 
-  pub AreRead-more : (run key : ℕ) → run < length left → AreRead n starts left run keys → key ≡ key_of n starts left run → AreRead n starts left (run + 1) (set keys (length left + run) key)
+  pub AreRead-more : (run key : ℕ) → run < length remaining → AreRead n starts remaining run keys → key ≡ key_of n starts remaining run → AreRead n starts remaining (run + 1) (set keys (length remaining + run) key)
   AreRead-more run key h read own = grind (arith, common_steps, nat_tests)
 
-  pub IsPlayedFrom-runs : (run : ℕ) → length left ≤ run → AreRead n starts left run keys → IsPlayedFrom n starts left (length left) keys
+  pub IsPlayedFrom-runs : (run : ℕ) → length remaining ≤ run → AreRead n starts remaining run keys → IsPlayedFrom n starts remaining (length remaining) keys
   IsPlayedFrom-runs run all read = record {
     size = read.size;
-    each = λ k ge some few. let e : length left + (k - length left) ≡ k = omega arith in
-        let leaf : get_or keys k 0 ≡ key_of n starts left (k - length left) = ap (λ m. get_or keys m 0) (sym e) ∙ read.each (k - length left) (omega arith) (omega arith) in
-        rw leaf (subst (λ m. IsWinner n starts left m (key_of n starts left (k - length left))) e (IsWinner-leaf n starts left (k - length left) (omega arith)));
+    each = λ k ge some few. let e : length remaining + (k - length remaining) ≡ k = omega arith in
+        let leaf : get_or keys k 0 ≡ key_of n starts remaining (k - length remaining) = ap (λ m. get_or keys m 0) (sym e) ∙ read.each (k - length remaining) (omega arith) (omega arith) in
+        rw leaf (subst (λ m. IsWinner n starts remaining m (key_of n starts remaining (k - length remaining))) e (IsWinner-leaf n starts remaining (k - length remaining) (omega arith)));
   }
 
-  pub IsPlayedFrom-more : (node key : ℕ) → 0 < node → node < length left → IsPlayedFrom n starts left (node + 1) keys
-      → IsWinner n starts left node key → IsPlayedFrom n starts left node (set keys node key)
+  pub IsPlayedFrom-more : (node key : ℕ) → 0 < node → node < length remaining → IsPlayedFrom n starts remaining (node + 1) keys
+      → IsWinner n starts remaining node key → IsPlayedFrom n starts remaining node (set keys node key)
   IsPlayedFrom-more node key some few p won = grind (arith, common_steps, nat_tests)
 
   -- the final has the greatest key of all
-  pub best_of_all : IsTournament n starts left keys → (r : ℕ) → r < length left → key_of n starts left r ≤ get_or keys 1 0
-  best_of_all t r h = (t.each 1 (omega arith) (omega arith)).best r h (IsOver-final (length left + r) (omega arith))
+  pub best_of_all : IsTournament n starts remaining keys → (r : ℕ) → r < length remaining → key_of n starts remaining r ≤ get_or keys 1 0
+  best_of_all t r h = (t.each 1 (omega arith) (omega arith)).best r h (IsOver-final (length remaining + r) (omega arith))
 
 -- a node that is not above a run keeps its key, whatever is left of the run
-IsWinner-apart : (n : NetworkModel) (starts left : List ℕ) (run end k key : ℕ) → (IsOver k (length left + run) → ⊥) → IsWinner n starts left k key → IsWinner n starts (set left run end) k key
-IsWinner-apart n starts left run end k key never won =
-    let len : length (set left run end) ≡ length left = length-set left run end in
-    let gone : won.run ≡ run → ⊥ = λ e. never (subst (λ m. IsOver k (length left + m)) e won.below) in
+IsWinner-apart : (n : NetworkModel) (starts remaining : List ℕ) (run end k key : ℕ) → (IsOver k (length remaining + run) → ⊥) → IsWinner n starts remaining k key → IsWinner n starts (set remaining run end) k key
+IsWinner-apart n starts remaining run end k key never won =
+    let len : length (set remaining run end) ≡ length remaining = length-set remaining run end in
+    let gone : won.run ≡ run → ⊥ = λ e. never (subst (λ m. IsOver k (length remaining + m)) e won.below) in
     record {
       run = won.run;
       within = omega (arith, won.within, len);
       below = rw len won.below;
-      own = won.own ∙ sym (key_of-set_other n starts left run end won.run gone);
+      own = won.own ∙ sym (key_of-set_other n starts remaining run end won.run gone);
       best = λ r within over.
-          let below : IsOver k (length left + r) = subst (λ m. IsOver k (m + r)) len over in
-          let apart : r ≡ run → ⊥ = λ e. never (subst (λ m. IsOver k (length left + m)) e below) in
-          omega (arith, key_of-set_other n starts left run end r apart, won.best r (omega (arith, within, len)) below);
+          let below : IsOver k (length remaining + r) = subst (λ m. IsOver k (m + r)) len over in
+          let apart : r ≡ run → ⊥ = λ e. never (subst (λ m. IsOver k (length remaining + m)) e below) in
+          omega (arith, key_of-set_other n starts remaining run end r apart, won.best r (omega (arith, within, len)) below);
     }
 
 -- where the last connection of a run is given and its key is read again, the nodes that are not above the run keep theirs
-pub IsPlayedAround-run : (n : NetworkModel) → (starts left keys : List ℕ) (run end key : ℕ) → IsTournament n starts left keys → run < length left
-    → key ≡ key_of n starts (set left run end) run → IsPlayedAround n starts (set left run end) run (length left + run) (set keys (length left + run) key)
-IsPlayedAround-run n starts left keys run end key t h own =
-    let less : List ℕ = set left run end in
-    let leaf : ℕ = length left + run in
-    let len : length less ≡ length left = length-set left run end in
+pub IsPlayedAround-run : (n : NetworkModel) → (starts remaining keys : List ℕ) (run end key : ℕ) → IsTournament n starts remaining keys → run < length remaining
+    → key ≡ key_of n starts (set remaining run end) run → IsPlayedAround n starts (set remaining run end) run (length remaining + run) (set keys (length remaining + run) key)
+IsPlayedAround-run n starts remaining keys run end key t h own =
+    let less : List ℕ = set remaining run end in
+    let leaf : ℕ = length remaining + run in
+    let len : length less ≡ length remaining = length-set remaining run end in
     let at_run : IsWinner n starts less leaf key = rw own (subst (λ m. IsWinner n starts less (m + run) (key_of n starts less run)) len (IsWinner-leaf n starts less run (omega (arith, len)))) in
     let others : (k : ℕ) → 0 < k → k < 2 * length less → (IsOver k (length less + run) → leaf ≤ k) → (k ≡ leaf → ⊥) → IsWinner n starts less k (get_or keys k 0) = λ k some few outside apart.
-    IsWinner-apart n starts left run end k (get_or keys k 0)
+    IsWinner-apart n starts remaining run end k (get_or keys k 0)
     (λ over. apart (omega (arith, above_le over.0 leaf, over.1, outside (subst (λ m. IsOver k (m + run)) (sym len) over))))
     (t.each k some (omega (arith, few, len))) in
     record {
@@ -172,54 +172,54 @@ IsPlayedAround-run n starts left keys run end key t h own =
           (cases_eq k leaf);
     }
 
-module _ (n : NetworkModel) (starts left : List ℕ) (run node : ℕ) (keys : List ℕ) (p : IsPlayedAround n starts left run node keys) where
+module _ (n : NetworkModel) (starts remaining : List ℕ) (run node : ℕ) (keys : List ℕ) (p : IsPlayedAround n starts remaining run node keys) where
   -- both children of the node above this one have their keys
-  pub IsPlayedAround-child : (child : ℕ) → child / 2 ≡ node / 2 → 1 < node → child < 2 * length left → IsWinner n starts left child (get_or keys child 0)
+  pub IsPlayedAround-child : (child : ℕ) → child / 2 ≡ node / 2 → 1 < node → child < 2 * length remaining → IsWinner n starts remaining child (get_or keys child 0)
   IsPlayedAround-child child e more few =
-      p.each child (omega arith) few (λ over. ⊎_elim (λ less. absurd (omega (arith, IsOver-both child node (length left + run) over p.over less))) (λ ge. ge) (cases_lt child node))
+      p.each child (omega arith) few (λ over. ⊎_elim (λ less. absurd (omega (arith, IsOver-both child node (length remaining + run) over p.over less))) (λ ge. ge) (cases_lt child node))
 
-  pub IsPlayedAround-more : (key : ℕ) → 1 < node → IsWinner n starts left (node / 2) key → IsPlayedAround n starts left run (node / 2) (set keys (node / 2) key)
+  pub IsPlayedAround-more : (key : ℕ) → 1 < node → IsWinner n starts remaining (node / 2) key → IsPlayedAround n starts remaining run (node / 2) (set keys (node / 2) key)
   IsPlayedAround-more key more won = record {
     size = omega (arith, length-set keys (node / 2) key, p.size);
     some = omega arith;
     few = omega (arith, p.few);
-    over = IsOver-child (node / 2) node (length left + run) refl p.over;
+    over = IsOver-child (node / 2) node (length remaining + run) refl p.over;
     each = λ k some few outside. ⊎_elim (λ (same : k ≡ node / 2). rw (same, get_or-set_same keys (node / 2) key 0 (omega (arith, p.size, p.few))) won)
         (λ other. rw (get_or-set_other keys (node / 2) k key 0 other)
         (p.each k some few (λ over. ⊎_elim (λ less. absurd
-        (omega (arith, outside over, other, IsOver-both k node (length left + run) over p.over less))) (λ ge. ge) (cases_lt k node)))) (cases_eq k (node / 2));
+        (omega (arith, outside over, other, IsOver-both k node (length remaining + run) over p.over less))) (λ ge. ge) (cases_lt k node)))) (cases_eq k (node / 2));
   }
 
-  pub IsTournament-played : node ≤ 1 → IsTournament n starts left keys
+  pub IsTournament-played : node ≤ 1 → IsTournament n starts remaining keys
   IsTournament-played final = grind (arith, common_steps, nat_tests)
 
 -- the run that wins, by the key of the final
-pub record HasWon (n : NetworkModel) (starts left : List ℕ) (key : ℕ) : Type 0 where
+pub record HasWon (n : NetworkModel) (starts remaining : List ℕ) (key : ℕ) : Type 0 where
   pub run : ℕ
-  pub within : run < length left
-  pub some : get_or starts run 0 < get_or left run 0
-  pub last : key - 1 ≡ rank n (get_or left run 0 - 1)
-  pub own : run_of n (get_or left run 0 - 1) ≡ run
-  pub there : get_or left run 0 - 1 < count n
-  pub id : (key - 1) % most_connections ≡ get_or left run 0 - 1
+  pub within : run < length remaining
+  pub some : get_or starts run 0 < get_or remaining run 0
+  pub last : key - 1 ≡ rank n (get_or remaining run 0 - 1)
+  pub own : run_of n (get_or remaining run 0 - 1) ≡ run
+  pub there : get_or remaining run 0 - 1 < count n
+  pub id : (key - 1) % most_connections ≡ get_or remaining run 0 - 1
 
-module _ (n : NetworkModel) (starts left keys : List ℕ) (m : IsMerge n starts left keys) (key : ℕ) (final : key ≡ get_or keys 1 0) where
+module _ (n : NetworkModel) (starts remaining keys : List ℕ) (m : IsMerge n starts remaining keys) (key : ℕ) (final : key ≡ get_or keys 1 0) where
   -- where the final has no key nothing is left at all
-  pub rest_of-exhausted : key ≡ 0 → rest_of n left ≡ []
+  pub rest_of-exhausted : key ≡ 0 → rest_of n remaining ≡ []
   rest_of-exhausted none =
-      rest_of-none n starts left m.stretches (λ r h. ⊎_elim
-      (λ less. absurd (omega (arith, best_of_all n starts left keys m.tournament r h, final, key_of-some n starts left r less))) (λ ge. ge)
-      (cases_lt (get_or starts r 0) (get_or left r 0)))
+      rest_of-none n starts remaining m.stretches (λ r h. ⊎_elim
+      (λ less. absurd (omega (arith, best_of_all n starts remaining keys m.tournament r h, final, key_of-some n starts remaining r less))) (λ ge. ge)
+      (cases_lt (get_or starts r 0) (get_or remaining r 0)))
 
-  pub won : 0 < length left → 0 < key → HasWon n starts left key
+  pub won : 0 < length remaining → 0 < key → HasWon n starts remaining key
   won any more =
       let w = m.tournament.each 1 (omega arith) (omega (arith, any)) in
       let run : ℕ = w.run in
-      let some : get_or starts run 0 < get_or left run 0 =
-      ⊎_elim (λ less. less) (λ ge. absurd (omega (arith, final, w.own, key_of-none n starts left run ge))) (cases_lt (get_or starts run 0) (get_or left run 0)) in
-      let last : key - 1 ≡ rank n (get_or left run 0 - 1) = omega (arith, final, w.own, key_of-some n starts left run some) in
-      let own = run_between n starts m.stretches.begin run (get_or left run 0 - 1) (omega (arith, w.within, m.stretches.size)) (omega arith) (omega (arith, (m.stretches.within run w.within).1)) in
-      let few = within_count n starts left m.stretches run w.within in
+      let some : get_or starts run 0 < get_or remaining run 0 =
+      ⊎_elim (λ less. less) (λ ge. absurd (omega (arith, final, w.own, key_of-none n starts remaining run ge))) (cases_lt (get_or starts run 0) (get_or remaining run 0)) in
+      let last : key - 1 ≡ rank n (get_or remaining run 0 - 1) = omega (arith, final, w.own, key_of-some n starts remaining run some) in
+      let own = run_between n starts m.stretches.begin run (get_or remaining run 0 - 1) (omega (arith, w.within, m.stretches.size)) (omega arith) (omega (arith, (m.stretches.within run w.within).1)) in
+      let few = within_count n starts remaining m.stretches run w.within in
       record {
         run = run;
         within = w.within;
@@ -231,7 +231,7 @@ module _ (n : NetworkModel) (starts left keys : List ℕ) (m : IsMerge n starts 
       }
 
   -- the last connection that is left of the run that won is the last one of all
-  pub rest_of-given : (h : HasWon n starts left key) → rest_of n left ≡ rest_of n (set left h.run (get_or left h.run 0 - 1)) ++ record { 0 = get_or left h.run 0 - 1 } ∷ []
+  pub rest_of-given : (h : HasWon n starts remaining key) → rest_of n remaining ≡ rest_of n (set remaining h.run (get_or remaining h.run 0 - 1)) ++ record { 0 = get_or remaining h.run 0 - 1 } ∷ []
   rest_of-given h =
-      rest_of-last n m.stretches.begin.valid starts left m.stretches h.run h.within h.some
-      (λ r k. omega (arith, best_of_all n starts left keys m.tournament r k, final, h.last, h.some, key_of-some n starts left h.run h.some))
+      rest_of-last n m.stretches.begin.valid starts remaining m.stretches h.run h.within h.some
+      (λ r k. omega (arith, best_of_all n starts remaining keys m.tournament r k, final, h.last, h.some, key_of-some n starts remaining h.run h.some))

@@ -21,7 +21,7 @@ in_order network (suc m) = with_connection network m (in_order network m)
 
 -- in the scan order, the connections that come before the end that remains of their run
 unfoldable pub rest_of : NetworkModel → List ℕ → List ConnectionId
-rest_of network left = filter (λ id. nat_lt id.0 (slice_index left (run_of network id.0))) (in_order network (count network))
+rest_of network remaining = filter (λ id. nat_lt id.0 (slice_index remaining (run_of network id.0))) (in_order network (count network))
 
 -- s connections are of the runs before r, and they come first
 pub record IsStart (network : NetworkModel) (r s : ℕ) : Type 0 where
@@ -38,14 +38,14 @@ pub record AreStarts (network : NetworkModel) (starts : List ℕ) : Type 0 where
   pub whole : slice_index starts (length starts - 1) ≡ count network
 
 -- where each run starts, and up to where its connections are left
-pub record AreStretches (network : NetworkModel) (starts left : List ℕ) : Type 0 where
+pub record AreStretches (network : NetworkModel) (starts remaining : List ℕ) : Type 0 where
   pub begin : AreStarts network starts
-  pub size : length starts ≡ length left + 1
-  pub within : (r : ℕ) → r < length left → (slice_index starts r ≤ slice_index left r) × (slice_index left r ≤ slice_index starts (r + 1))
+  pub size : length starts ≡ length remaining + 1
+  pub within : (r : ℕ) → r < length remaining → (slice_index starts r ≤ slice_index remaining r) × (slice_index remaining r ≤ slice_index starts (r + 1))
 
 -- one above the rank of the last connection that is left of a run, and 0 where none is left
 unfoldable pub key_of : NetworkModel → List ℕ → List ℕ → ℕ → ℕ
-key_of network starts left r = if nat_lt (slice_index starts r) (slice_index left r) then rank network (slice_index left r - 1) + 1 else 0
+key_of network starts remaining r = if nat_lt (slice_index starts r) (slice_index remaining r) then rank network (slice_index remaining r - 1) + 1 else 0
 
 -- the node this many rounds above a node
 abbrev pub above : ℕ → ℕ → ℕ
@@ -57,22 +57,22 @@ abbrev pub IsOver : ℕ → ℕ → Type 0
 IsOver k leaf = (rounds : ℕ) × (above rounds leaf ≡ k)
 
 -- the greatest key below node k is that of a run below it
-pub record IsWinner (network : NetworkModel) (starts left : List ℕ) (k key : ℕ) : Type 0 where
+pub record IsWinner (network : NetworkModel) (starts remaining : List ℕ) (k key : ℕ) : Type 0 where
   pub run : ℕ
-  pub within : run < length left
-  pub below : IsOver k (length left + run)
-  pub own : key ≡ key_of network starts left run
-  pub best : (r : ℕ) → r < length left → IsOver k (length left + r) → key_of network starts left r ≤ key
+  pub within : run < length remaining
+  pub below : IsOver k (length remaining + run)
+  pub own : key ≡ key_of network starts remaining run
+  pub best : (r : ℕ) → r < length remaining → IsOver k (length remaining + r) → key_of network starts remaining r ≤ key
 
 -- each node has the greatest key below it
-pub record IsTournament (network : NetworkModel) (starts left keys : List ℕ) : Type 0 where
-  pub size : length keys ≡ 2 * length left
-  pub each : (k : ℕ) → 0 < k → k < 2 * length left → IsWinner network starts left k (slice_index keys k)
+pub record IsTournament (network : NetworkModel) (starts remaining keys : List ℕ) : Type 0 where
+  pub size : length keys ≡ 2 * length remaining
+  pub each : (k : ℕ) → 0 < k → k < 2 * length remaining → IsWinner network starts remaining k (slice_index keys k)
 
 -- what is left of the runs, and the tournament over it
-pub record IsMerge (network : NetworkModel) (starts left keys : List ℕ) : Type 0 where
-  pub stretches : AreStretches network starts left
-  pub tournament : IsTournament network starts left keys
+pub record IsMerge (network : NetworkModel) (starts remaining keys : List ℕ) : Type 0 where
+  pub stretches : AreStretches network starts remaining
+  pub tournament : IsTournament network starts remaining keys
 
 -- departures do not fall between two positions
 abbrev pub DepartsInOrder : NetworkModel → ℕ → ℕ → Type 0

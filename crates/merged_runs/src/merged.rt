@@ -19,12 +19,12 @@ pub struct MergedRuns {
     /// The index at which the connections of each run begin, and after the last run their count.
     starts: Vec<u32>,
     /// The index up to which the connections of each run are not given yet.
-    left: Vec<u32>,
+    remaining: Vec<u32>,
     /// The greatest key below each node, and 0 if nothing remains there. A key rises with the departure of
     /// a connection, and at equal departures with its number. Node 1 is the final, node k is between the
     /// nodes 2 k and 2 k + 1, and from the count of runs on the nodes are the runs themselves.
     keys: Vec<u64>,
-    ghost size: { length keys.items ≡ 2 * length left.items },
+    ghost size: { length keys.items ≡ 2 * length remaining.items },
 }
 
 /// The index at which the connections of each run begin, and after the last run their count.
@@ -83,20 +83,24 @@ impl MergedRuns {
         ensures rest { IfOk result (λ order. IsScanOrder network.now (⟦<MergedRuns as BackwardOrder>⟧.rest order network.now)) }
     {
         let starts = starts_of(alloc, network)?;
-        let left = Vec::from_slice(alloc, &starts[1..])?;
-        let keys = unplayed(alloc, left.len() as u32)?;
-        let mut order = MergedRuns { starts, left, keys };
+        let remaining = Vec::from_slice(alloc, &starts[1..])?;
+        let keys = unplayed(alloc, remaining.len() as u32)?;
+        let mut order = MergedRuns {
+            starts,
+            remaining,
+            keys,
+        };
         order.play_all(network);
         Ok(order)
     }
 
     /// The key of the last connection of a run that was not given yet, and 0 if all were given.
     fn key(&self, network: &Network, run: usize) -> u64
-        requires stretches { AreStretches network.now self.now.starts.items self.now.left.items }
-        requires run { run < length self.now.left.items }
-        ensures { result ≡ key_of network.now self.now.starts.items self.now.left.items run }
+        requires stretches { AreStretches network.now self.now.starts.items self.now.remaining.items }
+        requires run { run < length self.now.remaining.items }
+        ensures { result ≡ key_of network.now self.now.starts.items self.now.remaining.items run }
     {
-        let end = self.left[run];
+        let end = self.remaining[run];
         if end == self.starts[run] {
             return 0;
         }
@@ -107,12 +111,12 @@ impl MergedRuns {
     /// The greatest key below a node, by those of the two nodes below it.
     fn winner(&self, network: &Network, node: usize) -> u64
         requires low { 0 < node }
-        requires high { node < length self.now.left.items }
-        requires first { IsWinner network.now self.now.starts.items self.now.left.items (2 * node)
+        requires high { node < length self.now.remaining.items }
+        requires first { IsWinner network.now self.now.starts.items self.now.remaining.items (2 * node)
             (slice_index self.now.keys.items (2 * node)) }
-        requires second { IsWinner network.now self.now.starts.items self.now.left.items (2 * node + 1)
+        requires second { IsWinner network.now self.now.starts.items self.now.remaining.items (2 * node + 1)
             (slice_index self.now.keys.items (2 * node + 1)) }
-        ensures { IsWinner network.now self.now.starts.items self.now.left.items node result }
+        ensures { IsWinner network.now self.now.starts.items self.now.remaining.items node result }
     {
         let _ = network;
         let first = self.keys[2 * node];
@@ -122,12 +126,12 @@ impl MergedRuns {
 
     /// Plays all nodes, the final at last.
     fn play_all(&mut self, network: &Network)
-        requires { AreStretches network.now self.old.starts.items self.old.left.items }
-        ensures tournament { IsTournament network.now self.new.starts.items self.new.left.items self.new.keys.items }
+        requires { AreStretches network.now self.old.starts.items self.old.remaining.items }
+        ensures tournament { IsTournament network.now self.new.starts.items self.new.remaining.items self.new.keys.items }
         ensures starts { self.new.starts.items ≡ self.old.starts.items }
-        ensures left { self.new.left.items ≡ self.old.left.items }
+        ensures remaining { self.new.remaining.items ≡ self.old.remaining.items }
     {
-        let runs = self.left.len();
+        let runs = self.remaining.len();
         for run in 0..runs {
             self.keys[runs + run] = self.key(network, run);
         }
@@ -138,15 +142,15 @@ impl MergedRuns {
 
     /// Gives the last connection of a run that was not given yet, and plays the nodes above it again.
     fn give(&mut self, network: &Network, run: usize)
-        requires merge { IsMerge network.now self.old.starts.items self.old.left.items self.old.keys.items }
-        requires run { run < length self.old.left.items }
-        requires some { slice_index self.old.starts.items run < slice_index self.old.left.items run }
-        ensures merge { IsMerge network.now self.new.starts.items self.new.left.items self.new.keys.items }
-        ensures left { self.new.left.items
-            ≡ slice_set self.old.left.items run (slice_index self.old.left.items run - 1) }
+        requires merge { IsMerge network.now self.old.starts.items self.old.remaining.items self.old.keys.items }
+        requires run { run < length self.old.remaining.items }
+        requires some { slice_index self.old.starts.items run < slice_index self.old.remaining.items run }
+        ensures merge { IsMerge network.now self.new.starts.items self.new.remaining.items self.new.keys.items }
+        ensures remaining { self.new.remaining.items
+            ≡ slice_set self.old.remaining.items run (slice_index self.old.remaining.items run - 1) }
     {
-        self.left[run] -= 1;
-        let mut node = self.left.len() + run;
+        self.remaining[run] -= 1;
+        let mut node = self.remaining.len() + run;
         self.keys[node] = self.key(network, run);
         while node > 1 {
             node /= 2;
@@ -158,17 +162,17 @@ impl MergedRuns {
 impl BackwardOrder for MergedRuns {
     ghost use Rattle.merged_runs.specs.Merged.{IsMerge, rest_of};
 
-    ghost fits = { λ order n. IsMerge n order.starts.items order.left.items order.keys.items };
+    ghost fits = { λ order n. IsMerge n order.starts.items order.remaining.items order.keys.items };
 
-    ghost rest = { λ order n. rest_of n order.left.items };
+    ghost rest = { λ order n. rest_of n order.remaining.items };
 
     fn rewind(&mut self, network: &Network) {
-        self.left.copy_from_slice(&self.starts[1..]);
+        self.remaining.copy_from_slice(&self.starts[1..]);
         self.play_all(network);
     }
 
     fn next(&mut self, network: &Network) -> Option<ConnectionId> {
-        if self.left.is_empty() {
+        if self.remaining.is_empty() {
             return None;
         }
         let key = self.keys[1];
@@ -182,9 +186,9 @@ impl BackwardOrder for MergedRuns {
     }
 
     fn skip_after(&mut self, network: &Network, last: Moment) {
-        for run in 0..self.left.len() {
-            let end = end_by(network, self.starts[run], self.left[run], last);
-            self.left[run] = end;
+        for run in 0..self.remaining.len() {
+            let end = end_by(network, self.starts[run], self.remaining[run], last);
+            self.remaining[run] = end;
         }
         self.play_all(network);
     }

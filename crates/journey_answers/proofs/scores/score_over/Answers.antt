@@ -1,13 +1,13 @@
 use Rattle.std.proofs.Common.{subst}
 use Rattle.plan_graph.specs.Unfold.{unfold_plan}
 use Rattle.graph_score.specs.Scores.{IsScoreOf}
-use Rattle.journey_answers.proofs.Unsafe.{unsafe_tellable}
+use Rattle.journey_answers.proofs.Unsafe.{unsafe_has_site}
 use Rattle.journey_answers.proofs.scores.score_over.Goals as goal
 
-pub returns-in-Failing-clause-tellable : goal.returns-in-Failing-clause-tellable
-returns-in-Failing-clause-tellable c =
+pub returns-in-Failing-clause-has_site : goal.returns-in-Failing-clause-has_site
+returns-in-Failing-clause-has_site c =
     let p = c.args.read.problem.now in
     let head = c.args.read.head in
-    unsafe_tellable p head.query c.args.read.graph c.requires c.args.read.source_in c.args.read.target_in c.args.read.start c.in-Failing.failure.place.0
+    unsafe_has_site p head.query c.args.read.graph c.requires c.args.read.source_in c.args.read.target_in c.args.read.start c.in-Failing.failure.place.0
     c.in-Failing.failure.moment.0
     (subst (IsScoreOf p.timetable.network head.query (unfold_plan c.args.read.graph p.timetable.network head.query)) c.in-Failing.is c.in_ok-bounds.ensures)

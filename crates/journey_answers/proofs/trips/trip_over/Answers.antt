@@ -3,12 +3,12 @@ use Rattle.trip_replay.specs.Walk.{IsAnswer}
 use Rattle.journey_model.specs.declared.faults.Fault.{Fault}
 use Rattle.journey_model.specs.declared.faults.Fault.TheVariants.{NoMemory}
 use Rattle.journey_model.specs.Faults.{unread_input}
-use Rattle.journey_model.specs.Sites.{last_printable, IsTellable}
+use Rattle.journey_model.specs.Sites.{last_printable, HasSite}
 use Rattle.journey_model.specs.Known.{parts_of}
 use Rattle.command_line.specs.Jobs.{late_in}
 use Rattle.journey_answers.specs.Trips.{replay_as, trip_by, IsTripFault}
 use Rattle.journey_report.proofs.TextLemmas.{arrivals}
-use Rattle.journey_answers.proofs.TripFaults.{stuck_tellable, trip_fault, replay_unread}
+use Rattle.journey_answers.proofs.TripFaults.{stuck_has_site, trip_fault, replay_unread}
 use Rattle.journey_answers.proofs.trips.trip_over.Goals as goal
 
 pub returns-in-Err : goal.returns-in-Err
@@ -22,8 +22,8 @@ returns-in-Err c =
     record {
       answer = tt;
       fault = subst (λ (f : Fault). f ≢ NoMemory → IsTripFault p late f c.args.read.head c.args.read.graph) named (trip_fault p c.args.read.head c.args.read.graph late fault is c.in-Err.ensures.safe);
-      tellable = subst (IsTellable (Some (parts_of p))) named
-          (stuck_tellable p c.args.read.head.query c.args.read.source_in c.args.read.start fault c.in-Err.ensures.stuck);
+      has_site = subst (HasSite (Some (parts_of p))) named
+          (stuck_has_site p c.args.read.head.query c.args.read.source_in c.args.read.start fault c.in-Err.ensures.stuck);
       read = subst (λ (f : Fault). unread_input f ≡ None) named (replay_unread fault);
     }
 

@@ -32,7 +32,7 @@ returns-in-Err-ask_over-clause-fault g c =
     let same = (c.in-Ok.ensures.causes (own_paths ask)).same in
     let P : Option FileMap → Type 0 = λ reported. FailsAsk reported c.args.limits.now c.args.journey.now.start.0 c.in-Ok.problem ask c.in-Err-ask_over.fault in
     record {
-      tellable = c.in-Err-ask_over.ensures.tellable;
+      has_site = c.in-Err-ask_over.ensures.has_site;
       holds = λ other. inl (c.in-Ok.problem, c.in-Ok.ensures.sound, c.in-Ok.ensures.problem, (refl, subst P same (c.in-Err-ask_over.ensures.fault other)));
     }
 

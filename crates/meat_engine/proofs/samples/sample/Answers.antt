@@ -4,7 +4,7 @@ use Rattle.journey_model.specs.Faults.{unread_input}
 use Rattle.journey_model.specs.Known.{parts_of}
 use Rattle.journey_answers.specs.Answers.{IsNoSafe}
 use Rattle.meat_engine.specs.Samples.{sample_journey, FailsSample}
-use Rattle.meat_engine.proofs.Asking.{early_tellable, unsafe_reported, plain_refusal}
+use Rattle.meat_engine.proofs.Asking.{early_has_site, unsafe_reported, plain_refusal}
 use Rattle.meat_engine.proofs.samples.sample.Goals as goal
 
 pub returns-in-Err-clause-fault : goal.returns-in-Err-clause-fault
@@ -12,7 +12,7 @@ returns-in-Err-clause-fault c =
     let fault = c.in-Err.fault in
     let early = c.in-Err.ensures.early in
     plain_refusal (FailsSample c.args.limits.now c.args.size.value) c.plain.result fault c.plain.ensures.fault c.plain.ensures.problem
-    (early_tellable None sample_journey.timetable fault early)
+    (early_has_site None sample_journey.timetable fault early)
     (λ other. let over = c.in-Err.ensures.fault other in (c.in-Err.ensures.read, (over.0, over.1, inr (early, over.2))))
 
 pub returns-in-Err-clause-read : goal.returns-in-Err-clause-read
@@ -25,6 +25,6 @@ returns-in-Err-sample_in-clause-fault c =
     let fault = c.in-Err-sample_in.fault in
     let why = unsafe_reported (IsNoSafe p sample_journey.start) (λ fault why. why.0) (Some (parts_of p)) fault c.in-Err-sample_in.ensures.fault in
     record {
-      tellable = why.tellable;
+      has_site = why.has_site;
       holds = λ other. (why.unread, (over.0, over.1, inl (p, over.2.0, over.2.1, (refl, why.why other))));
     }

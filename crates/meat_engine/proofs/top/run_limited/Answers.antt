@@ -4,7 +4,7 @@ use Rattle.command_line.specs.Shown.{wanted_job}
 use Rattle.journey_model.specs.declared.faults.Input.{Input}
 use Rattle.journey_model.specs.declared.faults.Fault.{Fault}
 use Rattle.journey_model.specs.declared.faults.Fault.TheVariants.{Words, Read, Write, NoMemory}
-use Rattle.journey_model.specs.Sites.{IsTellable}
+use Rattle.journey_model.specs.Sites.{HasSite}
 use Rattle.journey_report.specs.Findings.{findings_of}
 use Rattle.meat_engine.specs.Received.{FailsJob}
 use Rattle.meat_engine.specs.Refusals.{known_of}
@@ -13,10 +13,10 @@ use Rattle.meat_engine.proofs.Runs.{refused_run, answered_run, path_of_job}
 use Rattle.meat_engine.proofs.top.run_limited.Goals as goal
 
 pub refuse-requires : goal.refuse-requires
-refuse-requires g c = subst (λ (f : Fault). IsTellable (known_of c.plain.result) f) (sym c.plain.ensures.fault) tt
+refuse-requires g c = subst (λ (f : Fault). HasSite (known_of c.plain.result) f) (sym c.plain.ensures.fault) tt
 
 pub refuse-requires-in-Err-answer_of : goal.refuse-requires-in-Err-answer_of
-refuse-requires-in-Err-answer_of g c = c.in-Err-answer_of.ensures.fault.tellable
+refuse-requires-in-Err-answer_of g c = c.in-Err-answer_of.ensures.fault.has_site
 
 pub returns-in-Err : goal.returns-in-Err
 returns-in-Err g c =

@@ -7,15 +7,15 @@ pub returns-clause-reads : goal.returns-clause-reads
 returns-clause-reads c =
     let h = holds c.args.self.now.held.items c.args.self.now.hand c.in-Some.index c.index-file.result.now c.in-Some.is c.requires.in_hand c.index-file.ensures in
     let same_len : c.len.result ≡ length c.deref.result.now = c.len.ensures ∙ sym c.deref.ensures.len in
-    let old = hand_left vec_items _ c.args.self.now.place _ _ c.index-file.result.now h in
+    let old = hand_left vec_items _ c.args.self.now.offset _ _ c.index-file.result.now h in
     let new = hand_left vec_items _ (c.min-from.result + c.copy_front-count.result) _ _ c.index-file.result.now h in
     record {
       in_hand = search rules;
       bound = search rules;
       bytes = (
         consumes_known _ _ _ _ _ old new (moved c.index-file.result.now.value.items c.deref.result.now c.copy_front-count.new.buffer
-            c.args.self.now.place c.min-from.result _ _ c.deref.ensures.value c.min-from.ensures same_len c.copy_front-count.ensures.front),
-        λ z r. end_known _ _ new (at_end c.index-file.result.now.value.items c.deref.result.now c.args.self.now.place c.min-from.result _ _
+            c.args.self.now.offset c.min-from.result _ _ c.deref.ensures.value c.min-from.ensures same_len c.copy_front-count.ensures.front),
+        λ z r. end_known _ _ new (at_end c.index-file.result.now.value.items c.deref.result.now c.args.self.now.offset c.min-from.result _ _
             c.args.self.now.piece _ c.deref.ensures.value c.min-from.ensures same_len c.copy_front-count.ensures.count c.args.self.now.some c.requires.room z),
       );
       cause = search rules;
@@ -24,6 +24,6 @@ returns-clause-reads c =
 pub returns-clause-count : goal.returns-clause-count
 returns-clause-count c =
     let h = holds c.args.self.now.held.items c.args.self.now.hand c.in-Some.index c.index-file.result.now c.in-Some.is c.requires.in_hand c.index-file.ensures in
-    if_some_at (left_of c.args.self.now) (drop c.args.self.now.place c.index-file.result.now.value.items) _ (hand_left vec_items _ c.args.self.now.place _ _ c.index-file.result.now h)
-    (read_count c.index-file.result.now.value.items c.deref.result.now c.args.self.now.place c.min-from.result _ _ _ _ c.deref.ensures.value
+    if_some_at (left_of c.args.self.now) (drop c.args.self.now.offset c.index-file.result.now.value.items) _ (hand_left vec_items _ c.args.self.now.offset _ _ c.index-file.result.now h)
+    (read_count c.index-file.result.now.value.items c.deref.result.now c.args.self.now.offset c.min-from.result _ _ _ _ c.deref.ensures.value
     c.min-from.ensures (c.len.ensures ∙ sym c.deref.ensures.len) c.copy_front-count.ensures.count)

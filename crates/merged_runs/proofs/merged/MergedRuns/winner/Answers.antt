@@ -5,12 +5,12 @@ use Rattle.merged_runs.proofs.TournamentLemmas.{IsWinner-first, IsWinner-second}
 use Rattle.merged_runs.proofs.merged.MergedRuns.winner.Goals as goal
 use Rattle.merged_runs.proofs.merged.MergedRuns.winner.Goals.{After-index-second}
 
-first : (c : After-index-second) → IsWinner c.args.network.now c.args.self.now.starts.items c.args.self.now.left.items (2 * c.args.node) c.index-first.result.now
+first : (c : After-index-second) → IsWinner c.args.network.now c.args.self.now.starts.items c.args.self.now.remaining.items (2 * c.args.node) c.index-first.result.now
 first c =
     let s = c.args.self.now in
     rw (get_or_read s.keys.items (2 * c.args.node) c.index-first.result.now (omega (arith, c.args.self.now.size, c.requires.high)) c.index-first.ensures 0) c.requires.first
 
-second : (c : After-index-second) → IsWinner c.args.network.now c.args.self.now.starts.items c.args.self.now.left.items (2 * c.args.node + 1) c.index-second.result.now
+second : (c : After-index-second) → IsWinner c.args.network.now c.args.self.now.starts.items c.args.self.now.remaining.items (2 * c.args.node + 1) c.index-second.result.now
 second c =
     let s = c.args.self.now in
     rw (get_or_read s.keys.items (2 * c.args.node + 1) c.index-second.result.now (omega (arith, c.args.self.now.size, c.requires.high)) c.index-second.ensures 0) c.requires.second

@@ -13,11 +13,11 @@ use Rattle.merged_runs.proofs.merged.MergedRunsBackwardOrder.next.Goals.{After-i
 pub returns-then-is_empty-clause-none : goal.returns-then-is_empty-clause-none
 returns-then-is_empty-clause-none c =
     let s = c.args.self.now in
-    let none : length s.left.items ≡ 0 = omega (arith, s.left.ok.0, eqb-true _ 0 (sym c.if-is_empty.ensures)) in
-    (λ _. rest_of-none c.args.network.now s.starts.items s.left.items c.requires.stretches (λ r h. absurd (omega arith)), λ _. refl)
+    let none : length s.remaining.items ≡ 0 = omega (arith, s.remaining.ok.0, eqb-true _ 0 (sym c.if-is_empty.ensures)) in
+    (λ _. rest_of-none c.args.network.now s.starts.items s.remaining.items c.requires.stretches (λ r h. absurd (omega arith)), λ _. refl)
 
-some_runs : (c : After-index-key) → 0 < length c.args.self.now.left.items
-some_runs c = omega (arith, c.args.self.now.left.ok.0, eqb-false _ 0 (sym c.if-is_empty.ensures))
+some_runs : (c : After-index-key) → 0 < length c.args.self.now.remaining.items
+some_runs c = omega (arith, c.args.self.now.remaining.ok.0, eqb-false _ 0 (sym c.if-is_empty.ensures))
 
 final : (c : After-index-key) → c.index-key.result.now ≡ get_or c.args.self.now.keys.items 1 0
 final c =
@@ -28,13 +28,13 @@ pub returns-then-key-eq0-clause-none : goal.returns-then-key-eq0-clause-none
 returns-then-key-eq0-clause-none c =
     let s = c.args.self.now in
     let at = (goal.at.returns-then-key-eq0-clause-none c).After-index-key in
-    (λ _. rest_of-exhausted c.args.network.now s.starts.items s.left.items s.keys.items c.requires c.index-key.result.now (final at) c.if-key-eq0.true, λ _. refl)
+    (λ _. rest_of-exhausted c.args.network.now s.starts.items s.remaining.items s.keys.items c.requires c.index-key.result.now (final at) c.if-key-eq0.true, λ _. refl)
 
 -- the run that won
-has_won : (c : After-index-key) → (c.index-key.result.now ≡ 0 → ⊥) → HasWon c.args.network.now c.args.self.now.starts.items c.args.self.now.left.items c.index-key.result.now
+has_won : (c : After-index-key) → (c.index-key.result.now ≡ 0 → ⊥) → HasWon c.args.network.now c.args.self.now.starts.items c.args.self.now.remaining.items c.index-key.result.now
 has_won c some =
     let s = c.args.self.now in
-    won c.args.network.now s.starts.items s.left.items s.keys.items c.requires c.index-key.result.now (final c) (some_runs c) (omega (arith, some))
+    won c.args.network.now s.starts.items s.remaining.items s.keys.items c.requires c.index-key.result.now (final c) (some_runs c) (omega (arith, some))
 
 pub get-run-requires : goal.get-run-requires
 get-run-requires c =
@@ -42,7 +42,7 @@ get-run-requires c =
     omega (arith, w.id, w.there)
 
 -- its number is that of the connection
-run_is : (c : After-get-run) → (w : HasWon c.args.network.now c.args.self.now.starts.items c.args.self.now.left.items c.index-key.result.now) → c.get-run.result.run.0 ≡ w.run
+run_is : (c : After-get-run) → (w : HasWon c.args.network.now c.args.self.now.starts.items c.args.self.now.remaining.items c.index-key.result.now) → c.get-run.result.run.0 ≡ w.run
 run_is c w = ap (λ (x : Connection). x.run.0) c.get-run.ensures.connection ∙ ap (λ (i : ℕ). (connection c.args.network.now i).run.0) w.id ∙ w.own
 
 pub give-requires-clause-run : goal.give-requires-clause-run
@@ -59,28 +59,28 @@ give-requires-clause-some c =
 
 -- what one step leaves
 step : (c : After-get-run) (after : List ℕ) → c.index-key.result.now ≡ get_or c.args.self.now.keys.items 1 0
-    → HasWon c.args.network.now c.args.self.now.starts.items c.args.self.now.left.items c.index-key.result.now
-    → after ≡ set c.args.self.now.left.items c.get-run.result.run.0 (get_or c.args.self.now.left.items c.get-run.result.run.0 0 - 1)
-    → rest_of c.args.network.now c.args.self.now.left.items ≡ rest_of c.args.network.now after ++ record { 0 = (c.index-key.result.now - 1) % most_connections } ∷ []
+    → HasWon c.args.network.now c.args.self.now.starts.items c.args.self.now.remaining.items c.index-key.result.now
+    → after ≡ set c.args.self.now.remaining.items c.get-run.result.run.0 (get_or c.args.self.now.remaining.items c.get-run.result.run.0 0 - 1)
+    → rest_of c.args.network.now c.args.self.now.remaining.items ≡ rest_of c.args.network.now after ++ record { 0 = (c.index-key.result.now - 1) % most_connections } ∷ []
 step c after greatest w all =
     let s = c.args.self.now in
-    rw (all, run_is c w, w.id) (rest_of-given c.args.network.now s.starts.items s.left.items s.keys.items c.requires c.index-key.result.now greatest w)
+    rw (all, run_is c w, w.id) (rest_of-given c.args.network.now s.starts.items s.remaining.items s.keys.items c.requires c.index-key.result.now greatest w)
 
 pub returns-clause-none : goal.returns-clause-none
 returns-clause-none c =
     let at = goal.at.returns-clause-none c in
-    let left = step at.After-get-run c.give.new.self.left.items (final at.After-index-key) (has_won at.After-index-key c.if-key-eq0.false) c.give.ensures.left in (
+    let remaining = step at.After-get-run c.give.new.self.remaining.items (final at.After-index-key) (has_won at.After-index-key c.if-key-eq0.false) c.give.ensures.remaining in (
       λ e. absurd (cc),
       λ none. absurd (omega (
         arith,
         ap length none,
-        ap length left,
+        ap length remaining,
         length_push
-            (rest_of c.args.network.now c.give.new.self.left.items) (record { 0 = (c.index-key.result.now - 1) % most_connections }),
+            (rest_of c.args.network.now c.give.new.self.remaining.items) (record { 0 = (c.index-key.result.now - 1) % most_connections }),
       )),
     )
 
 pub returns-clause-last : goal.returns-clause-last
 returns-clause-last c =
     let at = goal.at.returns-clause-last c in
-    step at.After-get-run c.give.new.self.left.items (final at.After-index-key) (has_won at.After-index-key c.if-key-eq0.false) c.give.ensures.left
+    step at.After-get-run c.give.new.self.remaining.items (final at.After-index-key) (has_won at.After-index-key c.if-key-eq0.false) c.give.ensures.remaining

@@ -11,4 +11,4 @@ pub returns-clause-rest : goal.returns-clause-rest
 returns-clause-rest c =
     let w = whole (goal.at.returns-clause-rest c).After-copy_from_slice in
     let s = AreStretches-whole c.args.network.now c.args.self.now.starts.items c.copy_from_slice.new.self.items c.requires.stretches.begin w in
-    rw c.play_all.ensures.left (rest_of-all c.args.network.now s.begin.valid c.args.self.now.starts.items c.copy_from_slice.new.self.items s w.each)
+    rw c.play_all.ensures.remaining (rest_of-all c.args.network.now s.begin.valid c.args.self.now.starts.items c.copy_from_slice.new.self.items s w.each)

@@ -8,19 +8,19 @@ end_by-end-requires-clause-rising c =
     let s = c.args.self.now in
     let inv = c.loop-run.invariant in
     let run = c.loop-run.run in
-    let within : run < length s.left.items = omega (arith, c.len-run-end.ensures, s.left.ok.0, c.loop-run-test.true) in
+    let within : run < length s.remaining.items = omega (arith, c.len-run-end.ensures, s.remaining.ok.0, c.loop-run-test.true) in
     let from : c.index.result.now ≡ get_or s.starts.items run 0 =
     get_or_read c.loop-run.self.starts.items run c.index.result.now
     (omega (arith, within, c.requires.stretches.size, ap length inv.starts)) c.index.ensures 0 ∙ ap (λ xs. get_or xs run 0) inv.starts in
-    let to : c.index-in-loop-run.result.now ≡ get_or s.left.items run 0 =
-    get_or_read c.loop-run.self.left.items run c.index-in-loop-run.result.now
+    let to : c.index-in-loop-run.result.now ≡ get_or s.remaining.items run 0 =
+    get_or_read c.loop-run.self.remaining.items run c.index-in-loop-run.result.now
     (omega (arith, within, inv.lowered.size)) c.index-in-loop-run.ensures 0 ∙ inv.lowered.same run (omega arith) in
-    rw (from, to) (DepartsInOrder-run c.args.network.now c.requires.stretches.begin.valid s.starts.items s.left.items c.requires.stretches run within)
+    rw (from, to) (DepartsInOrder-run c.args.network.now c.requires.stretches.begin.valid s.starts.items s.remaining.items c.requires.stretches run within)
 
 pub returns-clause-up_to : goal.returns-clause-up_to
 returns-clause-up_to c =
     let s = c.args.self.now in
-    let all : length s.left.items ≤ c.loop-run.run = omega (arith, c.len-run-end.ensures, s.left.ok.0, c.loop-run-test.false) in
-    rw c.play_all.ensures.left
-    (rest_of-lowered c.args.network.now c.args.last.0 s.starts.items s.left.items c.loop-run.self.left.items c.loop-run.run c.requires.stretches
+    let all : length s.remaining.items ≤ c.loop-run.run = omega (arith, c.len-run-end.ensures, s.remaining.ok.0, c.loop-run-test.false) in
+    rw c.play_all.ensures.remaining
+    (rest_of-lowered c.args.network.now c.args.last.0 s.starts.items s.remaining.items c.loop-run.self.remaining.items c.loop-run.run c.requires.stretches
     all c.loop-run.invariant.lowered c.requires.stretches.begin.valid)

@@ -28,7 +28,7 @@ pub loop-low-preserved-then-dep-last : goal.loop-low-preserved-then-dep-last
 loop-low-preserved-then-dep-last c =
     let at = (goal.at.loop-low-preserved-then-dep-last c).After-index in
     let dep = ap (λ (x : Connection). x.dep.0) c.get.ensures.connection in
-    IsHalved-up c.args.network.now c.args.self.now.ids.items c.args.last.0 c.args.self.now.left c.loop-low.low c.loop-low.high c.requires.0
+    IsHalved-up c.args.network.now c.args.self.now.ids.items c.args.last.0 c.args.self.now.remaining c.loop-low.low c.loop-low.high c.requires.0
     c.loop-low.invariant (middle_of at) (omega arith) (omega (arith, c.loop-low-test.true)) c.requires.1
     (λ d. omega (arith, dep_is at c.get.result.dep.0 dep d, c.if-dep-last.true))
 
@@ -36,7 +36,7 @@ pub loop-low-preserved : goal.loop-low-preserved
 loop-low-preserved c =
     let at = (goal.at.loop-low-preserved c).After-index in
     let dep = ap (λ (x : Connection). x.dep.0) c.get.ensures.connection in
-    IsHalved-down c.args.network.now c.args.self.now.ids.items c.args.last.0 c.args.self.now.left c.loop-low.low c.loop-low.high c.requires.0
+    IsHalved-down c.args.network.now c.args.self.now.ids.items c.args.last.0 c.args.self.now.remaining c.loop-low.low c.loop-low.high c.requires.0
     c.loop-low.invariant (middle_of at) (omega arith) (omega (arith, c.loop-low-test.true)) c.requires.1
     (λ d. omega (arith, dep_is at c.get.result.dep.0 dep d, c.if-dep-last.false))
 
