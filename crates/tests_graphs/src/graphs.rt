@@ -32,7 +32,7 @@ fn solved(alloc: Global, network: &Network, query: &Query) -> Result<Scanned<Mea
         Solves mean_scoring found network.now query.now) }
 {
     let mut order = SortedOrder::new(alloc, network)?;
-    let tables = ScanTables::reserve(alloc, network)?;
+    let tables = ScanTables::reserve_until(alloc, network, query.deadline)?;
     Ok(scan(tables, network, &mut order, query))
 }
 

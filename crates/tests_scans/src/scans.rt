@@ -77,7 +77,7 @@ pub(crate) fn solved<V: Score>(
     ensures target { IfOk result (λ found. found.target ≡ query.now.target.0) }
 {
     let mut order = SortedOrder::new(alloc, network)?;
-    let tables = ScanTables::reserve(alloc, network)?;
+    let tables = ScanTables::reserve_until(alloc, network, query.deadline)?;
     Ok(scan(tables, network, &mut order, query))
 }
 
