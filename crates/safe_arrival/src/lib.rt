@@ -17,38 +17,34 @@ use value_laws::WorstMoment;
 // A day after the last arrival that a network may have: whatever always arrives does so by then.
 const LAST_MOMENT: Moment = Moment(13_601_174_400);
 
-// The least worst arrival, if it is by the deadline of the query. The tables come back empty, and the
-// order is used up.
+// The least worst arrival, if it is by the deadline of the query. The order is used up.
 fn least_worst_by<B: BackwardOrder>(
     tables: ScanTables<WorstMoment>,
     network: &Network,
     order: &mut B,
     query: &Query,
-) -> (ScanTables<WorstMoment>, Option<Moment>)
+) -> Option<Moment>
     requires tables_fit { FitsTablesBy network.now query.now.deadline.0 tables }
     requires fits { B.fits order.old network.now }
     requires whole { IsScanOrder network.now (B.rest order.old network.now) }
     requires differ { query.now.source.0 ≢ query.now.target.0 }
     ensures least { let query = query.now in
-        MatchOption result.1 ((tree : Tree) → IsSafeFor network.now query tree → ⊥)
+        MatchOption result ((tree : Tree) → IsSafeFor network.now query tree → ⊥)
         (λ worst. IsLeastWorst network.now query.source.0 query.target.0 query.start.0 (Some worst)) }
-    ensures tables_fit { FitsTables network.now tables → FitsTables network.now result.0 }
     ensures valid { IsValid network.now }
     ensures fits { B.fits order.new network.now }
 {
-    let (tables, worst) = start_value(tables, network, order, query);
+    let (_tables, worst) = start_value(tables, network, order, query);
     match worst {
-        Some(worst) => (tables, Some(worst.0)),
-        None => (tables, None),
+        Some(worst) => Some(worst.0),
+        None => None,
     }
 }
 
 /// The least worst arrival at the target of all strategies that always reach it, from the source at the
-/// start; `None` if no strategy always reaches it. It is searched for with a deadline of two hours, then
-/// of eight, and at last of all time, since most connections leave too late to matter. Whatever is
-/// answered, the order still fits the network.
+/// start; `None` if no strategy always reaches it. Whatever is answered, the order still fits the network.
 pub fn least_worst<B: BackwardOrder>(
-    mut tables: ScanTables<WorstMoment>,
+    tables: ScanTables<WorstMoment>,
     network: &Network,
     order: &mut B,
     source: PlaceId,
@@ -69,28 +65,13 @@ pub fn least_worst<B: BackwardOrder>(
     if source.0 == target.0 {
         return Some(start);
     }
-    for hours in [2, 8] {
-        let query = Query {
-            source,
-            target,
-            start,
-            deadline: Moment(start.0 + SECONDS_PER_HOUR * hours),
-        };
-        let (again, worst) = least_worst_by(tables, network, order, &query);
-        if worst.is_some() {
-            return worst;
-        }
-        tables = again;
-        order.rewind(network);
-    }
     let query = Query {
         source,
         target,
         start,
         deadline: LAST_MOMENT,
     };
-    let (_tables, worst) = least_worst_by(tables, network, order, &query);
-    worst
+    least_worst_by(tables, network, order, &query)
 }
 
 // The least worst arrival, if it is by the deadline of the query, with tables that have room for the
@@ -115,13 +96,12 @@ fn reserved_worst_by<B: BackwardOrder>(
         network,
         query.deadline,
     )?;
-    let (_tables, worst) = least_worst_by(tables, network, order, query);
-    Ok(worst)
+    Ok(least_worst_by(tables, network, order, query))
 }
 
-/// The least worst arrival, as `least_worst` gives it. Its tables have room for the connections up to each
-/// deadline in turn, so that a long window takes no memory for those that leave too late to matter.
-/// Whatever is answered but `NoMemory`, the order still fits the network.
+/// The least worst arrival, as `least_worst` gives it, for a long window in less time and memory. It is searched
+/// for with a deadline of two hours, then of eight, and at last of all time, since most connections leave too late
+/// to matter, and the tables have room for the connections up to each deadline in turn. Whatever is answered but `NoMemory`, the order still fits the network.
 pub fn reserved_worst<B: BackwardOrder>(
     alloc: Global,
     network: &Network,

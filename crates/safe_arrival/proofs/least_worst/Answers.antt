@@ -5,28 +5,15 @@ use Rattle.safe_arrival.proofs.Least.{least_by_last, not_before, not_late}
 use Rattle.meat_scan.proofs.Reserves.{fits_any}
 use Rattle.safe_arrival.proofs.least_worst.Goals as goal
 
-pub least_worst_by-again-requires-clause-tables_fit : goal.least_worst_by-again-requires-clause-tables_fit
-least_worst_by-again-requires-clause-tables_fit g c = fits_any c.args.network.now _ c.loop-hours.tables c.loop-hours.invariant.tables_fit
-
-pub least_worst_by-tables-requires-clause-tables_fit : goal.least_worst_by-tables-requires-clause-tables_fit
-least_worst_by-tables-requires-clause-tables_fit g c = fits_any c.args.network.now _ c.loop-hours.tables c.loop-hours.invariant.tables_fit
+pub least_worst_by-requires-clause-tables_fit : goal.least_worst_by-requires-clause-tables_fit
+least_worst_by-requires-clause-tables_fit g c = fits_any c.args.network.now _ c.args.tables c.requires.tables_fit
 
 pub returns-then-source-target-clause-least : goal.returns-then-source-target-clause-least
 returns-then-source-target-clause-least g c = LeastWorst-at_target c.args.network.now c.args.source.0 c.args.target.0 c.args.start c.if-source-target.true
 
-pub returns-then-is_some-clause-order : goal.returns-then-is_some-clause-order
-returns-then-is_some-clause-order g c =
-    let found = c.least_worst_by-again in
-    not_before c.args.network.now found.ensures.valid c.args.source.0 c.args.target.0 c.args.start.0 _ found.result.1 found.ensures.least
-
-pub returns-then-is_some-clause-early : goal.returns-then-is_some-clause-early
-returns-then-is_some-clause-early g c =
-    let found = c.least_worst_by-again in
-    not_late c.args.network.now found.ensures.valid c.args.source.0 c.args.target.0 c.args.start.0 _ found.result.1 c.requires.start found.ensures.least
-
 pub returns-clause-least : goal.returns-clause-least
 returns-clause-least g c =
-    let found = c.least_worst_by-tables in
+    let found = c.least_worst_by in
     least_by_last c.args.network.now found.ensures.valid
     (record {
       source = c.args.source;
@@ -34,14 +21,14 @@ returns-clause-least g c =
       start = c.args.start;
       deadline =
           record { 0 = last_moment };
-    }) c.requires.start refl found.result.1 found.ensures.least
+    }) c.requires.start refl found.result found.ensures.least
 
 pub returns-clause-order : goal.returns-clause-order
 returns-clause-order g c =
-    let found = c.least_worst_by-tables in
-    not_before c.args.network.now found.ensures.valid c.args.source.0 c.args.target.0 c.args.start.0 _ found.result.1 found.ensures.least
+    let found = c.least_worst_by in
+    not_before c.args.network.now found.ensures.valid c.args.source.0 c.args.target.0 c.args.start.0 _ found.result found.ensures.least
 
 pub returns-clause-early : goal.returns-clause-early
 returns-clause-early g c =
-    let found = c.least_worst_by-tables in
-    not_late c.args.network.now found.ensures.valid c.args.source.0 c.args.target.0 c.args.start.0 _ found.result.1 c.requires.start found.ensures.least
+    let found = c.least_worst_by in
+    not_late c.args.network.now found.ensures.valid c.args.source.0 c.args.target.0 c.args.start.0 _ found.result c.requires.start found.ensures.least
