@@ -4,34 +4,36 @@ use Rattle.std.proofs.Common.{le_refl}
 use Rattle.csv_rows.specs.declared.feed_tables.Table.{Table}
 use Rattle.csv_rows.specs.declared.feed_tables.Table.TheVariants.{Stops, Routes, Trips, StopTimes, Frequencies, Calendar, CalendarDates, Transfers}
 use Rattle.csv_rows.specs.declared.limits.Limits.{Limits}
+use Rattle.csv_rows.specs.declared.limits.TheConstants.{MOST_BYTES, MOST_STOPS, MOST_ROUTES, MOST_TRIPS, MOST_STOP_TIMES, MOST_FREQUENCIES}
+use Rattle.csv_rows.specs.declared.limits.TheConstants.{MOST_CALENDAR, MOST_CALENDAR_DATES, MOST_TRANSFERS, MOST_CUT_ROWS, MOST_CONNECTIONS, MOST_ENTRIES}
 
 -- the standard limits
 abbrev pub standard : Limits
 standard = record {
-  bytes = 1073741824;
-  stops = 1048576;
-  routes = 65536;
-  trips = 4194304;
-  stop_times = 33554432;
-  frequencies = 65536;
-  calendar = 1048576;
-  calendar_dates = 16777216;
-  transfers = 4194304;
-  cut_rows = 8388608;
-  connections = 8388608;
-  entries = 67108864;
-  bytes_in = le_refl 1073741824;
-  stops_in = le_refl 1048576;
-  routes_in = le_refl 65536;
-  trips_in = le_refl 4194304;
-  stop_times_in = le_refl 33554432;
-  frequencies_in = le_refl 65536;
-  calendar_in = le_refl 1048576;
-  calendar_dates_in = le_refl 16777216;
-  transfers_in = le_refl 4194304;
-  cut_rows_in = le_refl 8388608;
-  connections_in = le_refl 8388608;
-  entries_in = le_refl 67108864;
+  bytes = MOST_BYTES;
+  stops = MOST_STOPS;
+  routes = MOST_ROUTES;
+  trips = MOST_TRIPS;
+  stop_times = MOST_STOP_TIMES;
+  frequencies = MOST_FREQUENCIES;
+  calendar = MOST_CALENDAR;
+  calendar_dates = MOST_CALENDAR_DATES;
+  transfers = MOST_TRANSFERS;
+  cut_rows = MOST_CUT_ROWS;
+  connections = MOST_CONNECTIONS;
+  entries = MOST_ENTRIES;
+  bytes_in = le_refl MOST_BYTES;
+  stops_in = le_refl MOST_STOPS;
+  routes_in = le_refl MOST_ROUTES;
+  trips_in = le_refl MOST_TRIPS;
+  stop_times_in = le_refl MOST_STOP_TIMES;
+  frequencies_in = le_refl MOST_FREQUENCIES;
+  calendar_in = le_refl MOST_CALENDAR;
+  calendar_dates_in = le_refl MOST_CALENDAR_DATES;
+  transfers_in = le_refl MOST_TRANSFERS;
+  cut_rows_in = le_refl MOST_CUT_ROWS;
+  connections_in = le_refl MOST_CONNECTIONS;
+  entries_in = le_refl MOST_ENTRIES;
 }
 
 -- the rows of a table

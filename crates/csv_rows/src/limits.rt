@@ -1,7 +1,23 @@
 //! How much is read.
 ghost use Rattle.std.specs.Prelude.{◌≡◌, ◌≤◌};
+ghost use Rattle.csv_rows.specs.declared.limits.TheConstants.{MOST_BYTES, MOST_STOPS, MOST_ROUTES, MOST_TRIPS, MOST_STOP_TIMES, MOST_FREQUENCIES};
+ghost use Rattle.csv_rows.specs.declared.limits.TheConstants.{MOST_CALENDAR, MOST_CALENDAR_DATES, MOST_TRANSFERS, MOST_CUT_ROWS, MOST_CONNECTIONS, MOST_ENTRIES};
 
 use crate::feed_tables::Table;
+
+// The limits with which the largest accepted feed fits in 8 GB of memory.
+const MOST_BYTES: u64 = 1 << 30;
+const MOST_STOPS: u64 = 1 << 20;
+const MOST_ROUTES: u64 = 1 << 16;
+const MOST_TRIPS: u64 = 1 << 22;
+const MOST_STOP_TIMES: u64 = 1 << 25;
+const MOST_FREQUENCIES: u64 = 1 << 16;
+const MOST_CALENDAR: u64 = 1 << 20;
+const MOST_CALENDAR_DATES: u64 = 1 << 24;
+const MOST_TRANSFERS: u64 = 1 << 22;
+const MOST_CUT_ROWS: u64 = 1 << 23;
+const MOST_CONNECTIONS: u64 = 1 << 23;
+const MOST_ENTRIES: u64 = 1 << 26;
 
 /// The most that is read: bytes of one file, rows of each table, and connections of a window and their entries. None is above
 /// the standard one.
@@ -31,18 +47,18 @@ pub struct Limits {
     pub connections: u64,
     /// Entries of a window: pairs of a connection and a way into the place that it leaves.
     pub entries: u64,
-    pub ghost bytes_in: { bytes ≤ 1_073_741_824 },
-    pub ghost stops_in: { stops ≤ 1_048_576 },
-    pub ghost routes_in: { routes ≤ 65_536 },
-    pub ghost trips_in: { trips ≤ 4_194_304 },
-    pub ghost stop_times_in: { stop_times ≤ 33_554_432 },
-    pub ghost frequencies_in: { frequencies ≤ 65_536 },
-    pub ghost calendar_in: { calendar ≤ 1_048_576 },
-    pub ghost calendar_dates_in: { calendar_dates ≤ 16_777_216 },
-    pub ghost transfers_in: { transfers ≤ 4_194_304 },
-    pub ghost cut_rows_in: { cut_rows ≤ 8_388_608 },
-    pub ghost connections_in: { connections ≤ 8_388_608 },
-    pub ghost entries_in: { entries ≤ 67_108_864 },
+    pub ghost bytes_in: { bytes ≤ MOST_BYTES },
+    pub ghost stops_in: { stops ≤ MOST_STOPS },
+    pub ghost routes_in: { routes ≤ MOST_ROUTES },
+    pub ghost trips_in: { trips ≤ MOST_TRIPS },
+    pub ghost stop_times_in: { stop_times ≤ MOST_STOP_TIMES },
+    pub ghost frequencies_in: { frequencies ≤ MOST_FREQUENCIES },
+    pub ghost calendar_in: { calendar ≤ MOST_CALENDAR },
+    pub ghost calendar_dates_in: { calendar_dates ≤ MOST_CALENDAR_DATES },
+    pub ghost transfers_in: { transfers ≤ MOST_TRANSFERS },
+    pub ghost cut_rows_in: { cut_rows ≤ MOST_CUT_ROWS },
+    pub ghost connections_in: { connections ≤ MOST_CONNECTIONS },
+    pub ghost entries_in: { entries ≤ MOST_ENTRIES },
 }
 
 impl Limits {
@@ -53,18 +69,18 @@ impl Limits {
         ensures { result ≡ standard }
     {
         Limits {
-            bytes: 1 << 30,
-            stops: 1 << 20,
-            routes: 1 << 16,
-            trips: 1 << 22,
-            stop_times: 1 << 25,
-            frequencies: 1 << 16,
-            calendar: 1 << 20,
-            calendar_dates: 1 << 24,
-            transfers: 1 << 22,
-            cut_rows: 1 << 23,
-            connections: 1 << 23,
-            entries: 1 << 26,
+            bytes: MOST_BYTES,
+            stops: MOST_STOPS,
+            routes: MOST_ROUTES,
+            trips: MOST_TRIPS,
+            stop_times: MOST_STOP_TIMES,
+            frequencies: MOST_FREQUENCIES,
+            calendar: MOST_CALENDAR,
+            calendar_dates: MOST_CALENDAR_DATES,
+            transfers: MOST_TRANSFERS,
+            cut_rows: MOST_CUT_ROWS,
+            connections: MOST_CONNECTIONS,
+            entries: MOST_ENTRIES,
         }
     }
 
