@@ -1,61 +1,56 @@
 -- The connections that legs end with, by departure, and how many connections depart after one.
 use Rattle.std.proofs.Common.{◌≡◌, ℕ, zero, suc, ◌+◌, ◌<◌, ◌≤◌, Bool, true, false, cond, List, [], ◌∷◌, ◌++◌, length, map, get_or, nat_lt, All, AllPairs, Contains, arith, sym, subst}
-use Rattle.std.proofs.Common.{refl, inl, inr, ◌∙◌, ap, append_assoc, count_by, length-append, Ordering, is_lt, nat_cmp, IsPermutation, IsSorted}
-use Rattle.std.specs.Ordering.{ordering_then}
+use Rattle.std.proofs.Common.{refl, inl, inr, ◌∙◌, ap, append_assoc, count_by, length-append, IsPermutation}
 use Rattle.std.proofs.lemmas.Bool.{cases_Bool}
 use Rattle.std.proofs.lemmas.Bool.Decides.{nat_tests}
-use Rattle.std.proofs.lemmas.Cmp.{nat_cmp_total, on_total, then_total}
 use Rattle.std.proofs.lemmas.List.{get_or_append_left, get_or_at}
 use Rattle.std.proofs.lemmas.List.Elements.{All-map, Contains-append_cases}
-use Rattle.std.proofs.lemmas.List.Sorted.{All-permutation, Contains-permutation, ranks_by, sorted_far}
+use Rattle.std.proofs.lemmas.List.Sorted.{All-permutation, Contains-permutation}
 use Rattle.std.proofs.lemmas.List.Sums.{count_by-le-length, sum_by-cons}
+use Rattle.plan_model.specs.declared.departure.Departure.{Departure}
 use Rattle.plan_model.specs.declared.model.Connection.{Connection}
 use Rattle.plan_model.specs.NetworkModel.{NetworkModel}
 use Rattle.plan_model.specs.Network.{count, connection, no_connection, dep_of}
+use Rattle.plan_model.specs.Order.{departure_of, IsInOrder}
 use Rattle.plan_model.proofs.Lists.{Contains-map, Contains-cons_cases, All-from_contains}
-use Rattle.graph_score.specs.declared.exits.Exit.{Exit}
 use Rattle.graph_score.specs.declared.legs.GraphLeg.{GraphLeg}
-use Rattle.graph_score.specs.Exits.{exit_of, exit_at, AreExits}
+use Rattle.graph_score.specs.Exits.{exit_of, AreExits}
 
--- ---- sorted
+-- ---- in order
 
--- the order that is derived for exits
-abbrev exit_cmp : Exit → Exit → Ordering
-exit_cmp a b = ordering_then (nat_cmp a.dep.0 b.dep.0) (nat_cmp a.id.0 b.id.0)
+not_later : (a b : Departure) → IsInOrder a b → a.dep.0 ≤ b.dep.0
+not_later a b (inl sooner) = omega arith
+not_later a b (inr level) = omega (arith, level.0)
 
-not_above : (x y u v : ℕ) → is_lt (ordering_then (nat_cmp y x) (nat_cmp v u)) ≡ false → x ≤ y
-not_above x y u v h = grind (arith, nat_tests)
-
-pub exits_sorted : (n : NetworkModel) (legs : List GraphLeg) (xs ys : List Exit) → All (λ leg. (exit_of leg).0 < count n) legs
-    → xs ≡ map (λ leg. exit_at n (exit_of leg)) legs → IsPermutation xs ys → IsSorted exit_cmp ys → AreExits n legs ys
-exits_sorted n legs xs ys there is moved up =
-    let from = λ (leg : GraphLeg). exit_at n (exit_of leg) in
-    let IsExit = λ (e : Exit). (e.id.0 < count n) × (e ≡ exit_at n e.id) in
-    let total = then_total (on_total (λ (e : Exit). e.dep.0) nat_cmp_total) (on_total (λ (e : Exit). e.id.0) nat_cmp_total) in
+pub exits_in_order : (n : NetworkModel) (legs : List GraphLeg) (xs ys : List Departure) → All (λ leg. (exit_of leg).0 < count n) legs
+    → xs ≡ map (λ leg. departure_of n (exit_of leg)) legs → IsPermutation xs ys → AllPairs IsInOrder ys → AreExits n legs ys
+exits_in_order n legs xs ys there is moved order =
+    let from = λ (leg : GraphLeg). departure_of n (exit_of leg) in
+    let IsExit = λ (d : Departure). (d.id.0 < count n) × (d ≡ departure_of n d.id) in
     record {
       each = All-permutation IsExit xs ys moved (subst (All IsExit) (sym is) (All-map IsExit from legs (λ k d within. (there k d within, refl))));
       all = All-from_contains (λ leg. Contains ys (from leg)) legs
-          (λ leg has. Contains-permutation xs ys (from leg) moved (subst (λ (es : List Exit). Contains es (from leg)) (sym is) (Contains-map from legs leg has)));
-      rising = λ i j d less within. not_above (get_or ys i d).dep.0 (get_or ys j d).dep.0 (get_or ys i d).id.0 (get_or ys j d).id.0 (sorted_far _ (ranks_by total (λ (e : Exit). e)) ys up i j d (omega arith) within);
+          (λ leg has. Contains-permutation xs ys (from leg) moved (subst (λ (ds : List Departure). Contains ds (from leg)) (sym is) (Contains-map from legs leg has)));
+      rising = λ i j d less within. not_later (get_or ys i d) (get_or ys j d) (order i j d less within);
     }
 
 -- what departs after the next one, from the end on, was taken before it
-pub later_taken : (order rest taken : List Exit) (next e : Exit) → AllPairs (λ a b. a.dep.0 ≤ b.dep.0) order → (rest ++ next ∷ []) ++ taken ≡ order
+pub later_taken : (order rest taken : List Departure) (next e : Departure) → AllPairs (λ a b. a.dep.0 ≤ b.dep.0) order → (rest ++ next ∷ []) ++ taken ≡ order
     → Contains order e → next.dep.0 < e.dep.0 → Contains taken e
 later_taken order rest taken next e rising split has less =
     let same : rest ++ next ∷ taken ≡ order = sym (append_assoc rest (next ∷ []) taken) ∙ split in
-    elim (Contains-append_cases rest (next ∷ taken) e (subst (λ (es : List Exit). Contains es e) (sym same) has)) [
+    elim (Contains-append_cases rest (next ∷ taken) e (subst (λ (es : List Departure). Contains es e) (sym same) has)) [
       | inl front ↦
           let (i, within, at) = front in
-          let inside : length rest < length order = subst (λ (es : List Exit). length rest < length es) same (omega (arith, length-append rest (next ∷ taken))) in
+          let inside : length rest < length order = subst (λ (es : List Departure). length rest < length es) same (omega (arith, length-append rest (next ∷ taken))) in
           let up = rising i (length rest) e within inside in
-          let here : get_or order i e ≡ e = ap (λ (es : List Exit). get_or es i e) (sym same) ∙ get_or_append_left rest (next ∷ taken) e i within ∙ at in
-          let there : get_or order (length rest) e ≡ next = ap (λ (es : List Exit). get_or es (length rest) e) (sym same) ∙ get_or_at rest next taken e (length rest) refl in
-          let first = ap (λ (x : Exit). x.dep.0) here in
-          let second = ap (λ (x : Exit). x.dep.0) there in
+          let here : get_or order i e ≡ e = ap (λ (es : List Departure). get_or es i e) (sym same) ∙ get_or_append_left rest (next ∷ taken) e i within ∙ at in
+          let there : get_or order (length rest) e ≡ next = ap (λ (es : List Departure). get_or es (length rest) e) (sym same) ∙ get_or_at rest next taken e (length rest) refl in
+          let first = ap (λ (x : Departure). x.dep.0) here in
+          let second = ap (λ (x : Departure). x.dep.0) there in
           absurd (omega (arith, up, first, second, less))
       | inr back ↦ elim (Contains-cons_cases next taken e back) [
-        | inl is ↦ let level = ap (λ (x : Exit). x.dep.0) is in absurd (omega (arith, level, less))
+        | inl is ↦ let level = ap (λ (x : Departure). x.dep.0) is in absurd (omega (arith, level, less))
         | inr found ↦ found
       ]
     ]

@@ -4,6 +4,7 @@ use Rattle.std.proofs.Common.{refl, inl, inr, ◌∙◌, ap, append_assoc, slice
 use Rattle.std.proofs.lemmas.Bool.{cases_lt, cases_eq}
 use Rattle.std.proofs.lemmas.Bool.Decides.{nat_tests}
 use Rattle.std.proofs.lemmas.List.Elements.{All-contains, Contains-append_right}
+use Rattle.plan_model.specs.declared.departure.Departure.{Departure}
 use Rattle.plan_model.specs.declared.model.ConnectionId.{ConnectionId}
 use Rattle.plan_model.specs.declared.model.Leg.{Leg}
 use Rattle.plan_model.specs.declared.model.Outcome.{Outcome}
@@ -11,6 +12,7 @@ use Rattle.plan_model.specs.declared.model.Query.{Query}
 use Rattle.plan_model.specs.NetworkModel.{NetworkModel}
 use Rattle.plan_model.specs.Network.{IsValid, count, dep_of, arr_of}
 use Rattle.plan_model.specs.DelayRows.{EachKid}
+use Rattle.plan_model.specs.Order.{departure_of}
 use Rattle.plan_model.specs.Tree.{Tree, Done, Stuck}
 use Rattle.plan_model.specs.Unfold.{end_of, outcomes_of, kids_after}
 use Rattle.plan_model.proofs.Boarding.{boards_later}
@@ -20,11 +22,10 @@ use Rattle.plan_graph.specs.declared.PlanGraph.{PlanGraph}
 use Rattle.plan_graph.specs.PickedRows.{pick_at, rows_of_place}
 use Rattle.plan_graph.specs.Ready.{IsLegOf}
 use Rattle.plan_graph.proofs.Picked.{rows_of_place-by, row_of_pick}
-use Rattle.graph_score.specs.declared.exits.Exit.{Exit}
 use Rattle.graph_score.specs.declared.legs.GraphLeg.{GraphLeg}
 use Rattle.graph_score.specs.declared.outlooks.Outlook.{Outlook}
 use Rattle.graph_score.specs.declared.outlooks.Outlook.TheVariants.{Failing}
-use Rattle.graph_score.specs.Exits.{exit_of, exit_at, AreExits}
+use Rattle.graph_score.specs.Exits.{exit_of, AreExits}
 use Rattle.graph_score.specs.Legs.{IsFitLeg, legs_of}
 use Rattle.graph_score.specs.Steps.{AreFitRows, AreOutlooks, IsOutlook, arrived_outlook, by_leg, failure, no_outlook}
 use Rattle.graph_score.specs.Steps.{outlook_at, outlook_of, outlooks_after, ride_by_rows}
@@ -42,25 +43,26 @@ pub stuck_reported : (n : NetworkModel) (q : Query) (p x : ℕ) → IsOutlook n 
 stuck_reported n q p x = record { fails = (refl, refl); first = λ r y fails. inr (sym fails.1, omega (arith, fails.0)) }
 
 -- each row's leg ends with one of these
-abbrev pub AreAmong : NetworkModel → List Exit → List PlaceTable → Type 0
-AreAmong n exits tables = All (λ table. All (λ row. Contains exits (exit_at n row.leg.exit)) table.rows) tables
+abbrev pub AreAmong : NetworkModel → List Departure → List PlaceTable → Type 0
+AreAmong n exits tables = All (λ table. All (λ row. Contains exits (departure_of n row.leg.exit)) table.rows) tables
 
 -- of each exit that was looked at it is known what comes of it, over enough rides
-abbrev AreRight : NetworkModel → Query → List PlaceTable → List Outlook → List Exit → Type 0
-AreRight n q tables outlooks taken = (leg : Leg) (rides : ℕ) → Contains taken (exit_at n leg.exit) → later n leg.exit.0 ≤ rides
+abbrev AreRight : NetworkModel → Query → List PlaceTable → List Outlook → List Departure → Type 0
+AreRight n q tables outlooks taken = (leg : Leg) (rides : ℕ) → Contains taken (departure_of n leg.exit) → later n leg.exit.0 ≤ rides
     → IsOutlook n q (slice_index_or outlooks leg.exit.0 no_outlook) (ride_by_rows n q tables rides leg)
 
 -- the rest of the exits was not looked at
-pub record AreCollected (n : NetworkModel) (q : Query) (tables : List PlaceTable) (exits rest : List Exit) (outlooks : List Outlook) : Type 0 where
-  pub taken : List Exit
+pub record AreCollected (n : NetworkModel) (q : Query) (tables : List PlaceTable) (exits rest : List Departure) (outlooks : List Outlook) : Type 0 where
+  pub taken : List Departure
   pub split : rest ++ taken ≡ exits
   pub as_many : length outlooks ≡ count n
   pub right : AreRight n q tables outlooks taken
 
 module _ (n : NetworkModel) (valid : IsValid n) (q : Query) (tables : List PlaceTable) (fit : AreFitRows n tables) where
-  module _ {legs : List GraphLeg} (exits : List Exit) (whole : AreExits n legs exits) (among : AreAmong n exits tables) where
+  module _ {legs : List GraphLeg} (exits : List Departure) (whole : AreExits n legs exits) (among : AreAmong n exits tables) where
     -- what comes of an arrival after the next exit
-    arrival_reported : (outlooks : List Outlook) (rest taken : List Exit) (exit : Exit) → (rest ++ exit ∷ []) ++ taken ≡ exits → exit ≡ exit_at n exit.id → exit.id.0 < count n → AreRight n q tables outlooks taken
+    arrival_reported : (outlooks : List Outlook) (rest taken : List Departure) (exit : Departure) → (rest ++ exit ∷ []) ++ taken ≡ exits → exit ≡ departure_of n exit.id → exit.id.0 < count n
+        → AreRight n q tables outlooks taken
         → (leg : Leg) (rides x : ℕ) → leg.exit ≡ exit.id → later n exit.id.0 ≤ rides → arr_of n exit.id.0 ≤ x
         → IsOutlook n q (outlook_at tables q outlooks (end_of n leg) x) (next_after n q tables fit rides leg x)
     arrival_reported outlooks rest taken exit split is there right leg rides x of_exit enough late = elim (cases_eq (end_of n leg) q.target.0) [
@@ -86,7 +88,7 @@ module _ (n : NetworkModel) (valid : IsValid n) (q : Query) (tables : List Place
 
         -- the next leg departs later, and ends with an exit that was looked at
         over : (rides : ℕ) → later n exit.id.0 ≤ rides → end_of n leg ≢ q.target.0 → (next : Leg) → pick_at tables (end_of n leg) x ≡ Some next
-            → next.exit.0 < count n → dep_of n exit.id.0 < dep_of n next.exit.0 → Contains taken (exit_at n next.exit)
+            → next.exit.0 < count n → dep_of n exit.id.0 < dep_of n next.exit.0 → Contains taken (departure_of n next.exit)
             → IsOutlook n q (slice_index_or outlooks next.exit.0 no_outlook) (next_after n q tables fit rides leg x)
         over zero enough away next picks inside after known = absurd (omega (arith, later_fewer n exit.id.0 next.exit.0 inside after, enough))
         over (suc rides) enough away next picks inside after known = subst (IsOutlook n q (slice_index_or outlooks next.exit.0 no_outlook))
@@ -100,11 +102,11 @@ module _ (n : NetworkModel) (valid : IsValid n) (q : Query) (tables : List Place
             let boards = boards_later n valid (end_of n leg) x next.enter.0 row.0.enter row.1 in
             let onward : dep_of n next.enter.0 ≤ dep_of n next.exit.0 = onward_in next row.0 in
             let after : dep_of n exit.id.0 < dep_of n next.exit.0 = omega (arith, boards, onward, late, (valid.connections exit.id.0 there).forward) in
-            let (found, has, soon, same) = row_of_pick (λ row. Contains exits (exit_at n row.leg.exit)) (rows_of_place tables (end_of n leg)) x next
-            (rows_of_place-by (λ p rows. All (λ row. Contains exits (exit_at n row.leg.exit)) rows) tables (end_of n leg) (λ k d within. absurd (omega (arith, within))) among) picks in
-            let known : Contains exits (exit_at n next.exit) = subst (λ (l : Leg). Contains exits (exit_at n l.exit)) same has in
-            let departs = ap (λ (e : Exit). e.dep.0) is in
-            over rides enough away next picks row.0.exit after (later_taken exits rest taken exit (exit_at n next.exit) whole.rising split known (omega (arith, departs, after)))
+            let (found, has, soon, same) = row_of_pick (λ row. Contains exits (departure_of n row.leg.exit)) (rows_of_place tables (end_of n leg)) x next
+            (rows_of_place-by (λ p rows. All (λ row. Contains exits (departure_of n row.leg.exit)) rows) tables (end_of n leg) (λ k d within. absurd (omega (arith, within))) among) picks in
+            let known : Contains exits (departure_of n next.exit) = subst (λ (l : Leg). Contains exits (departure_of n l.exit)) same has in
+            let departs = ap (λ (e : Departure). e.dep.0) is in
+            over rides enough away next picks row.0.exit after (later_taken exits rest taken exit (departure_of n next.exit) whole.rising split known (omega (arith, departs, after)))
 
     kids_reported : (outlooks : List Outlook) (p scheduled : ℕ) (next : ℕ → Tree) → ((x : ℕ) → scheduled ≤ x → IsOutlook n q (outlook_at tables q outlooks p x) (next x)) → (row : List Outcome)
         → EachKid (IsOutlook n q) row (outlooks_after tables q outlooks p scheduled row) (kids_after next scheduled row)
@@ -112,7 +114,8 @@ module _ (n : NetworkModel) (valid : IsValid n) (q : Query) (tables : List Place
     kids_reported outlooks p scheduled next each (o ∷ row) = (refl, each (scheduled + o.delay) (omega arith), kids_reported outlooks p scheduled next each row)
 
     -- what comes of the next exit
-    ride_reported : (outlooks : List Outlook) (rest taken : List Exit) (exit : Exit) → (rest ++ exit ∷ []) ++ taken ≡ exits → exit ≡ exit_at n exit.id → exit.id.0 < count n → AreRight n q tables outlooks taken
+    ride_reported : (outlooks : List Outlook) (rest taken : List Departure) (exit : Departure) → (rest ++ exit ∷ []) ++ taken ≡ exits → exit ≡ departure_of n exit.id → exit.id.0 < count n
+        → AreRight n q tables outlooks taken
         → (leg : Leg) (rides : ℕ) → leg.exit ≡ exit.id → later n exit.id.0 ≤ rides → IsOutlook n q (outlook_of n tables q outlooks exit.id.0) (ride_by_rows n q tables rides leg)
     ride_reported outlooks rest taken exit split is there right leg rides of_exit enough =
         let late = ap (λ (id : ConnectionId). arr_of n id.0) of_exit in
@@ -123,8 +126,8 @@ module _ (n : NetworkModel) (valid : IsValid n) (q : Query) (tables : List Place
         subst (λ (id : ConnectionId). IsOutlook n q (outlook_of n tables q outlooks id.0) (ride_by_rows n q tables rides leg)) of_exit own
 
     -- with the next exit
-    right_next : (outlooks : List Outlook) (rest taken : List Exit) (exit : Exit) → (rest ++ exit ∷ []) ++ taken ≡ exits → exit ≡ exit_at n exit.id → exit.id.0 < count n → length outlooks ≡ count n
-        → AreRight n q tables outlooks taken → AreRight n q tables (set outlooks exit.id.0 (outlook_of n tables q outlooks exit.id.0)) (exit ∷ taken)
+    right_next : (outlooks : List Outlook) (rest taken : List Departure) (exit : Departure) → (rest ++ exit ∷ []) ++ taken ≡ exits → exit ≡ departure_of n exit.id → exit.id.0 < count n
+        → length outlooks ≡ count n → AreRight n q tables outlooks taken → AreRight n q tables (set outlooks exit.id.0 (outlook_of n tables q outlooks exit.id.0)) (exit ∷ taken)
     right_next outlooks rest taken exit split is there many right leg rides known enough = elim (cases_eq leg.exit.0 exit.id.0) [
       | inl same ↦
           let of_exit : leg.exit ≡ exit.id = ap (λ (k : ℕ). record { 0 = k }) same in
@@ -139,20 +142,20 @@ module _ (n : NetworkModel) (valid : IsValid n) (q : Query) (tables : List Place
           (right leg rides (before other) enough)
     ]
       where
-        before : leg.exit.0 ≢ exit.id.0 → Contains taken (exit_at n leg.exit)
-        before other = elim (Contains-cons_cases exit taken (exit_at n leg.exit) known) [
-          | inl here ↦ absurd (other (sym (ap (λ (e : Exit). e.id.0) here)))
+        before : leg.exit.0 ≢ exit.id.0 → Contains taken (departure_of n leg.exit)
+        before other = elim (Contains-cons_cases exit taken (departure_of n leg.exit) known) [
+          | inl here ↦ absurd (other (sym (ap (λ (e : Departure). e.id.0) here)))
           | inr earlier ↦ earlier
         ]
 
 -- the network is one, the graph's rows fit, and the exits are those of its legs
-pub record AreReady (n : NetworkModel) (q : Query) (graph : PlanGraph) (exits : List Exit) : Type 0 where
+pub record AreReady (n : NetworkModel) (q : Query) (graph : PlanGraph) (exits : List Departure) : Type 0 where
   pub valid : IsValid n
   pub fit : AreFitRows n graph.tables
   pub whole : AreExits n (legs_of graph) exits
   pub among : AreAmong n exits graph.tables
 
-pub are_ready : {n : NetworkModel} {q : Query} {graph : PlanGraph} {exits : List Exit} (legs : List GraphLeg) → legs ≡ legs_of graph → IsValid n → All (IsFitLeg n q) legs → AreExits n legs exits
+pub are_ready : {n : NetworkModel} {q : Query} {graph : PlanGraph} {exits : List Departure} (legs : List GraphLeg) → legs ≡ legs_of graph → IsValid n → All (IsFitLeg n q) legs → AreExits n legs exits
     → AreReady n q graph exits
 are_ready {n} {q} {graph} {exits} legs is valid each whole =
     let of_graph = subst (λ (legs : List GraphLeg). AreExits n legs exits) is whole in
@@ -160,20 +163,20 @@ are_ready {n} {q} {graph} {exits} legs is valid each whole =
       valid = valid;
       fit = rows_fit n q graph (subst (All (IsFitLeg n q)) is each);
       whole = of_graph;
-      among = each_row_of (λ leg. Contains exits (exit_at n (exit_of leg))) graph of_graph.all;
+      among = each_row_of (λ leg. Contains exits (departure_of n (exit_of leg))) graph of_graph.all;
     }
 
-module _ {n : NetworkModel} {q : Query} {graph : PlanGraph} {exits : List Exit} (ready : AreReady n q graph exits) where
+module _ {n : NetworkModel} {q : Query} {graph : PlanGraph} {exits : List Departure} (ready : AreReady n q graph exits) where
   -- none was looked at
   pub reported_first : (outlooks : List Outlook) → length outlooks ≡ count n → AreCollected n q graph.tables exits exits outlooks
   reported_first outlooks many = record { taken = []; split = append-nil exits; as_many = many; right = λ leg rides (k, within, at) enough. absurd (omega (arith, within)) }
 
-  exit_there : (e : Exit) → Contains exits e → (e.id.0 < count n) × (e ≡ exit_at n e.id)
-  exit_there e has = All-contains (λ (e : Exit). (e.id.0 < count n) × (e ≡ exit_at n e.id)) exits e ready.whole.each has
+  exit_there : (e : Departure) → Contains exits e → (e.id.0 < count n) × (e ≡ departure_of n e.id)
+  exit_there e has = All-contains (λ (e : Departure). (e.id.0 < count n) × (e ≡ departure_of n e.id)) exits e ready.whole.each has
 
-  module _ (rest : List Exit) (exit : Exit) {outlooks : List Outlook} (reported : AreCollected n q graph.tables exits (rest ++ exit ∷ []) outlooks) where
-    next_there : (exit.id.0 < count n) × (exit ≡ exit_at n exit.id)
-    next_there = exit_there exit (subst (λ (es : List Exit). Contains es exit) (sym (append_assoc rest (exit ∷ []) reported.taken) ∙ reported.split)
+  module _ (rest : List Departure) (exit : Departure) {outlooks : List Outlook} (reported : AreCollected n q graph.tables exits (rest ++ exit ∷ []) outlooks) where
+    next_there : (exit.id.0 < count n) × (exit ≡ departure_of n exit.id)
+    next_there = exit_there exit (subst (λ (es : List Departure). Contains es exit) (sym (append_assoc rest (exit ∷ []) reported.taken) ∙ reported.split)
         (Contains-append_right rest (exit ∷ reported.taken) exit (0, omega arith, refl)))
 
     pub reported_there : exit.id.0 < count n
@@ -188,10 +191,10 @@ module _ {n : NetworkModel} {q : Query} {graph : PlanGraph} {exits : List Exit} 
     }
 
   -- all were
-  pub reported_last : {rest : List Exit} {outlooks : List Outlook} → rest ≡ [] → AreCollected n q graph.tables exits rest outlooks → AreOutlooks n q graph outlooks
+  pub reported_last : {rest : List Departure} {outlooks : List Outlook} → rest ≡ [] → AreCollected n q graph.tables exits rest outlooks → AreOutlooks n q graph outlooks
   reported_last {rest} none reported leg has =
-      let all : exits ≡ reported.taken = sym reported.split ∙ ap (λ (es : List Exit). es ++ reported.taken) none in
+      let all : exits ≡ reported.taken = sym reported.split ∙ ap (λ (es : List Departure). es ++ reported.taken) none in
       let (of_leg, listed, is) = Contains-from_map exit_of (legs_of graph) leg.exit has in
-      let known = subst (λ i. Contains exits (exit_at n i)) is (All-contains (λ leg. Contains exits (exit_at n (exit_of leg))) (legs_of graph) of_leg ready.whole.all listed) in
-      let there = (exit_there (exit_at n leg.exit) known).0 in
-      reported.right leg (count n - 1) (subst (λ (es : List Exit). Contains es (exit_at n leg.exit)) all known) (omega (arith, later_few n leg.exit.0 there))
+      let known = subst (λ i. Contains exits (departure_of n i)) is (All-contains (λ leg. Contains exits (departure_of n (exit_of leg))) (legs_of graph) of_leg ready.whole.all listed) in
+      let there = (exit_there (departure_of n leg.exit) known).0 in
+      reported.right leg (count n - 1) (subst (λ (es : List Departure). Contains es (departure_of n leg.exit)) all known) (omega (arith, later_few n leg.exit.0 there))

@@ -4,17 +4,8 @@ ghost use Rattle.plan_model.specs.Network.{count};
 ghost use Rattle.graph_score.specs.Exits.{exit_of, AreExits};
 
 use crate::legs::GraphLeg;
-use plan_model::{ConnectionId, Moment, Network, NoMemory};
+use plan_model::{ConnectionId, Departure, Network, NoMemory, in_scan_order};
 use std::alloc::Global;
-
-/// A connection that a leg ends with. The derived order is by departure, and then by number.
-#[derive(Clone, Copy, PartialEq, Eq, PartialOrd, Ord)]
-pub struct Exit {
-    /// Its departure.
-    pub dep: Moment,
-    /// Its number.
-    pub id: ConnectionId,
-}
 
 impl GraphLeg {
     /// The connection that the leg ends with.
@@ -29,16 +20,17 @@ impl GraphLeg {
 }
 
 /// The connection that each of these legs ends with, the first departure first.
-pub fn exits_of(alloc: Global, network: &Network, legs: &[GraphLeg]) -> Result<Vec<Exit>, NoMemory>
+pub fn exits_of(
+    alloc: Global,
+    network: &Network,
+    legs: &[GraphLeg],
+) -> Result<Vec<Departure>, NoMemory>
     requires { All (λ leg. (exit_of leg).0 < count network.now) legs.now }
     ensures { IfOk result (λ exits. AreExits network.now legs.now exits.items) }
 {
     let mut exits = Vec::new(alloc);
     for leg in legs {
-        let id = leg.exit();
-        let dep = network.get(id).dep;
-        exits.push(Exit { dep, id })?;
+        exits.push(Departure::new(network, leg.exit()))?;
     }
-    exits.sort_unstable();
-    Ok(exits)
+    Ok(in_scan_order(exits))
 }

@@ -1,7 +1,8 @@
 use Rattle.std.proofs.Common.{◌≡◌, map, take}
-use Rattle.graph_score.specs.Exits.{exit_of, exit_at}
+use Rattle.plan_model.specs.Order.{departure_of}
+use Rattle.graph_score.specs.Exits.{exit_of}
 use Rattle.graph_score.proofs.exits.exits_of.Given as goal
 
 -- the exits of the legs so far
 abbrev pub invariant-loop-leg : goal.invariant-loop-leg
-invariant-loop-leg l = l.exits.items ≡ map (λ leg. exit_at l.network (exit_of leg)) (take l.leg-index l.legs)
+invariant-loop-leg l = l.exits.items ≡ map (λ leg. departure_of l.network (exit_of leg)) (take l.leg-index l.legs)
