@@ -1,12 +1,10 @@
 -- The entries of a board, one connection and one way after the other, and in order.
-use Rattle.std.proofs.Common.{◌≡◌, ℕ, ◌+◌, ◌-◌, ◌<◌, ◌≤◌, ◌⊎◌, List, [], ◌∷◌, ◌++◌, length, get_or, set, reverse, slice_get, Some, IsTrue, false, arith, inl}
-use Rattle.std.proofs.Common.{inr, sym, ◌∙◌, ap, subst, refl, Ordering, Less, Equal, Greater, is_lt, nat_cmp, IsPermutation, IsSorted, length-set}
-use Rattle.std.specs.Ordering.{MatchOrdering, ordering_then}
+use Rattle.std.proofs.Common.{◌≡◌, ℕ, ◌+◌, ◌-◌, ◌<◌, ◌≤◌, ◌⊎◌, List, [], ◌∷◌, ◌++◌, length, get_or, set, reverse, slice_get, Some, IsTrue, arith, inl}
+use Rattle.std.proofs.Common.{inr, sym, ◌∙◌, ap, subst, refl, Ordering, is_lt, nat_cmp, IsPermutation, IsSorted, length-set}
+use Rattle.std.specs.Ordering.{ordering_then}
 use Rattle.std.proofs.lemmas.Bool.{cases_lt}
 use Rattle.std.proofs.lemmas.List.{length_push, get_or-reverse, get_or_append_left, get_or_at, get_or_default}
-use Rattle.std.specs.Cmp.{IsTotalOrder}
-use Rattle.std.proofs.lemmas.Cmp.{ranked, nat_cmp_total, on_total, then_total}
-use Rattle.std.proofs.lemmas.Map.Keys.{ge_from_not_lt}
+use Rattle.std.proofs.lemmas.Cmp.{nat_cmp_total, on_total, then_total}
 use Rattle.std.proofs.lemmas.List.Sorted.{All-permutation, Contains-permutation, ranks_by, sorted_far}
 use Rattle.plan_model.specs.declared.model.Way.{Way}
 use Rattle.plan_model.specs.NetworkModel.{NetworkModel}
@@ -14,6 +12,7 @@ use Rattle.plan_model.specs.Network.{IsValid, count, connection, from_of, dep_of
 use Rattle.plan_model.specs.Ways.{ways_into}
 use Rattle.plan_model.specs.Strategy.{IsBoardable}
 use Rattle.plan_model.proofs.Boarding.{way_of-listed, listed-way_of}
+use Rattle.plan_model.proofs.Sorted.{not_above}
 use Rattle.lower_proof.specs.declared.board.Entry.{Entry}
 use Rattle.lower_proof.specs.Boards.{ShownBoard, entry_at, IsEntry, AreEntries, Falls}
 use Rattle.lower_proof.specs.Minima.{board_at, AreFresh, HaveEntries}
@@ -30,35 +29,22 @@ no_entry = record { by = record { 0 = 0 }; id = record { 0 = 0 } }
 abbrev pub entry_cmp : Entry → Entry → Ordering
 entry_cmp a b = ordering_then (nat_cmp a.by.0 b.by.0) (nat_cmp a.id.0 b.id.0)
 
--- a has the earlier moment, or the same and the smaller number
-abbrev pub InOrder : Entry → Entry → Type 0
-InOrder a b = (a.by.0 < b.by.0) ⊎ ((a.by.0 ≡ b.by.0) × (a.id.0 ≤ b.id.0))
-
-not_above : (x y u v : ℕ) (order : Ordering) → MatchOrdering order (y < x) (y ≡ x) (x < y) → is_lt (ordering_then order (nat_cmp v u)) ≡ false
-    → (x < y) ⊎ ((x ≡ y) × (u ≤ v))
-not_above x y u v Less above h = absurd (cc)
-not_above x y u v Equal same h = inr (sym same, ge_from_not_lt v u h)
-not_above x y u v Greater less h = inl less
-
-entries_total : IsTotalOrder entry_cmp
-entries_total = then_total (on_total (λ (e : Entry). e.by.0) nat_cmp_total) (on_total (λ (e : Entry). e.id.0) nat_cmp_total)
-
-pub sorted_in_order : (ys : List Entry) → IsSorted entry_cmp ys → (d : Entry) (i j : ℕ) → i ≤ j → j < length ys → InOrder (get_or ys i d) (get_or ys j d)
-sorted_in_order ys up d i j le within =
+moments_rise : (ys : List Entry) → IsSorted entry_cmp ys → (d : Entry) (i j : ℕ) → i ≤ j → j < length ys → (get_or ys i d).by.0 ≤ (get_or ys j d).by.0
+moments_rise ys up d i j le within =
     let a = get_or ys i d in
     let b = get_or ys j d in
-    not_above a.by.0 b.by.0 a.id.0 b.id.0 (nat_cmp b.by.0 a.by.0) (ranked b.by.0 a.by.0 (nat_cmp b.by.0 a.by.0) refl)
-    (sorted_far (λ x y. is_lt (entry_cmp x y)) (ranks_by entries_total (λ (e : Entry). e)) ys up i j d le within)
+    let total = then_total (on_total (λ (e : Entry). e.by.0) nat_cmp_total) (on_total (λ (e : Entry). e.id.0) nat_cmp_total) in
+    elim (not_above a.by.0 b.by.0 a.id.0 b.id.0 (sorted_far (λ x y. is_lt (entry_cmp x y)) (ranks_by total (λ (e : Entry). e)) ys up i j d le within)) [
+      | inl less ↦ omega arith
+      | inr level ↦ omega (arith, level.0)
+    ]
 
 -- sorted and turned round, they fall
 pub falls_reversed : (ys : List Entry) → IsSorted entry_cmp ys → (zs : List Entry) → zs ≡ reverse ys → length zs ≡ length ys → Falls zs
 falls_reversed ys up zs is same i j d before within =
     let first = ap (λ (w : List Entry). get_or w i d) is ∙ get_or-reverse ys i d (omega arith) in
     let second = ap (λ (w : List Entry). get_or w j d) is ∙ get_or-reverse ys j d (omega arith) in
-    rw (first, second) (elim (sorted_in_order ys up d (length ys - 1 - j) (length ys - 1 - i) (omega arith) (omega arith)) [
-      | inl less ↦ omega arith
-      | inr level ↦ omega (arith, level.0)
-    ])
+    rw (first, second) (moments_rise ys up d (length ys - 1 - j) (length ys - 1 - i) (omega arith) (omega arith))
 
 -- the same entries in another order
 pub entries_permuted : (n : NetworkModel) (last p m : ℕ) (xs ys : List Entry) → IsPermutation xs ys → AreEntries n last p m xs → AreEntries n last p m ys

@@ -13,7 +13,7 @@ use Rattle.lower_proof.proofs.Leasts.{least_with, least_same, least_is, IsLeastO
 use Rattle.lower_proof.proofs.Vias.{least_via, no_via}
 use Rattle.plan_model.proofs.ScanOrders.{Known, IsNext}
 use Rattle.plan_model.proofs.Bounds.{forward}
-use Rattle.lower_proof.specs.declared.board.Entry.{Entry}
+use Rattle.plan_model.specs.declared.departure.Departure.{Departure}
 use Rattle.lower_proof.specs.Departures.{NoneAfter, AreDepartingBy}
 use Rattle.lower_proof.proofs.Departing.{Late, IsRest, rest_first, rest_popped, next_popped, all_taken}
 use Rattle.plan_model.specs.declared.model.Outcome.{Outcome}
@@ -62,7 +62,7 @@ module _ (n : NetworkModel) (q : Query) (values : List (Option ℕ)) (last : ℕ
 -- ---- what is known while connections are scanned
 
 -- those that are left, and of the others the least value of leaving each run
-pub record IsScanned (n : NetworkModel) (q : Query) (values : List (Option ℕ)) (last : ℕ) (taken : List ConnectionId) (left : List Entry) (exits : List (Option ℕ)) : Type 0 where
+pub record IsScanned (n : NetworkModel) (q : Query) (values : List (Option ℕ)) (last : ℕ) (taken : List ConnectionId) (left : List Departure) (exits : List (Option ℕ)) : Type 0 where
   pub rest : IsRest n last left taken
   pub runs : (c : ℕ) → c < count n → run_of n c < length exits
   pub are_exits : AreExits n q values last taken exits
@@ -81,13 +81,13 @@ module _ (n : NetworkModel) (good : IsValid n) (q : Query) (values : List (Optio
       let later = forward n good c ride.0 ride.1 in
       no_via n good q values last deadline none_after ride.0 v ride.1.exit (omega arith) ride.2
 
-  pub scanned_first : (entries : List Entry) (exits : List (Option ℕ)) → AreDepartingBy n last entries → ((c : ℕ) → c < count n → run_of n c < length exits)
+  pub scanned_first : (entries : List Departure) (exits : List (Option ℕ)) → AreDepartingBy n last entries → ((c : ℕ) → c < count n → run_of n c < length exits)
       → ((run : ℕ) → exit_of exits run ≡ None) → IsScanned n q values last [] entries exits
   scanned_first entries exits are runs empty = record { rest = rest_first n last entries are; runs = runs; are_exits = λ run. rw (empty run) (none_left run) }
 
 -- one more is scanned
-module _ {n : NetworkModel} (good : IsValid n) {q : Query} {values : List (Option ℕ)} {last : ℕ} {taken : List ConnectionId} {before : List Entry} {exits : List (Option ℕ)}
-    (scanned : IsScanned n q values last taken before exits) (rest : List Entry) (e : Entry) (popped : before ≡ rest ++ e ∷ []) where
+module _ {n : NetworkModel} (good : IsValid n) {q : Query} {values : List (Option ℕ)} {last : ℕ} {taken : List ConnectionId} {before : List Departure} {exits : List (Option ℕ)}
+    (scanned : IsScanned n q values last taken before exits) (rest : List Departure) (e : Departure) (popped : before ≡ rest ++ e ∷ []) where
   pub scanned_is_next : IsNext n (Known (Late n last) taken) e.id.0
   scanned_is_next = next_popped n good last taken before rest e popped scanned.rest
 
@@ -112,13 +112,13 @@ module _ {n : NetworkModel} (good : IsValid n) {q : Query} {values : List (Optio
 
 -- ---- and while a check runs: the values that were scanned are kept to
 
-pub record CheckState (n : NetworkModel) (q : Query) (values : List (Option ℕ)) (last : ℕ) (left : List Entry) (exits : List (Option ℕ)) : Type 0 where
+pub record CheckState (n : NetworkModel) (q : Query) (values : List (Option ℕ)) (last : ℕ) (left : List Departure) (exits : List (Option ℕ)) : Type 0 where
   pub taken : List ConnectionId
   pub scanned : IsScanned n q values last taken left exits
   pub kept : (c : ℕ) → c < count n → Known (Late n last) taken c → IsTrue (connection n c).can_board → IsLocal n q values c
 
 module _ {n : NetworkModel} (good : IsValid n) {q : Query} {values : List (Option ℕ)} {last : ℕ} where
-  pub check_first : {entries : List Entry} {exits : List (Option ℕ)} → q.deadline.0 ≤ last → NoneAfter n values last → AreDepartingBy n last entries
+  pub check_first : {entries : List Departure} {exits : List (Option ℕ)} → q.deadline.0 ≤ last → NoneAfter n values last → AreDepartingBy n last entries
       → ((c : ℕ) → c < count n → run_of n c < length exits) → ((run : ℕ) → exit_of exits run ≡ None) → CheckState n q values last entries exits
   check_first {entries} {exits} deadline none_after are runs empty = record {
     taken = [];
@@ -126,7 +126,7 @@ module _ {n : NetworkModel} (good : IsValid n) {q : Query} {values : List (Optio
     kept = λ c there late board j v leg via. absurd (none_rides n good q values last deadline none_after c v late (j, leg, via));
   }
 
-  module _ {before : List Entry} {exits : List (Option ℕ)} (state : CheckState n q values last before exits) (rest : List Entry) (e : Entry) (popped : before ≡ rest ++ e ∷ []) where
+  module _ {before : List Departure} {exits : List (Option ℕ)} (state : CheckState n q values last before exits) (rest : List Departure) (e : Departure) (popped : before ≡ rest ++ e ∷ []) where
     pub check_there : e.id.0 < count n
     check_there = (scanned_is_next good state.scanned rest e popped).there
 
@@ -153,7 +153,7 @@ module _ {n : NetworkModel} (good : IsValid n) {q : Query} {values : List (Optio
         last = λ d there board_d after. state.kept d there ((scanned_is_next good state.scanned rest e popped).after d there after) board_d;
       }
 
-  pub check_last : {left : List Entry} {exits : List (Option ℕ)} → CheckState n q values last left exits → length left ≡ 0 → IsAccepted n q values
+  pub check_last : {left : List Departure} {exits : List (Option ℕ)} → CheckState n q values last left exits → length left ≡ 0 → IsAccepted n q values
   check_last {left} state none c there board = state.kept c there (all_taken n good last state.taken left none state.scanned.rest c there) board
 
 -- ---- values that agree for all connections that depart after a moment have the same least values from then on
@@ -203,7 +203,7 @@ module _ (n : NetworkModel) (good : IsValid n) (q : Query) (last : ℕ) (taken :
         let later = known_later c there known in
         (ride.0, ride.1, via_agrees n good q (dep_of n id.0) a b agree ride.0 v (omega arith) ride.2)) values others agree
 
-    pub scanned_agrees : {left : List Entry} {exits : List (Option ℕ)} → IsScanned n q values last (id ∷ taken) left exits → IsScanned n q others last (id ∷ taken) left exits
+    pub scanned_agrees : {left : List Departure} {exits : List (Option ℕ)} → IsScanned n q values last (id ∷ taken) left exits → IsScanned n q others last (id ∷ taken) left exits
     scanned_agrees {left} {exits} scanned = record {
       rest = scanned.rest;
       runs = scanned.runs;

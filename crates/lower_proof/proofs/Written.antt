@@ -7,6 +7,7 @@ use Rattle.plan_model.specs.NetworkModel.{NetworkModel}
 use Rattle.plan_model.specs.Network.{count, dep_of, IsValid, connection, arr_of, run_of}
 use Rattle.plan_model.specs.Strategy.{IsBoardable}
 use Rattle.lower_proof.specs.declared.board.Entry.{Entry}
+use Rattle.plan_model.specs.declared.departure.Departure.{Departure}
 use Rattle.lower_proof.specs.Certificates.{bound_of, IsLeastOf, Offers, IsLeastAt, IsTight}
 use Rattle.lower_proof.specs.Boards.{ShownBoard, entry_at, AreEntries, FrontValue, ValueInTime, least_of}
 use Rattle.lower_proof.specs.Departures.{NoneAfter, AreDepartingBy}
@@ -93,7 +94,7 @@ none_given false best never = refl
 abbrev HasOwn : NetworkModel → Query → List (Option ℕ) → ℕ → Option ℕ → Type 0
 HasOwn n q values c own = (IsTrue (connection n c).can_board → IsLeastOf (Rides n q values c) own) × ((IsTrue (connection n c).can_board → ⊥) → own ≡ None)
 
-pub record Written (n : NetworkModel) (q : Query) (last : ℕ) (left : List Entry) (exits values : List (Option ℕ)) (boards : List ShownBoard) : Type 0 where
+pub record Written (n : NetworkModel) (q : Query) (last : ℕ) (left : List Departure) (exits values : List (Option ℕ)) (boards : List ShownBoard) : Type 0 where
   pub taken : List ConnectionId
   pub scanned : IsScanned n q values last taken left exits
   pub as_many : length values ≡ count n
@@ -103,7 +104,7 @@ pub record Written (n : NetworkModel) (q : Query) (last : ℕ) (left : List Entr
   pub late : (m : ℕ) → ((c : ℕ) → c < count n → Known (Late n last) taken c → m ≤ dep_of n c) → AllLate m boards
 
 module _ {n : NetworkModel} (good : IsValid n) {q : Query} {last : ℕ} where
-  pub written_first : {entries : List Entry} {exits values : List (Option ℕ)} {boards : List ShownBoard} → q.deadline.0 ≤ last → length values ≡ count n → AreDepartingBy n last entries
+  pub written_first : {entries : List Departure} {exits values : List (Option ℕ)} {boards : List ShownBoard} → q.deadline.0 ≤ last → length values ≡ count n → AreDepartingBy n last entries
       → ((c : ℕ) → c < count n → run_of n c < length exits) → ((run : ℕ) → exit_of exits run ≡ None) → AreBoards n last values boards → ((m : ℕ) → AllLate m boards)
       → Written n q last entries exits values boards
   written_first {entries} {exits} {values} deadline as_many are runs empty right late = record {
@@ -119,7 +120,7 @@ module _ {n : NetworkModel} (good : IsValid n) {q : Query} {last : ℕ} where
     late = λ m all. late m;
   }
 
-  module _ {before : List Entry} {exits values : List (Option ℕ)} {boards : List ShownBoard} (written : Written n q last before exits values boards) (rest : List Entry) (e : Entry)
+  module _ {before : List Departure} {exits values : List (Option ℕ)} {boards : List ShownBoard} (written : Written n q last before exits values boards) (rest : List Departure) (e : Departure)
       (popped : before ≡ rest ++ e ∷ []) where
     pub written_there : e.id.0 < count n
     written_there = (scanned_is_next good written.scanned rest e popped).there
@@ -159,5 +160,5 @@ module _ {n : NetworkModel} (good : IsValid n) {q : Query} {last : ℕ} where
               late m (omega arith) (written.late m (λ c there known. all c there (inr known)));
         }
 
-  pub written_last : {left : List Entry} {exits values : List (Option ℕ)} {boards : List ShownBoard} → Written n q last left exits values boards → length left ≡ 0 → IsTight n q values
+  pub written_last : {left : List Departure} {exits values : List (Option ℕ)} {boards : List ShownBoard} → Written n q last left exits values boards → length left ≡ 0 → IsTight n q values
   written_last {left} written none = grind (arith, all_taken)

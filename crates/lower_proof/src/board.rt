@@ -10,7 +10,7 @@ use plan_model::{ConnectionId, Moment, Network, NoMemory};
 use std::alloc::Global;
 use std::marker::Model;
 
-/// A connection, by a moment: that of its departure, or the latest arrival that is in time to board it.
+/// A connection, by the latest arrival that is in time to board it.
 #[derive(Clone, Copy, PartialEq, Eq, PartialOrd, Ord)]
 pub struct Entry {
     pub by: Moment,

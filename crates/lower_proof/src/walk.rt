@@ -3,8 +3,7 @@ ghost use Rattle.std.specs.Prelude.{◌≡◌, ◌<◌, ◌≤◌, length, IfOk,
 ghost use Rattle.plan_model.specs.Network.{count, IsValid};
 ghost use Rattle.lower_proof.specs.Departures.{NoneAfter, AreDepartingBy};
 
-use crate::board::Entry;
-use plan_model::{ConnectionId, Moment, Network, NoMemory};
+use plan_model::{ConnectionId, Departure, Moment, Network, NoMemory, in_scan_order};
 use std::alloc::Global;
 
 /// The later of a moment and a departure, or the moment itself if the connection has no value.
@@ -33,18 +32,20 @@ pub fn last_departure(values: &[Option<u64>], network: &Network, deadline: Momen
 }
 
 /// The connections that depart by a moment, in the scan order.
-pub fn departures_by(alloc: Global, network: &Network, last: Moment) -> Result<Vec<Entry>, NoMemory>
+pub fn departures_by(
+    alloc: Global,
+    network: &Network,
+    last: Moment,
+) -> Result<Vec<Departure>, NoMemory>
     ensures valid { IfOk result (λ _. IsValid network.now) }
     ensures departures { IfOk result (λ departures. AreDepartingBy network.now last.0 departures.items) }
 {
     let mut departures = Vec::new(alloc);
     for i in 0..network.count() {
-        let id = ConnectionId(i);
-        let by = network.get(id).dep;
-        if by.0 <= last.0 {
-            departures.push(Entry { by, id })?;
+        let departure = Departure::new(network, ConnectionId(i));
+        if departure.dep.0 <= last.0 {
+            departures.push(departure)?;
         }
     }
-    departures.sort_unstable();
-    Ok(departures)
+    Ok(in_scan_order(departures))
 }
