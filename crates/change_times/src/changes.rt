@@ -210,8 +210,8 @@ fn changes_of(alloc: Global, feed: &Feed, loaded: &Loaded) -> Result<Changes, Fe
 
 impl Changes {
     /// Reads `transfers.txt` of the feed in this folder, or answers the first of its faults. The table may be absent. The
-    /// faults are `Read`, which comes only if opening or reading the file failed, `TooLong`, `TooManyRows` and
-    /// `MissingColumn`; then `BadField`, and `UnknownKey` of a stop that the feed does not have, by line, and in a line by
+    /// faults come in this order: those of `read_table`; `MissingColumn`; `BadField`, and `UnknownKey` of a stop that the
+    /// feed does not have, by line, and in a line by
     /// `transfer_type`, `from_stop_id`, `to_stop_id` and `min_transfer_time`. The last three are looked at only in a row of
     /// type 2 that names no route and no trip.
     pub fn read<F: Files>(

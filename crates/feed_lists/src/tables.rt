@@ -13,7 +13,9 @@ use file_ports::Files;
 use std::alloc::Global;
 use table_files::read_required;
 
-/// The stops of the feed in this folder, or the first fault of `stops.txt`: by kind, then by line, then by column.
+/// The stops of the feed in this folder, or the first fault of `stops.txt`. The faults come in this order: those of
+/// `read_required`; `MissingColumn`; `BadField`, by line and column; `DuplicateKey`, by line; `UnknownKey` of a
+/// `parent_station` that is no stop, by line.
 pub fn load_stops<F: Files>(
     alloc: Global,
     files: &mut F,
@@ -32,7 +34,8 @@ pub fn load_stops<F: Files>(
     Stops::read(alloc, &rows)
 }
 
-/// The routes of the feed in this folder, or the first fault of `routes.txt`: by kind, then by line, then by column.
+/// The routes of the feed in this folder, or the first fault of `routes.txt`. The faults come in this order: those of
+/// `read_required`; `MissingColumn`; `BadField`, by line and column; `DuplicateKey`, by line.
 pub fn load_routes<F: Files>(
     alloc: Global,
     files: &mut F,
@@ -51,8 +54,9 @@ pub fn load_routes<F: Files>(
     Routes::read(alloc, &rows)
 }
 
-/// The trips of the feed in this folder, each with one of these routes, or the first fault of `trips.txt`: by kind, then by
-/// line, then by column.
+/// The trips of the feed in this folder, each with one of these routes, or the first fault of `trips.txt`. The faults come
+/// in this order: those of `read_required`; `MissingColumn`; `BadField`, and `UnknownKey` of a route that is none of these,
+/// by line and column; `DuplicateKey`, by line.
 pub fn load_trips<F: Files>(
     alloc: Global,
     files: &mut F,

@@ -51,8 +51,8 @@ fn read_rest<F: Files>(alloc: Global, files: &mut F, most: usize) -> Result<Vec<
     Err(LoadFault::TooLong)
 }
 
-/// Loads the whole file with this path; `None` if it is absent. The file may have at most `most` bytes: `Read` comes only if
-/// the count of faults rose, and `TooLong` if the file has more bytes than that.
+/// Loads the whole file with this path; `None` if it is absent. `Read` comes only if the count of faults rose, and `TooLong`
+/// if the file has more than `most` bytes.
 pub fn load<F: Files>(
     alloc: Global,
     files: &mut F,
@@ -86,7 +86,7 @@ pub fn load<F: Files>(
     }
 }
 
-/// Writes all of these bytes, or a front of them if the sink fails.
+/// Writes all of these bytes. `Failed` comes only if the sink's count of faults rose; then it has taken a front of them.
 pub fn put_all<S: Sink>(sink: &mut S, bytes: &[u8]) -> Result<(), Failed>
     ensures ok { OnOk result (Appends (S.written sink.old) (S.written sink.new) bytes.now) }
     ensures err { OnErr result (AppendsFront (S.written sink.old) (S.written sink.new) bytes.now) }

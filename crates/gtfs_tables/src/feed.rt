@@ -48,9 +48,9 @@ impl Feed {
     ghost use Rattle.gtfs_tables.specs.TripRepeats.{AreRepeating, IsSmall};
     ghost use Rattle.gtfs_tables.specs.Timed.{IsTimed};
 
-    /// Reads the tables `stops.txt`, `routes.txt`, `trips.txt`, `stop_times.txt` and `frequencies.txt` of a folder, or
-    /// the first of their faults: by table, then by kind, then by line, then by column. The files themselves stay as
-    /// they are.
+    /// Reads the tables `stops.txt`, `routes.txt`, `trips.txt`, `stop_times.txt` and `frequencies.txt` of a folder, in this
+    /// order, or the first of their faults. `load_stops`, `load_routes`, `load_trips`, `read_stop_times` and
+    /// `load_frequencies` say which faults a table may have and in which order they come. The files stay as they are.
     pub fn read<F: Files>(
         alloc: Global,
         files: &mut F,

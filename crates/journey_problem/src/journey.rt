@@ -14,7 +14,10 @@ use file_ports::Files;
 use journey_model::{Fault, Problem};
 use std::alloc::Global;
 
-/// The problem of a journey; or the first fault of its files, of its stops or of the window.
+/// The problem of a journey, or the first fault. The faults come in this order: those of the cut file, or of the tables of the
+/// feed; those of the delay file; `UnknownStop` of `--from` and then of `--to`; and over a feed `Limit`, of the
+/// connections of its window and then of their entries. `Read` comes in the turn of its file, and only if opening or reading
+/// that file failed.
 pub fn problem_of<F: Files>(
     alloc: Global,
     files: &mut F,

@@ -58,8 +58,9 @@ fn period_runs(periods: &[Period], service: u32, day: i32) -> bool
 
 impl Services {
     /// Reads `calendar.txt` and then `calendar_dates.txt` of the feed in this folder, or answers the first of their faults.
-    /// Each may be absent or without a record, but not both: that is `MissingTable` of `calendar.txt`, which comes after the
-    /// faults of either. `Read` comes only if opening or reading one of them failed.
+    /// The faults of either come in this order: those of `read_table`; `MissingColumn`; `BadField`, by line and column; and of
+    /// `calendar.txt` alone `DuplicateKey`, by line. Each may be absent or without a record, but not both: that is
+    /// `MissingTable` of `calendar.txt`, which comes after the faults of either.
     pub fn read<F: Files>(
         alloc: Global,
         files: &mut F,

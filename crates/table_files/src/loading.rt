@@ -62,8 +62,8 @@ fn records_of(
     }
 }
 
-/// Reads the file of a table in this folder; `None` if there is no such file. Its faults are `Read`, `TooLong` and
-/// `NoMemory`.
+/// Reads the file of a table in this folder; `None` if there is no such file. `Read` comes only if opening or reading it
+/// failed, and `TooLong` if it has more than `limits.bytes` bytes.
 pub fn read_file<F: Files>(
     alloc: Global,
     files: &mut F,
@@ -91,7 +91,8 @@ pub fn read_file<F: Files>(
     }
 }
 
-/// Reads a table of the feed in this folder. Its faults are `Read`, `TooLong`, `TooManyRows` and `NoMemory`.
+/// Reads a table of the feed in this folder. `Read` and `TooLong` are those of `read_file`. `TooManyRows` comes if there are
+/// more records after the header than the limits allow for this table, and has their number.
 pub fn read_table<F: Files>(
     alloc: Global,
     files: &mut F,

@@ -11,8 +11,8 @@ use csv_rows::{Column, FeedFault, Limits, Rows, Table};
 use file_ports::Files;
 use std::alloc::Global;
 
-/// The records of a table that must be present. One that is absent is `MissingTable`, and one whose file has no record is
-/// `MissingColumn` of its first column. Its other faults are those of `read_table`.
+/// The records of a table that must be present. `MissingTable` comes if there is no such file, and `MissingColumn` of this
+/// first column if the file has no record. The other faults are those of `read_table`.
 pub fn read_required<F: Files>(
     alloc: Global,
     files: &mut F,

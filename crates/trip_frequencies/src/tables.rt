@@ -15,8 +15,10 @@ use file_ports::Files;
 use std::alloc::Global;
 use table_files::read_table;
 
-/// The rows of `frequencies.txt` of the feed in this folder, by trip, or the first fault of the table: by kind, then by line,
-/// then by column. A table that is absent, or has no record, has no row.
+/// The rows of `frequencies.txt` of the feed in this folder, by trip, or the first fault of the table. A table that is absent,
+/// or has no record, has no row. The faults come in this order: those of `read_table`; `MissingColumn`; `BadField`, and
+/// `UnknownKey` of a trip that is none of these, by line and column; `DuplicateKey` of a row with the trip and the start of
+/// an earlier one, by line.
 pub fn load_frequencies<F: Files>(
     alloc: Global,
     files: &mut F,
