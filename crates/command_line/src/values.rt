@@ -154,8 +154,8 @@ fn delays_of(alloc: Global, text: &str) -> Result<Vec<u32>, AllocError>
     text.split(',').map(|piece| delay_in(piece)).collect(alloc)
 }
 
-/// The delays of a text, in seconds: none, or those that are joined by commas; none too where
-/// it has not their form.
+/// The delays of a text, in seconds: those that commas join. There are none if the text is `none`, or if it does not have
+/// their form.
 pub fn read_late(alloc: Global, text: &str) -> Result<Vec<u32>, AllocError>
     ensures { IfOk result (λ delays. delays.items ≡ late_in text.now) }
 {

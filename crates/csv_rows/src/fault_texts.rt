@@ -6,7 +6,7 @@ ghost use Rattle.csv_rows.specs.FaultTexts.{at_line, too_many_rows};
 use crate::feed_tables::FeedFault;
 use std::fmt;
 
-/// Writes what is wrong at a line of a file.
+/// Writes what is wrong at a line of a file. An error is one of the formatter.
 pub fn at_line<W: fmt::Write>(
     f: &mut fmt::Formatter<W>,
     file: &str,
@@ -18,7 +18,7 @@ pub fn at_line<W: fmt::Write>(
     write!(f, "{file} line {line}: {what}")
 }
 
-/// Writes what is wrong with a column at a line of a file.
+/// Writes what is wrong with a column at a line of a file. An error is one of the formatter.
 pub fn at_line_of<W: fmt::Write>(
     f: &mut fmt::Formatter<W>,
     file: &str,
@@ -32,7 +32,7 @@ pub fn at_line_of<W: fmt::Write>(
     write!(f, "{file} line {line}: {what} {column}")
 }
 
-/// Writes that a file has too many rows.
+/// Writes that a file has too many rows. An error is one of the formatter.
 pub fn too_many_rows<W: fmt::Write>(
     f: &mut fmt::Formatter<W>,
     file: &str,

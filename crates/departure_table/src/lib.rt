@@ -63,7 +63,8 @@ fn row_from(
 
 /// The departures that are taken from the place to which the source of the query leads in a second,
 /// from the first moment to the last one: each row's leg is the best to take for a traveller who sets out by
-/// its moment and too late for the row before. Only the last row may be by the last moment or later.
+/// its moment and too late for the row before. Only the last row may be by the last moment or later. There is no row if
+/// nobody is safe from the first moment on, or if that is after the last one.
 pub fn table(
     alloc: Global,
     scanned: &Scanned<MeanSpan>,

@@ -199,8 +199,8 @@ fn latest_answer(alloc: Global, asked: &QueryUntil, moment: Moment) -> Result<An
     Ok(Answer { report, text })
 }
 
-/// The departures of a journey, up to a last moment. `NoSafe` comes exactly where nobody who sets out at
-/// the start is safe.
+/// The departures of a journey, up to a last moment. `NoSafe` comes exactly if nobody who sets out at the
+/// start is safe.
 pub fn departures_over(
     alloc: Global,
     problem: &Problem,
@@ -226,8 +226,8 @@ pub fn departures_over(
     Ok(answer)
 }
 
-/// The latest moment at which one can leave on a journey and be sure to arrive by the deadline. `NoSafe`
-/// comes exactly where there is none.
+/// The latest moment at which one can leave on a journey and be sure to arrive by the deadline. `NoSafe` comes exactly if
+/// there is none.
 pub fn latest_over(alloc: Global, problem: &Problem, start: Start, until: Moment) -> Answered
     requires { IsLater start.moment.0 until.0 }
     ensures answer { IfOk result (λ a. AnswersLatest problem.now

@@ -79,9 +79,10 @@ pub enum Fault {
     Replay(ReplayFault),
     /// The proof file is faulty.
     ProofFile(ProofFault),
-    /// The certificate fails at this connection, whose value is too great.
+    /// The certificate fails at this connection, whose value is too great or missing.
     ProofFails(ConnectionId),
-    /// The graph is not safe: who follows it may be stuck or too late at this place, since this moment.
+    /// The graph is not safe: a traveller who follows it may be stuck at this place at this moment, or arrive there then, at
+    /// the target, after the deadline.
     Unsafe(PlaceId, Moment),
     /// The answer cannot be written.
     Write,

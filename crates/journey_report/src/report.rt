@@ -22,17 +22,17 @@ pub struct Status(pub u8);
 pub struct Report {
     /// The number that the process ends with.
     pub status: Status,
-    /// The journey and its deadline.
+    /// The journey and its deadline: of `replay` and `check` that of the file.
     pub query: Option<Query>,
-    /// The least worst arrival.
+    /// The least worst arrival, of `safe`, `expand`, `plan`, `certify`, `punctual` and `sample`.
     pub worst: Option<Moment>,
     /// The decision graph by ride, of `expand`.
     pub expanded: Option<ExpandedGraph>,
-    /// The decision graph by place: of `plan` and of `sample` the one that was
-    /// found, and of `replay` the one that was followed.
+    /// The decision graph by place: of `plan`, `punctual` and `sample` the one that was found, and of `replay` and `check`
+    /// that of the graph file.
     pub graph: Option<PlanGraph>,
-    /// Bounds on the expected arrival of the graph and on the least of all safe strategies, in
-    /// nanoseconds.
+    /// Bounds on the expected arrival of the graph, in nanoseconds since 1970-01-01. Those of `expand`, `plan` and `sample`
+    /// enclose the least of all safe strategies too; those of `punctual` and `check` are about the graph alone.
     pub bounds: Option<Span>,
     /// The trip by the graph, of `replay`.
     pub trace: Option<Trace>,
@@ -40,9 +40,9 @@ pub struct Report {
     pub connections: Option<u32>,
     /// The certificate: of `certify` the one that was made, and of `check` the one that holds.
     pub proof: Option<LowerBounds>,
-    /// The certificate's least value at the start, in nanoseconds, of `check`.
+    /// The certificate's least value at the start, in nanoseconds since 1970-01-01, of `check`; `None` if it has none.
     pub least: Option<u64>,
-    /// Bounds on the chance of an arrival after the promised moment, of `punctual`.
+    /// Bounds on the chance of an arrival after the promised moment, of `punctual`, in units of 10 to the -18.
     pub chance: Option<LateChance>,
     /// The departures up to a last moment, of `departures`.
     pub departures: Option<List<DepartureRow>>,

@@ -384,15 +384,15 @@ fn reserve_kids<V: Score>(alloc: Global) -> Result<KidValues<V>, NoMemory> {
 }
 
 impl<V: Score> Scanned<V> {
-    /// The start leg with its value; none where no strategy is safe.
+    /// The start leg with its value; `None` if no strategy is safe.
     pub fn start(&self) -> Option<(V, Leg)>
         ensures { result ≡ self.now.start }
     {
         self.start
     }
 
-    /// The leg to take after an arrival at a place other than the target, with its value; none where
-    /// no strategy is safe from there, as where there is no such place.
+    /// The leg to take after an arrival at a place other than the target, with its value; `None` if no strategy is safe from
+    /// there, or if there is no such place.
     pub fn choice(&self, place: PlaceId, arrival: Moment) -> Option<(V, Leg)>
         ensures { result ≡ choice_of self.now place.0 arrival.0 }
     {
@@ -518,8 +518,8 @@ fn leg_value<V: Score>(start: Option<(V, Leg)>) -> Option<V>
     Some(value)
 }
 
-/// The value of the best safe strategy from the start, by the same scan; none where no strategy is
-/// safe. The tables come back empty, for a further scan. The order is used up.
+/// The value of the best safe strategy from the start, by the same scan; `None` if no strategy is safe. The tables come back
+/// empty, for a further scan. The order is used up.
 pub fn start_value<V: Score, B: BackwardOrder>(
     tables: ScanTables<V>,
     network: &Network,

@@ -23,9 +23,9 @@ pub struct StopRow {
     pub stop: u32,
     /// The place of the stop.
     pub place: PlaceId,
-    /// When the trip arrives.
+    /// When the trip arrives, in seconds of the service day.
     pub arrival: u32,
-    /// When the trip departs.
+    /// When the trip departs, in seconds of the service day.
     pub departure: u32,
     /// Whether one may board.
     pub can_board: bool,
