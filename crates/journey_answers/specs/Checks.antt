@@ -21,6 +21,6 @@ pub record IsHeld (p : Problem) (found : Findings) (text : List ℕ) (query : Qu
   pub found_is : found ≡ check_findings query proof least
   pub text_is : text ≡ holds_text (place_name p.timetable.names p.source.0) (place_name p.timetable.names p.target.0) query least
 
--- the fault is that a certificate fails, and at the last connection of the scan order whose value is too great
+-- the fault is that a certificate fails, and at the last connection of the scan order that can be boarded and whose value is too great or missing
 abbrev pub IsBroken : Problem → Fault → Query → LowerBounds → Type 0
 IsBroken p fault query proof = (connection : ConnectionId) × (fault ≡ ProofFails connection) × IsLastFault p.timetable.network query proof.values connection.0

@@ -86,7 +86,7 @@ fn check_graph_over<F: Files>(
 }
 
 /// That the certificate of a file holds; or the first fault of the file; or `ProofFails`, with the last connection of
-/// the scan order whose value is too great or missing.
+/// the scan order that can be boarded and whose value is too great or missing.
 fn check_certificate_over<F: Files>(
     alloc: Global,
     files: &mut F,
