@@ -175,11 +175,11 @@ fn network_of(
 /// by it, from its start on, each headway later and before its end; the run leaves the first kept row then, and its other
 /// times are as much sooner or later. It has no other run. Runs are numbered by service day, position of the trip, departure
 /// from the first kept row and line of the row of frequencies. The name of a run is its service date as YYYYMMDD, a colon and
-/// the id of the trip; where a row of frequencies starts it, an at sign, its departure from the first kept row in seconds of
+/// the id of the trip; if a row of frequencies starts it, an at sign, its departure from the first kept row in seconds of
 /// the service day, a point and the line of the row come before the colon. The name of a place is the id of its stop. The
 /// change seconds and the links are those of the changes.
-/// `TooMany` carries the count of all connections, and comes where it passes `limits.connections`; else `TooManyEntries`
-/// carries that of the pairs of a connection and a way into the place that it leaves, and comes where it passes
+/// `TooMany` carries the count of all connections, and comes if it exceeds `limits.connections`; otherwise `TooManyEntries`
+/// carries that of the pairs of a connection and a way into the place that it leaves, and comes if it exceeds
 /// `limits.entries`. Both are counted before anything is made.
 pub fn cut(
     alloc: Global,

@@ -31,7 +31,7 @@ pub(crate) fn read_class(text: &[u8]) -> Option<Option<u16>>
     }
 }
 
-/// 0 or 1, and 1 where the field is empty.
+/// 0 or 1, and 1 if the field is empty.
 pub(crate) fn read_flag(text: &[u8]) -> Option<bool>
     ensures { result ≡ flag_in text.now }
 {

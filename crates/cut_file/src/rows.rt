@@ -171,7 +171,7 @@ fn numbered<'a>(
     })
 }
 
-/// Takes the rows, where each is of its form, and the names of their numbers.
+/// Takes the rows, if each is of its form, and the names of their numbers.
 fn take_rows<'a>(
     table: &CutRows<'a>,
     names: &mut Numbering<'a>,
@@ -201,7 +201,7 @@ fn take_rows<'a>(
     Ok(())
 }
 
-/// The rows, where each is of its form.
+/// The rows, if each is of its form.
 pub(crate) fn read_rows(alloc: Global, table: &CutRows<'_>) -> Result<NumberedRows, CutFault>
     ensures none { OnOk result (first_below (bad_field table.now.rows.now) (row_count table.now.rows.now) ≡ None) }
     ensures size { IfOk result (λ cut. length cut.rows.items ≡ row_count table.now.rows.now) }

@@ -169,7 +169,7 @@ impl<'a> Reading<'a> {
 }
 
 impl<'a> ReadRows<'a> {
-    /// The outcomes of a class alone, none if it is not named.
+    /// The outcomes of a class alone; none if it is not named.
     pub(crate) fn class_rows(&self, class: Option<u16>) -> &[Outcome]
         ensures { result.now ≡ read_outcomes self.now.groups self.now.rows.items (of_class class) }
     {

@@ -100,7 +100,7 @@ fn scan_from_added(alloc: Global, asked: &QueryUntil) -> Result<FromAdded, NoMem
     })
 }
 
-/// The departures of a query between two places, up to a last moment; no row where nobody who sets out
+/// The departures of a query between two places, up to a last moment; no row if nobody who sets out
 /// at the start is safe.
 fn rows_of(alloc: Global, asked: &QueryUntil, last: Moment) -> Result<List<DepartureRow>, NoMemory>
     requires { asked.now.query.source.0 ≢ asked.now.query.target.0 }
@@ -121,7 +121,7 @@ fn rows_of(alloc: Global, asked: &QueryUntil, last: Moment) -> Result<List<Depar
     Ok(rows)
 }
 
-/// The departures of a query, up to a last moment; none where nobody who sets out at the start is safe.
+/// The departures of a query, up to a last moment; `None` if nobody who sets out at the start is safe.
 fn departures_of(
     alloc: Global,
     asked: &QueryUntil,

@@ -17,7 +17,7 @@ use printed_rows::put_row;
 use std::alloc::Global;
 use trip_replay::{Ridden, Trace};
 
-/// A row of fields, quoted where they need it, with its line end.
+/// A row of fields, each quoted if it needs it, with its line end.
 pub(crate) fn row(alloc: Global, fields: &[&[u8]]) -> Result<Vec<u8>, NoMemory>
     ensures { IfOk result (λ text.
         text.items ≡ row_of_fields (map (λ field. field.now) fields.now)) }
@@ -203,7 +203,7 @@ pub fn sample_text(
     )
 }
 
-/// A least value of a certificate, where it has one.
+/// The least value of a certificate, or that it has none.
 fn least_text(alloc: Global, least: Option<u64>) -> Result<Vec<u8>, NoMemory>
     ensures { IfOk result (λ text. text.items ≡ least_text least) }
 {

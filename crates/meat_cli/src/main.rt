@@ -11,8 +11,8 @@ use std::env::Env;
 use std::io::ErrorKind;
 use std::process::ExitCode;
 
-/// The words after the program's name, or the status that the process ends with: 9 where there is
-/// no memory for them, and 2 where a word is not UTF-8.
+/// The words after the program's name, or the status that the process ends with: 9 if there is
+/// no memory for them, and 2 if a word is not UTF-8.
 fn words(rt: &(impl Env + AllocGlobal)) -> Result<Vec<String>, u8>
     ensures { IfErr result (λ status. (status ≡ 2) ⊎ (status ≡ 9)) }
 {

@@ -134,9 +134,9 @@ fn print_report<O: Sink, E: Sink>(answer: Answer, out: &mut O, err: &mut E) -> R
 }
 
 /// Runs the command that the words ask for, within these limits, none of which is above the standard
-/// one. The report has the answer at status 0 and at status 8, where it could not be written, and else
-/// the fault alone. At status 0 `out` received the whole text of the answer, at status 8 a front of it,
-/// and else nothing; `err` received the line of the fault, or a front of it where `err` failed.
+/// one. The report has the answer at status 0, and at status 8, if it could not be written; otherwise it
+/// has only the fault. At status 0 `out` received the whole text of the answer, at status 8 a front of it,
+/// and otherwise nothing; `err` received the line of the fault, or a front of it if `err` failed.
 pub fn run_limited<F: Files, O: Sink, E: Sink>(
     alloc: Global,
     words: &[String],

@@ -34,7 +34,7 @@ use stop_profile::Profile;
 use trip_exit::ExitTable;
 use value_laws::Score;
 
-// The value of what is done after an arrival at a place, where that is safe.
+// The value of what is done after an arrival at a place, if that is safe.
 fn value_after<V: Score>(
     profiles: &[Profile<V>],
     place: PlaceId,
@@ -90,7 +90,7 @@ fn fill_kids<V: Score>(
     true
 }
 
-// Puts a leg into the rows of the place that a way comes from, where it can be boarded by the way.
+// Puts a leg into the rows of the place that a way comes from, if it can be boarded by the way.
 fn put_leg<V: Score>(
     profiles: &mut [Profile<V>],
     target: PlaceId,
@@ -188,7 +188,7 @@ struct KidValues<V> {
     ghost many: { 64 ≤ length values.items },
 }
 
-// The value of leaving a run by a connection, where that is allowed and safe.
+// The value of leaving a run by a connection, if that is allowed and safe.
 fn left_value<V: Score>(profiles: &[Profile<V>], site: &Site, kids: &mut KidValues<V>) -> Option<V>
     ensures { let rows = rows_of_profile profiles.now in
         result ≡ left_by V.scoring site.now.network.now site.now.query.now rows site.now.id.0 }
@@ -205,7 +205,7 @@ fn left_value<V: Score>(profiles: &[Profile<V>], site: &Site, kids: &mut KidValu
     Some(V::blend(row, &kids.values[..row.len()]))
 }
 
-// Offers a connection as an exit of its run, where it has a value.
+// Offers a connection as an exit of its run, if it has a value.
 fn leave<V: Score>(exits: &mut ExitTable<V>, run: RunId, id: ConnectionId, value: Option<V>)
     requires { run.0 < length exits.old }
     ensures exits { (other : ℕ) →

@@ -81,7 +81,7 @@ pub fn latest_ends_as_departures()
         → latest ≡ departures }
 {}
 
-/// `latest` ends with 0 exactly where the least worst arrival, which `safe` prints, is by the deadline, and else with 1.
+/// `latest` ends with 0 exactly if the least worst arrival, which `safe` prints, is by the deadline, and otherwise with 1.
 pub fn latest_ends_by_the_least_worst()
     ensures { (p : Parts) (start until : ℕ) (worst : When) (status : ℕ)
         → IsLeastWorst p.timetable.network p.source.0 p.target.0 start (Some worst) →

@@ -32,7 +32,7 @@ pub fn departure(row: &FrequencyRow, k: u32) -> u32
     row.first + k * row.headway
 }
 
-/// How many runs pass before a moment, where each passes `offset` seconds after it departs.
+/// How many runs pass before a moment, if each passes `offset` seconds after it departs.
 fn passes_before(row: &FrequencyRow, offset: u32, moment: i64) -> u32
     requires headway { 1 ≤ row.now.headway }
     requires times { AreTimes row.now }
@@ -49,7 +49,7 @@ fn passes_before(row: &FrequencyRow, offset: u32, moment: i64) -> u32
     departures_before(row, second as u32)
 }
 
-/// How many runs pass at a moment or before, where each passes `offset` seconds after it departs.
+/// How many runs pass at a moment or before, if each passes `offset` seconds after it departs.
 fn passes_up_to(row: &FrequencyRow, offset: u32, moment: i64) -> u32
     requires headway { 1 ≤ row.now.headway }
     requires times { AreTimes row.now }
@@ -61,7 +61,7 @@ fn passes_up_to(row: &FrequencyRow, offset: u32, moment: i64) -> u32
     passes_before(row, offset, moment + 1)
 }
 
-/// The runs that pass from `low` to `high`, both among them, where each passes `offset` seconds after it departs: those from
+/// The runs that pass from `low` to `high`, both among them, if each passes `offset` seconds after it departs: those from
 /// the first number on, and below the second. Moments are in seconds from the start of the service day. The first is how
 /// many pass before `low`, and the second is how many pass at `high` or before.
 pub fn within(row: &FrequencyRow, offset: u32, low: i64, high: i64) -> (u32, u32)

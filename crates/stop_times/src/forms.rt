@@ -21,7 +21,7 @@ pub(crate) fn read_allows(text: &[u8]) -> Option<bool>
     None
 }
 
-/// A time of the service day, or none where the field is empty.
+/// A time in seconds of the service day, or none if the field is empty.
 pub(crate) fn read_time_or_none(text: &[u8]) -> Option<Option<u32>>
     ensures { result ≡ time_in text.now }
 {

@@ -115,7 +115,7 @@ fn backward(rows: &[StoredRow], before: Option<Key>, row: u32) -> Option<FeedFau
     }
 }
 
-/// The fault of the first kept row whose times go back, where no row is repeated.
+/// The fault of the first kept row whose times go back, if no row is repeated.
 pub(crate) fn first_backward(rows: &[StoredRow], keys: &[Key]) -> Option<FeedFault>
     requires { AreKeysOf true rows.now keys.now }
     ensures { first_below (repeated_time rows.now) (length rows.now) ≡ None

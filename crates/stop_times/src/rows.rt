@@ -33,7 +33,7 @@ pub struct StopRow {
     pub can_exit: bool,
 }
 
-/// A row by the number of its trip and its sequence. It is kept where it has a stop and a time.
+/// A row by the number of its trip and its sequence. It is kept if it has a stop and a time.
 #[derive(Clone, Copy)]
 pub(crate) struct TimedRow {
     pub(crate) trip: u32,
@@ -91,7 +91,7 @@ pub(crate) fn missing_column(columns: TimeColumns) -> Option<FeedFault>
     lack(Table::StopTimes, Column::DepartureTime, columns.departure)
 }
 
-/// The number of a stop, or none where the text is empty.
+/// The number of a stop, or none if the text is empty.
 fn number_of(stops: &TextIndex<'_>, text: &str) -> Option<Option<u32>>
     ensures number { result ≡ stop_number_in stops.now text.now }
     ensures inside { IfSome result (λ o. IfSome o (λ k. k < length stops.now)) }
@@ -105,7 +105,7 @@ fn number_of(stops: &TextIndex<'_>, text: &str) -> Option<Option<u32>>
     }
 }
 
-/// The number of the stop that a field names, or none where it is empty. It is looked up only where it is not the expected one.
+/// The number of the stop that a field names, or none if it is empty. It is looked up only if it is not the expected one.
 fn read_stop_number(
     stops: &TextIndex<'_>,
     line: u64,
@@ -131,7 +131,7 @@ fn read_stop_number(
     }
 }
 
-/// The time of a field, or none where it is empty. It is read only where the field is not one that was read.
+/// The time of a field, or none if it is empty. It is read only if the field is not one that was read.
 fn read_time_beside(text: &[u8], known_text: &[u8], known: Option<u32>) -> Option<Option<u32>>
     requires { time_in known_text.now ≡ Some known }
     ensures { result ≡ time_in text.now }
@@ -153,7 +153,7 @@ fn times_of(arrival: Option<u32>, departure: Option<u32>) -> Option<(u32, u32)>
     }
 }
 
-/// The kept row of a stop and times, where both are there.
+/// The kept row of a stop and times, if both are there.
 fn visit_of(
     places: &[u32],
     stop: Option<u32>,
@@ -192,7 +192,7 @@ pub(crate) struct NamedTrip<'a> {
     trip: u32,
 }
 
-/// The number of the trip that a field names. It is looked up only where the field is not that of a trip that is known.
+/// The number of the trip that a field names. It is looked up only if the field is not that of a trip that is known.
 fn read_trip_number(
     trips: &TextIndex<'_>,
     line: u64,
@@ -220,7 +220,7 @@ fn read_trip_number(
     }
 }
 
-/// The trip of a row, kept for the rows after it: its id and its number, where there was a row.
+/// The trip of a row, kept for the rows after it: its id and its number, if there was a row.
 #[derive(Drop)]
 pub(crate) struct KnownTrip {
     pub(crate) id: Vec<u8>,

@@ -82,7 +82,7 @@ impl StoredRow {
         self.is_kept
     }
 
-    /// When it arrives and departs, where it is kept.
+    /// When it arrives and departs, if it is kept.
     pub(crate) fn times(&self) -> (u32, u32)
         ensures { result ≡ times_in self.now.visit }
     {
@@ -93,7 +93,7 @@ impl StoredRow {
         }
     }
 
-    /// Its stop and times, where it has both.
+    /// Its stop and times, if it has both.
     pub(crate) fn visit(&self) -> Option<StopRow>
         ensures { result ≡ self.now.visit }
     {
@@ -111,7 +111,7 @@ impl StoredRow {
     }
 }
 
-/// What is stored where there is no stop.
+/// What is stored if there is no stop.
 const NO_VISIT: StopRow = StopRow {
     stop: 0,
     place: PlaceId(0),
