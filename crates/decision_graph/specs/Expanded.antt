@@ -20,7 +20,7 @@ use Rattle.decision_graph.specs.GraphValues.{IsBestBy, IsBest}
 abbrev pub IsNoneSafe : NetworkModel → Query → Type 0
 IsNoneSafe network query = (tree : Tree) → IsSafeFor network query tree → ⊥
 
--- the graph unfolds to a best strategy, which is the one that the rules of the scan keep where source and target differ; it has a row for
+-- the graph unfolds to a best strategy, which is the one that the rules of the scan keep if source and target differ; it has a row for
 -- each outcome, every row is picked, and its rides are those that are in the unfolding, each of them
 pub record IsExpandedBy {V : Type 0} (scoring : Scoring V) (network : NetworkModel) (query : Query) (graph : ExpandedGraph) (value : V) : Type 0 where
   pub best : IsBestBy scoring network query (unfold_expanded graph network query) value

@@ -12,7 +12,7 @@ use Rattle.value_laws.specs.Rounded.{rounded_up, rounded_down}
 use Rattle.value_laws.specs.ScoreLaws.{Scoring}
 
 -- the strategy is safe; the value covers it and is below every safe strategy, this one too;
--- its gap is at most the number of connections; where source and target are one place, it is that of having arrived at the start
+-- its gap is at most the number of connections; if source and target are one place, it is that of having arrived at the start
 pub record IsBestBy {V : Type 0} (scoring : Scoring V) (network : NetworkModel) (query : Query) (strategy : Tree) (value : V) : Type 0 where
   pub safe : IsSafeFor network query strategy
   pub covers_own : scoring.covers value strategy
@@ -22,7 +22,7 @@ pub record IsBestBy {V : Type 0} (scoring : Scoring V) (network : NetworkModel) 
 
 -- the strategy is safe; the bounds enclose its expected arrival, and the upper one is that with each mean rounded up, ride by ride; the lower
 -- one is below that of every safe strategy, and at most that with each mean rounded down; they differ by at most one nanosecond for each
--- connection of the network; where source and target are one place, both are the start
+-- connection of the network; if source and target are one place, both are the start
 pub record IsBest (network : NetworkModel) (query : Query) (strategy : Tree) (bounds : Interval) : Type 0 where
   pub safe : IsSafeFor network query strategy
   pub encloses : Encloses bounds.lo bounds.hi strategy

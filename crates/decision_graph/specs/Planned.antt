@@ -11,7 +11,7 @@ use Rattle.value_laws.specs.ScoreLaws.{Scoring}
 use Rattle.meat_scan.specs.Rules.{IsByRules}
 use Rattle.decision_graph.specs.GraphValues.{IsBestBy, IsBest}
 
--- the graph unfolds to a best strategy, which is the one that the rules of the scan keep where source and target differ, and every
+-- the graph unfolds to a best strategy, which is the one that the rules of the scan keep if source and target differ, and every
 -- row of it is picked somewhere on the way
 pub record IsPlannedBy {V : Type 0} (scoring : Scoring V) (network : NetworkModel) (query : Query) (graph : PlanGraph) (value : V) : Type 0 where
   pub best : IsBestBy scoring network query (unfold_plan graph network query) value

@@ -19,11 +19,11 @@ use Rattle.departure_table.specs.declared.DepartureRow.{DepartureRow}
 abbrev pub IsASecondAway : NetworkModel → (place : ℕ) → Type 0
 IsASecondAway network place = (i seconds : ℕ) → i < count network → way_of network place (from_of network i) ≡ Some seconds → seconds ≡ 1
 
--- the tree is safe for who has been at the source since a second before
+-- the tree is safe for a traveller who has been at the source since a second before
 abbrev pub SafeAfter : NetworkModel → Query → ℕ → Tree → Type 0
 SafeAfter network query moment tree = IsSafeAt network query query.source.0 (moment - 1) tree
 
--- the tree is safe for who sets out at a moment or later at a place, with the target and the deadline of the query
+-- the tree is safe for a traveller who sets out at a moment or later at a place, with the target and the deadline of the query
 abbrev pub SafeFrom : NetworkModel → ℕ → Query → ℕ → Tree → Type 0
 SafeFrom m source query moment tree = IsSafeFromStart m query.target.0 (Some query.deadline.0) tree source moment
 
@@ -53,7 +53,7 @@ pub record IsDepartureRow (m : NetworkModel) (row : DepartureRow) : Type 0 where
 abbrev pub first_row_by : ℕ → List DepartureRow → Option DepartureRow
 first_row_by moment rows = find (λ row. nat_le moment row.by.0) rows
 
--- the best of what is safe from each moment on, from a first to a last one: the first row by the moment or later; none exactly where nothing is safe.
+-- the best of what is safe from each moment on, from a first to a last one: the first row by the moment or later; none exactly if nothing is safe.
 -- moments rise, and only the last row may be by the last moment or later
 pub record IsTable (m : NetworkModel) (Safe : ℕ → Tree → Type 0) (first last : ℕ) (rows : List DepartureRow) : Type 0 where
   pub answers : (moment : ℕ) → first ≤ moment → moment ≤ last → MatchOption (first_row_by moment rows) (IsNoneSafeFrom Safe moment) (IsBestFrom m Safe moment)
@@ -61,7 +61,7 @@ pub record IsTable (m : NetworkModel) (Safe : ℕ → Tree → Type 0) (first la
   pub from_first : All (λ row. first ≤ row.by.0) rows
   pub rising : AllPairs (λ a b. (a.by.0 < b.by.0) × (a.by.0 < last)) rows
 
--- the latest moment from a first one on from which something is safe; none where there is none
+-- the latest moment from a first one on from which something is safe; none if there is none
 abbrev pub IsGreatestMoment : (ℕ → Tree → Type 0) → ℕ → Option Moment → Type 0
 IsGreatestMoment Safe first result =
     MatchOption result
@@ -75,7 +75,7 @@ LooksAhead m Safe next found =
     ((moment : ℕ) → next ≤ moment → IsNoneSafeFrom Safe moment)
     (λ row. (next ≤ row.by.0) × (row.by.0 < end_of_arrivals) × IsDepartureRow m row × ((moment : ℕ) → next ≤ moment → moment ≤ row.by.0 → IsBestFrom m Safe moment row))
 
--- the network is that of m with a place more, where the query has its source, and its target is another place of m than the one it leads to
+-- the network is that of m with one more place, at which the query has its source; its target is another place of m than the one that this leads to
 pub record IsExtendedFor (network : NetworkModel) (query : Query) (m : NetworkModel) (source : ℕ) : Type 0 where
   pub extends : IsExtension network m source
   pub valid : IsValid m
@@ -83,7 +83,7 @@ pub record IsExtendedFor (network : NetworkModel) (query : Query) (m : NetworkMo
   pub target_there : query.target.0 < length m.change
   pub away : source ≢ query.target.0
 
--- what the table and the greatest moment say of the extended network, they say of the network itself; the table is empty exactly where
+-- what the table and the greatest moment say of the extended network, they say of the network itself; the table is empty exactly if
 -- nothing is safe from the first moment on
 pub record SaysOfSource (network : NetworkModel) (query : Query) (m : NetworkModel) (source : ℕ) : Type 0 where
   pub second : IsASecondAway network query.source.0

@@ -7,12 +7,12 @@ use Rattle.plan_model.specs.Strategy.{IsLeastWorst}
 use Rattle.departure_table.specs.declared.DepartureRow.{DepartureRow}
 use Rattle.departure_table.specs.Departures.{SafeFrom, IsGreatestMoment, first_row_by}
 
--- no row is by a later moment, and one is by this moment, where the table goes on so far
+-- no row is by a later moment, and one is by this moment, if the table goes on so far
 pub record IsOfLastRow (last : ℕ) (rows : List DepartureRow) (greatest : Moment) : Type 0 where
   pub each : All (λ row. row.by.0 ≤ greatest.0) rows
   pub one : greatest.0 ≤ last → (row : DepartureRow) × (first_row_by greatest.0 rows ≡ Some row) × (row.by.0 ≡ greatest.0)
 
--- there is a greatest moment from a first one on exactly where the least worst arrival from the first one is by the deadline; from
+-- there is a greatest moment from a first one on exactly if the least worst arrival from the first one is by the deadline; from
 -- the greatest moment the least worst arrival is by the deadline, and from each later one after it
 pub record AgreesWithLeastWorst (network : NetworkModel) (source : ℕ) (query : Query) (first : ℕ) : Type 0 where
   pub in_time : (worst : Moment) (result : Option Moment) → IsLeastWorst network source query.target.0 first (Some worst)

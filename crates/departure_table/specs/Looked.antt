@@ -13,7 +13,7 @@ use Rattle.departure_table.specs.declared.DepartureRow.{DepartureRow}
 abbrev pub row_of_choice : NetworkModel → MeanSpan × Leg → DepartureRow
 row_of_choice network choice = record { by = (connection network choice.1.enter.0).dep; bounds = choice.0.0; leg = choice.1 }
 
--- the row for who sets out at a moment or later, by what a scan found
+-- the row for a traveller who sets out at a moment or later, by what a scan found
 abbrev pub row_found : NetworkModel → Query → ScanResult MeanSpan → ℕ → Option DepartureRow
 row_found network query found next = option_map (row_of_choice network) (choice_of found query.source.0 (next - 1))
 

@@ -27,7 +27,7 @@ SafeOf p query = SafeFrom p.timetable.network query.source.0 query
 abbrev pub HasSafeFor : Problem → Query → Type 0
 HasSafeFor p query = (tree : Tree) × IsSafeFor p.timetable.network query tree
 
--- the departures from the start of the query to a last moment, as the rules of the scan give them; none where source and target are one place
+-- the departures from the start of the query to a last moment, as the rules of the scan give them; none if source and target are one place
 pub record AreDepartures (p : Problem) (query : Query) (last : ℕ) (rows : List DepartureRow) : Type 0 where
   pub at_once : query.source.0 ≡ query.target.0 → rows ≡ []
   pub table : query.source.0 ≢ query.target.0 → IsTable p.timetable.network (SafeOf p query) query.start.0 last rows

@@ -26,7 +26,7 @@ replay_as replay.NoMemory = NoMemory
 abbrev pub trip_by : Problem → Head → PlanGraph → List ℕ → Result Trace ReplayFault
 trip_by p head graph late = walk p.timetable.network (unfold_plan graph p.timetable.network head.query) late []
 
--- where the graph unfolds to a safe strategy, the trip is never stuck, and arrives by the deadline
+-- if the graph unfolds to a safe strategy, the trip is never stuck, and arrives by the deadline
 abbrev pub IsSafeTrip : Problem → Head → PlanGraph → Result Trace ReplayFault → Type 0
 IsSafeTrip p head graph trip = IsSafeFor p.timetable.network head.query (unfold_plan graph p.timetable.network head.query) → IsSafeAnswer head.query.deadline.0 trip
 

@@ -25,12 +25,12 @@ FailsText p start text fault =
     (first : ProofFault) × (fault ≡ ProofFile first)
     × IsFaultAfter p.timetable.network p.timetable.names (table_of text) (bounds_in p.timetable.names p.source.0 p.target.0 start (header (table_of text))) first
 
--- that of a file: of its bytes, where they are there, and else in loading them
+-- that of a file: of its bytes, if they are there, and otherwise in loading them
 abbrev pub FailsFile : Problem → ℕ → Result (List ℕ) Fault → Fault → Type 0
 FailsFile p start (Ok text) fault = FailsText p start text fault
 FailsFile p start (Err first) fault = fault ≡ first
 
--- these are the query and the certificate of the certificate file of this path, where the files are known
+-- these are the query and the certificate of the certificate file of this path, if the files are known
 pub record IsCertificateFile (contents : Option FileMap) (limits : Limits) (start : ℕ) (path : List ℕ) (p : Problem) (query : Query) (proof : LowerBounds) : Type 0 where
   pub text : List ℕ
   pub reads : IfSome contents (λ files. bytes_of limits.bytes input.Proof None (file_at files path) ≡ Ok text)
@@ -40,7 +40,7 @@ pub record IsCertificateFile (contents : Option FileMap) (limits : Limits) (star
 abbrev pub InCertificateFile : Option FileMap → Limits → ℕ → List ℕ → Problem → (Query → LowerBounds → Type 0) → Type 0
 InCertificateFile contents limits start path p P = (query : Query) × (proof : LowerBounds) × IsCertificateFile contents limits start path p query proof × P query proof
 
--- the first fault of the certificate file is this one, where no file but that of the fault is unread
+-- the first fault of the certificate file is this one, if no file but that of the fault is unread
 abbrev pub FailsCertificate : Option FileMap → Limits → ℕ → List ℕ → Problem → Fault → Type 0
 FailsCertificate contents limits start path p fault =
     IsOfInput input.Proof fault × IfSome contents (λ files. FailsFile p start (bytes_of limits.bytes input.Proof (unread_input fault) (file_at files path)) fault)

@@ -35,7 +35,7 @@ IsLimitOf timetable CutRows = IsOfCutFile timetable
 IsLimitOf timetable Connections = IsOfFeed timetable
 IsLimitOf timetable Entries = IsOfFeed timetable
 
--- where it is of an input, a timetable or a limit, this is one of a journey over this timetable
+-- if it is of an input, a timetable or a limit, this is one of a journey over this timetable
 abbrev pub IsOfTimetable : TimetableModel → Fault → Type 0
 IsOfTimetable timetable (Words fault) = Unit {0}
 IsOfTimetable timetable (Feed fault) = IsOfFeed timetable

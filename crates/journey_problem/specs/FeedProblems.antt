@@ -61,7 +61,7 @@ IsLaterTableFault limits files folder f fault =
     (calendars_in files folder limits (unread_table fault) ≡ Err fault)
     ⊎ (IsOk (calendars_in files folder limits None) × (transfers_in files folder limits (unread_table fault) f ≡ Err fault))
 
--- the first fault of a folder is this one, where no table but that of the fault is unread: of the tables of the feed, or
+-- the first fault of a folder is this one, if no table but that of the fault is unread: of the tables of the feed, or
 -- else of the later ones
 abbrev pub IsFolderFault : Limits → FileMap → List ℕ → FeedFault → Type 0
 IsFolderFault limits files folder fault =

@@ -46,7 +46,7 @@ abbrev pub bytes_present : ℕ → Input → Option (List ℕ) → Result (List 
 bytes_present most input None = Err (Missing input)
 bytes_present most input (Some bytes) = if nat_lt most (length bytes) then Err (Limit (Bytes input) (most + 1)) else Ok bytes
 
--- the bytes of a file, where at most one file is unread
+-- the bytes of a file, if at most one file is unread
 abbrev pub bytes_of : ℕ → Input → Option Input → Option (List ℕ) → Result (List ℕ) Fault
 bytes_of most input unread file = if is_unread_input unread input then Err (Read input) else bytes_present most input file
 
@@ -59,12 +59,12 @@ with_header headless (header ∷ rows) = Ok (header ∷ rows)
 abbrev pub records_of : ℕ → Input → Fault → Option Input → Option (List ℕ) → Result Records Fault
 records_of most input headless unread file = and_then (bytes_of most input unread file) (λ bytes. with_header headless (table_of bytes))
 
--- the answer is what is wanted: a value where no file is unread, and else the fault that holds first, or that there is no memory
+-- the answer is what is wanted: a value if no file is unread, and otherwise the fault that holds first, or that there is no memory
 abbrev pub Finds : {A B : Type 0} → (A → B) → (Option Input → Result B Fault) → Result A Fault → Type 0
 Finds shown wanted (Ok a) = wanted None ≡ Ok (shown a)
 Finds shown wanted (Err fault) = fault ≢ NoMemory → wanted (unread_input fault) ≡ Err fault
 
--- the files are kept, and `Read` comes only where the count of faults rose, where the files are known that of the input's own path
--- too; and always where it grew
+-- the files are kept, and `Read` comes only if the count of faults rose, and if the files are known only if that of the input's
+-- own path rose too; and always if it grew
 abbrev pub HasCauses : {T : Type 0} (path : Input → Option (List ℕ)) (before now : FilesState) → Result T Fault → Type 0
 HasCauses path before now result = HasCausesOf (λ input. IsErrAnd result (λ fault. fault ≡ Read input)) path before now

@@ -37,7 +37,7 @@ abbrev pub graph_in : Limits → Problem → ℕ → Option Input → Option (Li
 graph_in limits p start unread file =
     and_then (bytes_of limits.bytes input.Graph unread file) (λ bytes. graph_as (graph_of bytes p.timetable.network p.timetable.names p.source.0 p.target.0 start))
 
--- these are the head and the graph of the graph file of this path, where the files are known; the graph fits the network, and
+-- these are the head and the graph of the graph file of this path, if the files are known; the graph fits the network, and
 -- the head is of a journey that starts then
 pub record IsGraphFile (contents : Option FileMap) (limits : Limits) (start : ℕ) (path : List ℕ) (p : Problem) (head : Head) (graph : PlanGraph) : Type 0 where
   pub reads : IfSome contents (λ files. graph_in limits p start None (file_at files path) ≡ Ok (head, graph))
@@ -48,7 +48,7 @@ pub record IsGraphFile (contents : Option FileMap) (limits : Limits) (start : �
 abbrev pub InGraphFile : Option FileMap → Limits → ℕ → List ℕ → Problem → (Head → PlanGraph → Type 0) → Type 0
 InGraphFile contents limits start path p P = (head : Head) × (graph : PlanGraph) × IsGraphFile contents limits start path p head graph × P head graph
 
--- the first fault of the graph file is this one, where no file but that of the fault is unread
+-- the first fault of the graph file is this one, if no file but that of the fault is unread
 abbrev pub FailsGraph : Option FileMap → Limits → ℕ → List ℕ → Problem → Fault → Type 0
 FailsGraph contents limits start path p fault =
     IsOfInput input.Graph fault × IfSome contents (λ files. graph_in limits p start (unread_input fault) (file_at files path) ≡ Err fault)

@@ -15,7 +15,7 @@ HasOneProblem =
     (limits : Limits) (files : FileMap) (j : JourneyModel) (p q : Problem)
     → IsProblem limits files j p → IsProblem limits files j q → p ≡ q
 
--- files of which a problem is made have no fault, but where one fails to be read or there is no memory
+-- files of which a problem is made have no fault, unless one fails to be read or there is no memory
 abbrev pub HasNoFault : Type 0
 HasNoFault =
     (limits : Limits) (files : FileMap) (j : JourneyModel) (p : Problem) (fault : Fault) → IsProblem limits files j p

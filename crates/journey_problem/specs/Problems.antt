@@ -19,7 +19,7 @@ IsProblemOver limits files (FeedFolder folder horizon) j p = IsFeedProblem limit
 abbrev pub IsProblem : Limits → FileMap → JourneyModel → Problem → Type 0
 IsProblem limits files j p = IsProblemOver limits files j.timetable j p
 
--- this is the first fault of the journey's files, where no file but that of the fault is unread
+-- this is the first fault of the journey's files, if no file but that of the fault is unread
 abbrev pub IsProblemFaultOver : Limits → FileMap → TimetableModel → JourneyModel → Fault → Type 0
 IsProblemFaultOver limits files (CutFile path) j fault = cut_problem_fault limits files path j (unread_input fault) ≡ Some fault
 IsProblemFaultOver limits files (FeedFolder folder horizon) j fault = IsFeedProblemFault limits files folder horizon j fault
@@ -27,12 +27,12 @@ IsProblemFaultOver limits files (FeedFolder folder horizon) j fault = IsFeedProb
 abbrev pub IsProblemFault : Limits → FileMap → JourneyModel → Fault → Type 0
 IsProblemFault limits files j fault = fault ≢ NoMemory → IsProblemFaultOver limits files j.timetable j fault
 
--- the files of a journey have no fault, but where one fails to be read or there is no memory
+-- the files of a journey have no fault, unless one fails to be read or there is no memory
 abbrev pub IsFaultless : Limits → FileMap → JourneyModel → Type 0
 IsFaultless limits files j =
     (fault : Fault) → IsUndisturbed (Some fault) → fault ≢ NoMemory → IsProblemFault limits files j fault → ⊥
 
--- the journey's files or its stops have this fault; where the files are known, it is the first
+-- the journey's files or its stops have this fault; if the files are known, it is the first
 abbrev pub FailsBeforeSearch : Option FileMap → Limits → JourneyModel → Fault → Type 0
 FailsBeforeSearch contents limits j fault = IsBeforeSearch j.timetable fault × IfSome contents (λ files. IsProblemFault limits files j fault)
 
@@ -41,6 +41,6 @@ abbrev pub HasTimetable : TimetableModel → JourneyModel → Problem → Type 0
 HasTimetable (CutFile path) j p = HasCutTimetable j p
 HasTimetable (FeedFolder folder horizon) j p = HasFeedTimetable horizon j p
 
--- there is a problem of the journey, where the files are known theirs, of which this holds
+-- there is a problem of the journey, if the files are known theirs, of which this holds
 abbrev pub InProblem : Option FileMap → Limits → JourneyModel → (Problem → Type 0) → Type 0
 InProblem contents limits j P = (p : Problem) × HasTimetable j.timetable j p × IfSome contents (λ files. IsProblem limits files j p) × P p

@@ -79,7 +79,7 @@ FailsAsk contents limits start p (Punctual alpha promise) fault = IsNoSafe p sta
 FailsAsk contents limits start p (Departures until last) fault = FailsDepartures p (query_until p start until) fault
 FailsAsk contents limits start p (Latest until) fault = FailsLatest p (query_until p start until) fault
 
--- the status that it ends with, unless there was no memory, where no file fails to be read and the answer is written
+-- the status that it ends with if no file fails to be read and the answer is written, unless there was no memory
 abbrev pub EndsAsk : Limits → FileMap → ℕ → Problem → AskModel → ℕ → Type 0
 EndsAsk limits files start p (Safe alpha) status = EndsBySafety p start status
 EndsAsk limits files start p (Expand alpha) status = EndsBySafety p start status
@@ -92,7 +92,7 @@ EndsAsk limits files start p (Punctual alpha promise) status = EndsBySafety p st
 EndsAsk limits files start p (Departures until last) status = EndsByDepartures p (query_until p start until) status
 EndsAsk limits files start p (Latest until) status = EndsByLatest p (query_until p start until) status
 
--- why what is asked about a journey has no answer, unless there was no memory, where this timetable is known: it has none over the
+-- why what is asked about a journey has no answer if this timetable is known, unless there was no memory: it has none over the
 -- problem of the journey, whose timetable that is; or it is the first fault of the files of the journey
 abbrev pub FailsJourney : Option FileMap → Limits → JourneyModel → AskModel → Option NamedParts → Fault → Type 0
 FailsJourney contents limits j a known fault =

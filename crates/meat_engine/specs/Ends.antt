@@ -27,42 +27,42 @@ use Rattle.journey_problem.specs.CertificateFiles.{IsCertificateFile, FailsFile}
 abbrev pub HasSafe : NetworkModel → (source target start : ℕ) → Type 0
 HasSafe network source target start = (tree : Tree) × Reaches network source target start tree
 
--- 0 where this holds, and 1 where it does not
+-- 0 if this holds, and 1 if it does not
 abbrev pub EndsBy : Type 0 → ℕ → Type 0
 EndsBy safe status = ((status ≡ 0) × safe) ⊎ ((status ≡ 1) × ¬ safe)
 
--- 0 where some strategy of the problem is safe, and 1 where none is
+-- 0 if some strategy of the problem is safe, and 1 if none is
 abbrev pub EndsBySafety : Problem → ℕ → ℕ → Type 0
 EndsBySafety p start status = EndsBy (HasSafe p.timetable.network p.source.0 p.target.0 start) status
 
--- 0 where the walk has no fault, and 11 where it has one
+-- 0 if the walk has no fault, and 11 if it has one
 abbrev pub EndsByWalk : Result Trace ReplayFault → ℕ → Type 0
 EndsByWalk trip status =
     ((trace : Trace) × (trip ≡ Ok trace) × (status ≡ 0)) ⊎ ((stop : ReplayFault) × (trip ≡ Err stop) × (status ≡ 11))
 
--- where the graph file reads, as the walk by its graph says; and else the status of its fault
+-- if the graph file reads, as the walk by its graph says; and otherwise the status of its fault
 abbrev pub EndsByGraphFile : Limits → FileMap → ℕ → List ℕ → List ℕ → Problem → ℕ → Type 0
 EndsByGraphFile limits files start path late p status =
     ((head : Head) × (graph : PlanGraph) × (graph_in limits p start None (file_at files path) ≡ Ok (head, graph))
     × EndsByWalk (trip_by p head graph late) status)
     ⊎ ((fault : Fault) × (graph_in limits p start None (file_at files path) ≡ Err fault) × (status ≡ status_of (Some fault)))
 
--- 0 where the certificate is accepted, and 13 where it fails at a connection
+-- 0 if the certificate is accepted, and 13 if it fails at a connection
 abbrev pub EndsByVerdict : NetworkModel → Query → List (Option ℕ) → ℕ → Type 0
 EndsByVerdict network query values status =
     (IsAccepted network query values × (status ≡ 0)) ⊎ ((connection : ℕ) × IsLastFault network query values connection × (status ≡ 13))
 
--- where the certificate file reads, as its certificate says; and else the status of its fault
+-- if the certificate file reads, as its certificate says; and otherwise the status of its fault
 abbrev pub EndsByCertificateFile : Limits → FileMap → ℕ → List ℕ → Problem → ℕ → Type 0
 EndsByCertificateFile limits files start path p status =
     ((query : Query) × (proof : LowerBounds) × IsCertificateFile (Some files) limits start path p query proof × EndsByVerdict p.timetable.network query proof.values status)
     ⊎ ((fault : Fault) × FailsFile p start (bytes_of limits.bytes input.Proof None (file_at files path)) fault × (status ≡ status_of (Some fault)))
 
--- 0 where the tree is safe, and 15 where it is not
+-- 0 if the tree is safe, and 15 if it is not
 abbrev pub EndsByTree : NetworkModel → Query → Tree → ℕ → Type 0
 EndsByTree network query tree status = ((status ≡ 0) × IsSafeFor network query tree) ⊎ ((status ≡ 15) × ¬ IsSafeFor network query tree)
 
--- where the graph file reads, as its graph says; and else the status of its fault
+-- if the graph file reads, as its graph says; and otherwise the status of its fault
 abbrev pub EndsByScore : Limits → FileMap → ℕ → List ℕ → Problem → ℕ → Type 0
 EndsByScore limits files start path p status =
     ((head : Head) × (graph : PlanGraph) × (graph_in limits p start None (file_at files path) ≡ Ok (head, graph))
@@ -73,10 +73,10 @@ EndsByScore limits files start path p status =
 abbrev pub HasLater : Problem → Query → Type 0
 HasLater p query = (moment : ℕ) × (tree : Tree) × (query.start.0 ≤ moment) × SafeOf p query moment tree
 
--- 0 where some tree is safe from the first moment, and 1 where none is
+-- 0 if some tree is safe from the first moment, and 1 if none is
 abbrev pub EndsByDepartures : Problem → Query → ℕ → Type 0
 EndsByDepartures p query status = EndsBy (HasSafeFor p query) status
 
--- 0 where some tree is safe from some moment on, and 1 where none is
+-- 0 if some tree is safe from some moment on, and 1 if none is
 abbrev pub EndsByLatest : Problem → Query → ℕ → Type 0
 EndsByLatest p query status = EndsBy (HasLater p query) status

@@ -20,7 +20,7 @@ use Rattle.meat_engine.specs.Asks.{own_paths, no_path, AnswersAsk, FailsJourney}
 use Rattle.journey_report.specs.Findings.{Findings, findings_of, no_findings}
 use Rattle.meat_engine.specs.Samples.{AnswersSample, FailsSample}
 
--- the path of an input of a job, where it has one; a made timetable has none that is read
+-- the path of an input of a job, if it has one; a made timetable has none that is read
 abbrev pub path_in : JobModel → Input → Option (List ℕ)
 path_in (Ask j a) input = path_of j (own_paths a) input
 path_in (Sample size) input = no_path input
@@ -30,7 +30,7 @@ abbrev pub AnswersJob : Option FileMap → Limits → JobModel → Findings → 
 AnswersJob contents limits (Ask j a) found text = InProblem contents limits j (λ p. AnswersAsk contents limits j.start p a found text)
 AnswersJob contents limits (Sample size) found text = AnswersSample limits size found text
 
--- why the job has no answer, unless there was no memory, where this timetable is known
+-- why the job has no answer if this timetable is known, unless there was no memory
 abbrev pub FailsJob : Option FileMap → Limits → JobModel → Option NamedParts → Fault → Type 0
 FailsJob contents limits (Ask j a) known fault = FailsJourney contents limits j a known fault
 FailsJob contents limits (Sample size) known fault = FailsSample limits size known fault
@@ -43,7 +43,7 @@ Asks words P = (wanted : JobModel) × (job_of words ≡ Ok wanted) × P wanted
 abbrev pub AnswersWords : Option FileMap → Limits → List (List ℕ) → Findings → List ℕ → Type 0
 AnswersWords contents limits words found text = Asks words (λ wanted. AnswersJob contents limits wanted found text)
 
--- why there is no answer to the words, where this timetable is known: there was no memory; or the words are refused; or the job
+-- why there is no answer to the words, if this timetable is known: there was no memory; or the words are refused; or the job
 -- that they ask for has none
 abbrev pub IsExplained : Option FileMap → Limits → List (List ℕ) → Option NamedParts → Fault → Type 0
 IsExplained contents limits words known fault =
@@ -83,7 +83,7 @@ ending_of (Some fault) = ending_at (stage_of fault)
 abbrev pub HasAnswer : Option FileMap → Limits → List (List ℕ) → Report → (List ℕ → Type 0) → Type 0
 HasAnswer contents limits words report P = (text : List ℕ) × AnswersWords contents limits words (findings_of report) text × P text
 
--- what a run comes to, by its fault: the answer with its text, written whole, or only a front of it where writing failed; or
+-- what a run comes to, by its fault: the answer with its text, written whole, or only a front of it if writing failed; or
 -- the fault's cause and its line, and then nothing is written
 abbrev pub OutcomeBy : Ending → Option FileMap → Limits → List (List ℕ) → Report → Option (List ℕ) → Option (List ℕ) → (List ℕ → Type 0)
     → Option Fault → Type 0
@@ -96,11 +96,11 @@ abbrev pub Outcome : Option FileMap → Limits → List (List ℕ) → Report �
     → Option Fault → Type 0
 Outcome contents limits words report old new Reports fault = OutcomeBy (ending_of fault) contents limits words report old new Reports fault
 
--- a front of a line was received, the whole of it where the sink's count did not rise
+-- a front of a line was received, the whole of it if the sink's count did not rise
 abbrev pub IsLineWritten : Option (List ℕ) → Option (List ℕ) → ℕ → ℕ → List ℕ → Type 0
 IsLineWritten old new before now line = AppendsFront old new line × (¬ Rose before now → Appends old new line)
 
--- a text was written whole, or a front of it where writing failed
+-- a text was written whole, or a front of it if writing failed
 abbrev pub IsWrittenBy : Ending → Option (List ℕ) → Option (List ℕ) → List ℕ → Type 0
 IsWrittenBy Whole old new text = Appends old new text
 IsWrittenBy Torn old new text = AppendsFront old new text

@@ -12,7 +12,7 @@ use Rattle.journey_report.specs.declared.report.Report.{Report}
 use Rattle.meat_engine.specs.Received.{Outcome, IsLineWritten, path_in}
 use Rattle.meat_engine.specs.Completeness.{IsComplete}
 
--- what a sink received, where that is known; and how often it failed
+-- what a sink received, if that is known; and how often it failed
 pub record SinkState : Type 0 where
   pub written : Option (List ℕ)
   pub faults : ℕ
@@ -20,7 +20,7 @@ pub record SinkState : Type 0 where
 abbrev pub sink_state : Option (List ℕ) → ℕ → SinkState
 sink_state written faults = record { written = written; faults = faults }
 
--- a front of a line was received by the sink of faults, the whole of it where its count did not rise
+-- a front of a line was received by the sink of faults, the whole of it if its count did not rise
 abbrev pub WritesLine : SinkState → SinkState → List ℕ → Type 0
 WritesLine old new = IsLineWritten old.written new.written old.faults new.faults
 
@@ -30,18 +30,18 @@ pub record IsRun (limits : Limits) (words : List (List ℕ)) (report : Report) (
   -- the status is that of the fault, and the fault is that of the run
   pub status : report.status.0 ≡ status_of report.fault
   pub outcome : Outcome before.files limits words report out.written out_after.written (WritesLine err err_after) report.fault
-  -- where there is no fault no line of one is written
+  -- if there is no fault no line of one is written
   pub quiet : report.fault ≡ None → Keeps err.written err_after.written
   pub same : after.files ≡ before.files
-  -- a file cannot be read only where the files failed, where it is one of the job, and where its files are known its own path failed
-  -- too; and always where the files failed
+  -- a file is reported as unreadable only if the files failed, and, if it is one of the job's and their bytes are known, only
+  -- if its own path failed too; and always if the files failed
   pub read : (input : Input) → report.fault ≡ Some (Read input) → Rose before.faults after.faults
   pub read_path : (wanted : JobModel) (input : Input) → job_of words ≡ Ok wanted → IsSome before.files
       → report.fault ≡ Some (Read input) → RoseAt (path_in wanted input) before.faults_of after.faults_of
   pub files_grew : before.faults < after.faults → (input : Input) × (report.fault ≡ Some (Read input))
-  -- the answer cannot be written only where its sink failed, and always where it did
+  -- the answer cannot be written only if its sink failed, and always if it did
   pub write : report.fault ≡ Some Write → Rose out.faults out_after.faults
   pub out_grew : out.faults < out_after.faults → report.fault ≡ Some Write
-  -- the status, where neither failed and the files have no fault
+  -- the status, if neither failed and the files have no fault
   pub complete : ¬ Rose before.faults after.faults → ¬ Rose out.faults out_after.faults
       → IsComplete before.files limits words report.status.0

@@ -31,7 +31,7 @@ pub record IsStartAnswer {V : Type 0} (scoring : Scoring V) (network : NetworkMo
   pub below_safe : (tree : Tree) → IsSafeFor network query tree → scoring.below start.0 tree
   pub gap_within : scoring.gap start.0 ≤ count network
 
--- the answers from the start and after each arrival at each place; none exactly where nothing is safe
+-- the answers from the start and after each arrival at each place; none exactly if nothing is safe
 pub record HasAnswers {V : Type 0} (scoring : Scoring V) (network : NetworkModel) (query : Query) (found : ScanResult V) : Type 0 where
   pub begins : MatchOption found.start ((tree : Tree) → IsSafeFor network query tree → ⊥) (IsStartAnswer scoring network query found)
   pub goes_on : (place arrival : ℕ) → place ≢ query.target.0 →
@@ -54,6 +54,6 @@ pub record IsStartValue {V : Type 0} (scoring : Scoring V) (network : NetworkMod
   pub below_safe : (other : Tree) → IsSafeFor network query other → scoring.below value other
   pub gap_within : scoring.gap value ≤ count network
 
--- the value of the start; none exactly where nothing is safe
+-- the value of the start; none exactly if nothing is safe
 abbrev pub SolvesStart : {V : Type 0} → Scoring V → NetworkModel → Query → Option V → Type 0
 SolvesStart scoring network query value = MatchOption value ((tree : Tree) → IsSafeFor network query tree → ⊥) (IsStartValue scoring network query)

@@ -15,7 +15,7 @@ pick_row (row ∷ rows) arrival = if nat_le arrival row.by.0 then Some row.leg e
 abbrev pub is_ride_of : Leg → Ride → Bool
 is_ride_of leg r = (r.leg.enter.0 == leg.enter.0) && (r.leg.exit.0 == leg.exit.0)
 
--- the rows after a ride; none where the leg has no ride
+-- the rows after a ride; none if the leg has no ride
 abbrev pub rows_after : List Ride → Leg → List GraphRow
 rows_after [] leg = []
 rows_after (r ∷ rides) leg = if is_ride_of leg r then r.after else rows_after rides leg
@@ -24,7 +24,7 @@ rows_after (r ∷ rides) leg = if is_ride_of leg r then r.after else rows_after 
 abbrev pub is_table_of : ℕ → PlaceTable → Bool
 is_table_of place table = table.place.0 == place
 
--- the rows of a place; none where it has no table
+-- the rows of a place; none if it has no table
 abbrev pub rows_of_place : List PlaceTable → ℕ → List GraphRow
 rows_of_place [] place = []
 rows_of_place (table ∷ tables) place = if is_table_of place table then table.rows else rows_of_place tables place

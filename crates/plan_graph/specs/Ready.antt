@@ -17,7 +17,7 @@ use Rattle.plan_graph.specs.Unfold.{unfold_expanded}
 abbrev pub IsLegOf : NetworkModel → Leg → Type 0
 IsLegOf network leg = IsLeg network leg.enter.0 leg.exit.0
 
--- from some deadline on, the tree is safe for who sets out at the source at the start
+-- from some deadline on, the tree is safe for a traveller who sets out at the source at the start
 abbrev pub IsSafeForSome : NetworkModel → Query → Tree → Type 0
 IsSafeForSome network query tree = (deadline : ℕ) × IsSafeFromStart network query.target.0 (Some deadline) tree query.source.0 query.start.0
 

@@ -15,7 +15,7 @@ use Rattle.plan_graph.specs.declared.Ride.{Ride}
 abbrev pub row_by : ℕ → Leg → GraphRow
 row_by moment leg = record { by = record { 0 = moment }; leg = leg }
 
--- with a row for an arrival, where a leg is chosen
+-- with a row for an arrival, if a leg is chosen
 abbrev pub with_row : ℕ → Option Leg → List GraphRow → List GraphRow
 with_row arrival None rows = rows
 with_row arrival (Some leg) rows = row_by arrival leg ∷ rows

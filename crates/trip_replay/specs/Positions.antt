@@ -13,7 +13,7 @@ use Rattle.trip_replay.specs.declared.Position.{Position}
 abbrev pub has_delay : List Outcome → ℕ → Bool
 has_delay row delay = list_any (λ o. o.delay == delay) row
 
--- the arrival of a leg with a delay, where it can have that delay
+-- the arrival of a leg with a delay, if it can have that delay
 abbrev pub delayed_arrival : NetworkModel → Leg → ℕ → Option ℕ
 delayed_arrival network leg delay = if has_delay (outcomes_of network leg) delay then Some (arr_of network leg.exit.0 + delay) else None
 

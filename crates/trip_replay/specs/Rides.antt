@@ -16,7 +16,7 @@ pub record IsRidden (network : NetworkModel) (r : Ridden) : Type 0 where
   pub is_delay : has_delay (outcomes_of network r.leg) r.delay ≡ true
   pub late : r.arrival.0 ≡ arr_of network r.leg.exit.0 + r.delay
 
--- the arrival of the last ride, and the start where there is none
+-- the arrival of the last ride, and the start if there is none
 abbrev pub arrival_after : ℕ → List Ridden → ℕ
 arrival_after start [] = start
 arrival_after start (r ∷ rides) = arrival_after r.arrival.0 rides
