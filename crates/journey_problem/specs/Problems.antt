@@ -41,6 +41,6 @@ abbrev pub HasTimetable : TimetableModel → JourneyModel → Problem → Type 0
 HasTimetable (CutFile path) j p = HasCutTimetable j p
 HasTimetable (FeedFolder folder horizon) j p = HasFeedTimetable horizon j p
 
--- there is a problem of the journey, if the files are known theirs, of which this holds
+-- there is a problem of the journey, that of its files if they are known, of which this holds
 abbrev pub InProblem : Option FileMap → Limits → JourneyModel → (Problem → Type 0) → Type 0
 InProblem contents limits j P = (p : Problem) × HasTimetable j.timetable j p × IfSome contents (λ files. IsProblem limits files j p) × P p
