@@ -3,3 +3,4 @@ pub mod Walk
 pub mod Positions
 pub mod Rides
 pub mod Late
+pub mod Onward

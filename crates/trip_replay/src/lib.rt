@@ -19,7 +19,7 @@ ghost use Rattle.trip_replay.specs.Rides.{IsRidden, arrival_after, IsStuckAfter}
 
 mod laws;
 
-pub use laws::a_safe_trip_arrives;
+pub use laws::{a_late_trip_arrives, a_safe_trip_arrives};
 use plan_graph::PlanGraph;
 use plan_model::{Leg, List, Moment, Network, NoMemory, PlaceId, Query};
 use std::alloc::Global;
