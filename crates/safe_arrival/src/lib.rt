@@ -89,7 +89,7 @@ fn reserved_worst_by<B: BackwardOrder>(
         IfOk result (λ found. MatchOption found ((tree : Tree) → IsSafeFor network.now query tree → ⊥)
         (λ worst. IsLeastWorst network.now query.source.0 query.target.0 query.start.0 (Some worst))) }
     ensures valid { IfOk result (λ _. IsValid network.now) }
-    ensures fits { IfOk result (λ _. B.fits order.new network.now) }
+    ensures fits { B.fits order.new network.now }
 {
     let tables: ScanTables<WorstMoment> = ScanTables::reserve_until(
         alloc,
@@ -101,7 +101,8 @@ fn reserved_worst_by<B: BackwardOrder>(
 
 /// The least worst arrival, as `least_worst` gives it, for a long window in less time and memory. It is searched
 /// for with a deadline of two hours, then of eight, and at last of all time, since most connections leave too late
-/// to matter, and the tables have room for the connections up to each deadline in turn. Whatever is answered but `NoMemory`, the order still fits the network.
+/// to matter, and the tables have room for the connections up to each deadline in turn. Whatever is answered, the
+/// order still fits the network.
 pub fn reserved_worst<B: BackwardOrder>(
     alloc: Global,
     network: &Network,
@@ -116,7 +117,7 @@ pub fn reserved_worst<B: BackwardOrder>(
     ensures least { IfOk result (IsLeastWorst network.now source.0 target.0 start.0) }
     ensures order { IfOk result (λ found. IfSome found (λ worst. start.0 ≤ worst.0)) }
     ensures early { IfOk result (λ found. IfSome found (λ worst. worst.0 < end_of_time)) }
-    ensures fits { IfOk result (λ _. B.fits order.new network.now) }
+    ensures fits { B.fits order.new network.now }
 {
     if source.0 == target.0 {
         return Ok(Some(start));
