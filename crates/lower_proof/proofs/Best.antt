@@ -13,7 +13,7 @@ use Rattle.plan_model.specs.Expected.{Below, arrival as arrival_of, Covers}
 use Rattle.interval_fixed.specs.Means.{weighted}
 use Rattle.lower_proof.specs.Certificates.{bound_of, IsLeastOf, Offers, arrived_by, IsLeastValue, IsLeastAt, AreLeast, HasValueUpTo}
 use Rattle.lower_proof.specs.Certificates.{IsAccepted, IsLeastAtStart, IsVia, IsTight}
-use Rattle.lower_proof.specs.Promises.{IsSound, IsGreatestCertificate, IsBestCertificate}
+use Rattle.lower_proof.specs.Promises.{IsSound, AreSoundValues, IsGreatestCertificate, IsBestCertificate}
 use Rattle.plan_model.specs.Bounds.{nanos_per_second}
 use Rattle.plan_model.proofs.Laws.{below_less, covers_more}
 use Rattle.interval_fixed.proofs.Sums.{mean_below, mean_covers}
@@ -91,6 +91,19 @@ module _ (n : NetworkModel) (q : Query) (values : List (Option ℕ)) where
           let others = bound_all kids row p arrival safe.2 in
           (one.0 ∷ others.0, (one.1, others.1), (safe.0, one.2, others.2))
       bound_all _ _ p arrival safe = absurd safe
+
+    -- after boarding
+    pub sound_values : AreSoundValues n q values
+    sound_values i j kids leg safe =
+        let all = bound_all kids (outcomes n j) (to_of n j) (arr_of n j) safe in
+        let v = weighted (outcomes n j) all.0 / 10000 in
+        let own = at_most (bound_of values i) v (accepted i leg.enter leg.board j v leg
+        (record { leave = leg.leave; least = all.0; are_least = all.1; mean = refl })) in (
+          own.0,
+          own.1,
+          below_less nanos_per_second arrival_of own.0 v (Ride i j kids) own.2
+              (mean_below nanos_per_second arrival_of (outcomes n j) all.0 kids i j all.2),
+        )
 
     -- at the start
     pub sound : IsSound n q values

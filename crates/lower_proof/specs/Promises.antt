@@ -1,16 +1,23 @@
 -- What a certificate promises.
-use Rattle.std.specs.Prelude.{ℕ, ◌+◌, ◌≤◌, List, Option, Some, None}
+use Rattle.std.specs.Prelude.{◌≡◌, ℕ, ◌+◌, ◌≤◌, List, Option, Some, None}
 use Rattle.plan_model.specs.declared.model.Query.{Query}
 use Rattle.plan_model.specs.NetworkModel.{NetworkModel}
-use Rattle.plan_model.specs.Network.{count}
-use Rattle.plan_model.specs.Tree.{Tree}
-use Rattle.plan_model.specs.Strategy.{IsSafeFor}
+use Rattle.plan_model.specs.Network.{count, to_of, arr_of, outcomes}
+use Rattle.plan_model.specs.Tree.{Tree, Ride, Kids}
+use Rattle.plan_model.specs.Strategy.{IsLeg, AreSafe, IsSafeFor}
 use Rattle.plan_model.specs.Expected.{Below, Covers}
-use Rattle.lower_proof.specs.Certificates.{IsLeastAtStart, IsAccepted}
+use Rattle.lower_proof.specs.Certificates.{bound_of, IsLeastAtStart, IsAccepted}
 
 -- it is a lower bound on each tree that is safe for the query: the least value at the start is there, and below the tree
 abbrev pub IsSound : NetworkModel → Query → List (Option ℕ) → Type 0
 IsSound network query values = (tree : Tree) → IsSafeFor network query tree → (v : ℕ) × IsLeastAtStart network query values (Some v) × Below v tree
+
+-- each value is a lower bound on each ride that boards its connection and is safe for the deadline after each outcome
+abbrev pub AreSoundValues : NetworkModel → Query → List (Option ℕ) → Type 0
+AreSoundValues network query values =
+    (i j : ℕ) (kids : Kids) → IsLeg network i j
+    → AreSafe network query.target.0 (Some query.deadline.0) kids (outcomes network j) (to_of network j) (arr_of network j)
+    → (v : ℕ) × (bound_of values i ≡ Some v) × Below v (Ride i j kids)
 
 -- no certificate that is accepted has a greater value at the start
 abbrev pub IsGreatestCertificate : NetworkModel → Query → ℕ → Type 0

@@ -1,5 +1,5 @@
-//! A text has one certificate.
-ghost use Rattle.std.specs.Prelude.{◌≡◌, ◌≢◌, ℕ, List as Bytes, Err};
+//! A text has one certificate, and each value of a certificate that is accepted is a lower bound.
+ghost use Rattle.std.specs.Prelude.{◌≡◌, ◌≢◌, ℕ, List as Bytes, Option as Maybe, Err};
 ghost use Rattle.std.specs.Prelude.{Result as Either};
 ghost use Rattle.csv_rows.specs.Tables.{table_of, header};
 ghost use Rattle.plan_model.specs.NetworkModel.{NetworkModel};
@@ -8,6 +8,8 @@ ghost use Rattle.plan_model.specs.declared.model.Query.{Query as Asked};
 ghost use Rattle.lower_proof.specs.declared.LowerBounds.{LowerBounds as Proof};
 ghost use Rattle.lower_proof.specs.declared.reader.ProofFault.{ProofFault as Fault};
 ghost use Rattle.lower_proof.specs.declared.reader.ProofFault.TheVariants.{NoMemory as Lacking};
+ghost use Rattle.lower_proof.specs.Certificates.{IsAccepted};
+ghost use Rattle.lower_proof.specs.Promises.{AreSoundValues};
 ghost use Rattle.lower_proof.specs.Reading.{bounds_in, IsFaultAfter, IsProofRead};
 
 /// A law, with no code: what is read of a text is one certificate or one fault, unless memory runs out.
@@ -22,4 +24,10 @@ pub fn no_text_lacks_memory()
     ensures { (n : NetworkModel) (names : NameLists) (source target start : ℕ) (text : Bytes ℕ) (fault : Fault)
         → IsFaultAfter n names (table_of text) (bounds_in names source target start (header (table_of text))) fault
         → fault ≢ Lacking }
+{}
+
+/// A law, with no code: in a certificate that is accepted, the value of a connection is at most the expected arrival of each
+/// traveller who boards it and then arrives by the deadline whatever the delays.
+pub fn each_value_is_a_bound()
+    ensures { (n : NetworkModel) (query : Asked) (values : Bytes (Maybe ℕ)) → IsAccepted n query values → AreSoundValues n query values }
 {}

@@ -24,7 +24,7 @@ mod walk;
 
 use board::{Board, boards};
 use interval_fixed::Span;
-pub use laws::{no_text_lacks_memory, one_text_is_one_certificate};
+pub use laws::{each_value_is_a_bound, no_text_lacks_memory, one_text_is_one_certificate};
 use plan_model::{ConnectionId, List, Moment, Network, NoMemory, PlaceId, Query};
 pub use printer::write_text;
 pub use reader::{ProofFault, read_text};
