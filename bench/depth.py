@@ -22,8 +22,8 @@ from typing import Callable, Iterator
 
 sys.dont_write_bytecode = True
 
-from inputs import moments, write  # noqa: E402
-from processes import (Growth, add_program, in_turn, need_program, print_head, print_row, printed,  # noqa: E402
+from inputs import moments, write
+from processes import (Growth, add_program, in_turn, need_program, print_head, print_row, printed,
                        write_apart)
 
 Rows = Callable[[int], Iterator[str]]
@@ -38,7 +38,7 @@ def chain(count: int) -> Iterator[str]:
     text = moments()
     yield HEADER
     for k in range(count):
-        yield "r%d,1,S%d,S%d,%s,%s,1\n" % (k, k, k + 1, text(2 * k), text(2 * k + 1))
+        yield f"r{k},1,S{k},S{k + 1},{text(2 * k)},{text(2 * k + 1)},1\n"
 
 
 def long_run(count: int) -> Iterator[str]:
@@ -46,16 +46,16 @@ def long_run(count: int) -> Iterator[str]:
     text = moments()
     yield HEADER
     for k in range(count):
-        yield "r,%d,S%d,S%d,%s,%s,1\n" % (k, k, k + 1, text(k), text(k + 1))
+        yield f"r,{k},S{k},S{k + 1},{text(k)},{text(k + 1)},1\n"
 
 
 def busy_place(count: int) -> Iterator[str]:
     """One ride to a place, and a departure from there in each second."""
     text = moments()
     yield HEADER
-    yield "r,1,S0,B,%s,%s,1\n" % (text(0), text(60))
+    yield f"r,1,S0,B,{text(0)},{text(60)},1\n"
     for k in range(count):
-        yield "x%d,1,B,S%d,%s,%s,1\n" % (k, count, text(k), text(k + 60))
+        yield f"x{k},1,B,S{count},{text(k)},{text(k + 60)},1\n"
 
 
 # What it is, its rows, its numbers, and how many rides `replay` follows.
@@ -70,7 +70,7 @@ COMMANDS = ("safe", "expand", "plan", "replay")
 
 def words(command: str, folder: str, count: int) -> list[str]:
     paths = ["--cut", os.path.join(folder, "cut.csv"), "--delays", os.path.join(folder, "delays.csv")]
-    return [command, *paths, "--from", "S0", "--to", "S%d" % count, "--at", START]
+    return [command, *paths, "--from", "S0", "--to", f"S{count}", "--at", START]
 
 
 def write_files(folder: str, rows: Iterator[str]) -> None:
@@ -85,12 +85,12 @@ def measure_kind(options: argparse.Namespace, growth: Growth, what: str, count: 
     for command in COMMANDS:
         more = ["--graph", graph, "--late", late] if command == "replay" else []
         run, = in_turn([[options.program, *words(command, folder, count), *more]], options.times, options.limit)
-        cells = [what, "{:,}".format(count), "`%s`" % command]
+        cells = [what, f"{count:,}", f"`{command}`"]
         if run is None:
             print_row([*cells, "over the limit of time", "-", "-", "-"])
         else:
-            print_row([*cells, str(run.status), "%.3f" % run.seconds(), "%.1f" % run.peak,
-                       growth.of("%s, %s" % (what, command), count, run.seconds())])
+            print_row([*cells, str(run.status), f"{run.seconds():.3f}", f"{run.peak:.1f}",
+                       growth.of(f"{what}, {command}", count, run.seconds())])
 
 
 def main() -> None:

@@ -74,7 +74,7 @@ def add_floor(parser: argparse.ArgumentParser) -> None:
 def need_floor(options: argparse.Namespace) -> None:
     """Refuses a floor that cannot be measured."""
     if options.csv_floor and not os.access(options.csv_floor, os.X_OK):
-        sys.exit("The program of --csv-floor is not there: %s" % options.csv_floor)
+        sys.exit(f"The program of --csv-floor is not there: {options.csv_floor}")
     if options.csv_floor_instructions is not None and not options.instructions:
         sys.exit("--csv-floor-instructions needs --instructions.")
 

@@ -22,8 +22,8 @@ from typing import Callable, Optional, Sequence
 
 sys.dont_write_bytecode = True
 
-from inputs import write  # noqa: E402
-from processes import Run, add_program, in_turn, need_program, print_head, print_row, ratio, write_apart  # noqa: E402
+from inputs import write
+from processes import Run, add_program, in_turn, need_program, print_head, print_row, ratio, write_apart
 
 SEED = 0x243F6A8885A308D3
 MULTIPLIER = 0x9E3779B97F4A7C15
@@ -65,7 +65,7 @@ class Names:
         self.front = (begin if alike else b"jd" + begin[2:]).decode()
 
     def name(self, number: int) -> str:
-        return "%s%08x0123456789abcdef" % (self.front, number)
+        return f"{self.front}{number:08x}0123456789abcdef"
 
 
 def write_feed(folder: str, count: int, names: Names, kind: str) -> None:
@@ -78,22 +78,22 @@ def write_feed(folder: str, count: int, names: Names, kind: str) -> None:
     trips: list[str] = []
     times: list[str] = []
     if kind == "trips":
-        trips = ["R,D,%s\n" % name(k) for k in numbers]
-        times = ["%s,08:10:00,08:10:00,A,1\n%s,08:40:00,08:40:00,T,2\n" % (name(k), name(k)) for k in numbers]
+        trips = [f"R,D,{name(k)}\n" for k in numbers]
+        times = [f"{name(k)},08:10:00,08:10:00,A,1\n{name(k)},08:40:00,08:40:00,T,2\n" for k in numbers]
     elif kind == "stops":
-        times = ["t,08:%02d:%02d,08:%02d:%02d,%s,%d\n" % (10 + k // 60 % 20, k % 60, 10 + k // 60 % 20, k % 60, name(k), k + 2)
+        times = [f"t,08:{10 + k // 60 % 20:02}:{k % 60:02},08:{10 + k // 60 % 20:02}:{k % 60:02},{name(k)},{k + 2}\n"
                  for k in range(min(count, 1200))]
     elif kind == "services":
-        trips = ["R,%s,x%d\n" % (name(k), k) for k in numbers]
+        trips = [f"R,{name(k)},x{k}\n" for k in numbers]
     elif kind == "routes":
-        trips = ["%s,D,x%d\n" % (name(k), k) for k in numbers]
+        trips = [f"{name(k)},D,x{k}\n" for k in numbers]
     write(folder, "stops.txt", ["stop_id\nA\nT\n"] + stops)
     write(folder, "routes.txt", ["route_id,route_type\nR,3\n"] + routes)
     write(folder, "calendar.txt", [CALENDAR, "D" + EACH_DAY] + services)
     write(folder, "trips.txt", ["route_id,service_id,trip_id\nR,D,t\n"] + trips)
     write(folder, "stop_times.txt", ["trip_id,arrival_time,departure_time,stop_id,stop_sequence\n",
                                      "t,08:10:00,08:10:00,A,1\n"] + times
-          + ["t,08:40:00,08:40:00,T,%d\n" % (count + 2)])
+          + [f"t,08:40:00,08:40:00,T,{count + 2}\n"])
     write(folder, "delays.csv", [DELAYS])
 
 
@@ -102,10 +102,10 @@ def write_cut(folder: str, count: int, names: Names, kind: str) -> None:
     name = names.name
     times = "2024-06-03T08:10:00,2024-06-03T08:40:00"
     if kind == "places":
-        rows = ["r%d,1,%s,%s,%s\n" % (k, name(k), name((k + 1) % count), times) for k in range(count)]
+        rows = [f"r{k},1,{name(k)},{name((k + 1) % count)},{times}\n" for k in range(count)]
     else:
-        rows = ["%s,1,A,T,%s\n" % (name(k), times) for k in range(count)]
-    write(folder, "cut.csv", ["run,step,from,to,dep,arr\n", "r,1,A,T,%s\n" % times] + rows)
+        rows = [f"{name(k)},1,A,T,{times}\n" for k in range(count)]
+    write(folder, "cut.csv", ["run,step,from,to,dep,arr\n", f"r,1,A,T,{times}\n"] + rows)
     write(folder, "delays.csv", [DELAYS])
 
 
@@ -132,14 +132,14 @@ def runs_of(programs: Sequence[str], kind: str, count: int, alike: bool, options
 
 
 def shown(run: Optional[Run]) -> str:
-    return "over the limit of time" if run is None else "%.3f" % run.seconds()
+    return "over the limit of time" if run is None else f"{run.seconds():.3f}"
 
 
 def line(who: str, kind: str, count: int, ordinary: Optional[Run], alike: Optional[Run]) -> None:
     """A line for a program: both times, and how many times as long the second is."""
     times = ratio(alike.seconds(), ordinary.seconds()) if alike and ordinary else "-"
     status = "-" if alike is None else str(alike.status)
-    print_row([who, kind, "{:,}".format(count), shown(ordinary), shown(alike), times, status])
+    print_row([who, kind, f"{count:,}", shown(ordinary), shown(alike), times, status])
 
 
 def main() -> None:
@@ -161,8 +161,8 @@ def main() -> None:
         if options.before:
             programs = [options.program, options.before]
             few = min(options.few, most)
-            both = zip(("now", "before"), runs_of(programs, kind, few, False, options), runs_of(programs, kind, few, True, options))
-            for who, one, other in both:
+            ordinary_ones, alike_ones = (runs_of(programs, kind, few, are_alike, options) for are_alike in (False, True))
+            for who, one, other in zip(("now", "before"), ordinary_ones, alike_ones):
                 line(who, kind, few, one, other)
 
 

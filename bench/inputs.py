@@ -67,18 +67,18 @@ class Names:
 
     def trip(self, number: int, run: int) -> str:
         """The trip of a run of a line."""
-        return "T%d_%d" % (number, run)
+        return f"T{number}_{run}"
 
     def inner(self, number: int, place: int) -> str:
         """The stop at a place of a line, if it is no hub."""
-        return "L%d_%d" % (number, place)
+        return f"L{number}_{place}"
 
     def stop(self, number: int, place: int) -> str:
         """The stop at a place of a line."""
         if place == 0:
-            return "H%d" % (number % 10)
+            return f"H{number % 10}"
         if place == HOPS:
-            return "H%d" % ((number + 1 + number // 10 % 3) % 10)
+            return f"H{(number + 1 + number // 10 % 3) % 10}"
         return self.inner(number, place)
 
 
@@ -94,7 +94,7 @@ class ShortNames(Names):
 
 def clock(seconds: int) -> str:
     """A time of the service day."""
-    return "%02d:%02d:%02d" % (seconds // 3600, seconds // 60 % 60, seconds % 60)
+    return f"{seconds // 3600:02}:{seconds // 60 % 60:02}:{seconds % 60:02}"
 
 
 def write(folder: str, name: str, pieces: Iterable[str]) -> None:
@@ -114,17 +114,17 @@ def stop_times(lines: int, names: Names) -> Iterator[str]:
             trip = names.trip(number, run)
             for place, stop in enumerate(stops):
                 time = clock(begin + place * hop)
-                yield "%s,%s,%s,%s,%d\n" % (trip, time, time, stop, place + 1)
+                yield f"{trip},{time},{time},{stop},{place + 1}\n"
 
 
 def write_feed(folder: str, lines: int, names: Names = Names()) -> None:
     """Writes the tables of a feed with this number of lines, and a delay file beside them."""
-    write(folder, "stops.txt", ["stop_id\n"] + ["H%d\n" % hub for hub in range(10)] + [UNSERVED + "\n"]
+    write(folder, "stops.txt", ["stop_id\n"] + [f"H{hub}\n" for hub in range(10)] + [UNSERVED + "\n"]
           + [names.inner(number, place) + "\n" for number in range(lines) for place in range(1, HOPS)])
     write(folder, "routes.txt",
-          ["route_id,route_type\n"] + ["R%d,%d\n" % (number, number % 4) for number in range(lines)])
+          ["route_id,route_type\n"] + [f"R{number},{number % 4}\n" for number in range(lines)])
     write(folder, "trips.txt", ["route_id,service_id,trip_id\n"]
-          + ["R%d,D,%s\n" % (number, names.trip(number, run)) for number in range(lines) for run in range(RUNS)])
+          + [f"R{number},D,{names.trip(number, run)}\n" for number in range(lines) for run in range(RUNS)])
     write(folder, "stop_times.txt", stop_times(lines, names))
     write(folder, "calendar.txt", [CALENDAR])
     write(folder, "delays.csv", [FEED_DELAYS])
@@ -135,11 +135,11 @@ def links(lines: int) -> Iterator[str]:
     yield "from_stop_id,to_stop_id,transfer_type,min_transfer_time\n"
     for hub in range(10):
         for step, seconds in enumerate(LINK_SECONDS, 1):
-            yield "H%d,H%d,2,%d\n" % (hub, (hub + step) % 10, seconds)
+            yield f"H{hub},H{(hub + step) % 10},2,{seconds}\n"
     for number in range(lines):
         for place in range(1, HOPS):
             for step, seconds in enumerate(LINK_SECONDS, 1):
-                yield "L%d_%d,L%d_%d,2,%d\n" % (number, place, (number + step) % lines, place, seconds)
+                yield f"L{number}_{place},L{(number + step) % lines}_{place},2,{seconds}\n"
 
 
 def write_links(folder: str, lines: int) -> None:
@@ -167,7 +167,7 @@ def moments() -> Callable[[int], str]:
         day, rest = divmod(CUT_START.hour * 3600 + seconds, 86400)
         if day not in days:
             days[day] = (CUT_START.date() + datetime.timedelta(days=day)).isoformat()
-        return "%sT%s" % (days[day], clock(rest))
+        return f"{days[day]}T{clock(rest)}"
 
     return text
 
@@ -185,8 +185,7 @@ def cut_rows(rows: int) -> Iterator[str]:
         at = 0 if run == 0 else below(12 * 3600)
         for step in range(min(CUT_HOPS, rows - written)):
             arrival = at + 60 + below(300)
-            yield "r%d,%d,S%d,S%d,%s,%s\n" % (
-                run, step, (place + step) % places, (place + step + 1) % places, text(at), text(arrival))
+            yield f"r{run},{step},S{(place + step) % places},S{(place + step + 1) % places},{text(at)},{text(arrival)}\n"
             at = arrival + below(60)
             written += 1
         run += 1

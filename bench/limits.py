@@ -22,7 +22,7 @@ from typing import Callable, Iterable, Iterator
 
 sys.dont_write_bytecode = True
 
-from processes import add_program, need_program, print_head, print_row, write_apart  # noqa: E402
+from processes import add_program, need_program, print_head, print_row, write_apart
 
 # The pieces of a file, made anew, and what writes the files of a line into a folder.
 Pieces = Callable[[], Iterable[bytes]]
@@ -137,7 +137,8 @@ def window(count: int) -> Made:
     def times() -> Iterator[bytes]:
         yield from timed_rides(full, 17)
         if rest:
-            yield b"".join(b"x%d,09:%02d:00,09:%02d:00,%s,%d\n" % (full, v, v, b"AT"[v % 2:v % 2 + 1], v) for v in range(rest + 1))
+            yield b"".join(b"x%d,09:%02d:00,09:%02d:00,%s,%d\n" % (full, v, v, b"AT"[v % 2:v % 2 + 1], v)
+                           for v in range(rest + 1))
 
     return feed(trips=further_trips(trips), stop_times=times)
 
@@ -226,10 +227,10 @@ def main() -> None:
             write_apart(partial(made, folder))
             largest = max(os.path.getsize(os.path.join(folder, name)) for name in os.listdir(folder)) / 2**20
             status, line, seconds, peak = run(options.program, folder)
-        print_row([what, "%.1f" % largest, str(status), line or "-", "%.1f" % seconds, "%.0f" % peak, "%.1f" % (peak / largest)])
+        print_row([what, f"{largest:.1f}", str(status), line or "-", f"{seconds:.1f}", f"{peak:.0f}", f"{peak / largest:.1f}"])
         if status != wanted:
             wrong += 1
-            print("The status is not %d." % wanted, file=sys.stderr)
+            print(f"The status is not {wanted}.", file=sys.stderr)
     sys.exit(1 if wrong else 0)
 
 

@@ -15,12 +15,12 @@ OVER = "over the limit of time"
 
 def taken(run: Run) -> list[str]:
     """The user and system seconds, and the peak memory."""
-    return ["%.3f" % run.user, "%.3f" % run.system, "%.1f" % run.peak]
+    return [f"{run.user:.3f}", f"{run.system:.3f}", f"{run.peak:.1f}"]
 
 
 def shown(count: Optional[int]) -> str:
     """A count, or a dash if there is none."""
-    return "-" if count is None else "{:,}".format(count)
+    return "-" if count is None else f"{count:,}"
 
 
 class Table:
@@ -60,7 +60,8 @@ class Table:
         if now is None:
             self.row([what, shown(items), OVER])
             return
-        cells = [what, shown(items), *taken(now), self.seconds.of(kind, items, now.seconds()), self.counted(files), str(now.status)]
+        growth = self.seconds.of(kind, items, now.seconds())
+        cells = [what, shown(items), *taken(now), growth, self.counted(files), str(now.status)]
         for old in rest:
             cells += [*taken(old), ratio(now.seconds(), old.seconds())] if old else [OVER, "-", "-", "-"]
         if self.options.instructions:
@@ -74,7 +75,7 @@ class Table:
     def counted(self, files: Sequence[str]) -> str:
         """The seconds of `wc -l` over these files, if there are any."""
         run, = in_turn([["wc", "-l", *files]], self.options.times, self.options.limit) if files else [None]
-        return "%.3f" % run.seconds() if run else "-"
+        return f"{run.seconds():.3f}" if run else "-"
 
     def floor(self, kind: str, what: str, items: int, words: Sequence[str]) -> Optional[int]:
         """Runs a floor, which must end with status 0, and returns its instructions."""
@@ -83,9 +84,10 @@ class Table:
             self.row([what, shown(items), OVER])
             return None
         if run.status != 0:
-            sys.exit("The floor `%s` ends with status %d." % (" ".join(words), run.status))
+            sys.exit(f"The floor `{' '.join(words)}` ends with status {run.status}.")
         count, = self.count([words], runs, items)
-        self.floor_row(kind, what, items, [*taken(run), self.seconds.of(kind, items, run.seconds()), "-", str(run.status)], count)
+        growth = self.seconds.of(kind, items, run.seconds())
+        self.floor_row(kind, what, items, [*taken(run), growth, "-", str(run.status)], count)
         return count
 
     def floor_row(self, kind: str, what: str, items: int, cells: Sequence[str], count: Optional[int]) -> None:

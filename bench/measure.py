@@ -49,12 +49,12 @@ from typing import Sequence
 
 sys.dont_write_bytecode = True
 
-from floors import Floors, add_floor, need_floor  # noqa: E402
-from inputs import (UNSERVED, Names, ShortNames, connections_of, stop_times_of, write_cut, write_feed,  # noqa: E402
+from floors import Floors, add_floor, need_floor
+from inputs import (UNSERVED, Names, ShortNames, connections_of, stop_times_of, write_cut, write_feed,
                     write_links)
-from lines import Table  # noqa: E402
-from processes import add_program, model, need_program, need_valgrind, text_of, write_apart  # noqa: E402
-from questions import NO_STOP, Question, commands, over_cut, over_feed  # noqa: E402
+from lines import Table
+from processes import add_program, model, need_program, need_valgrind, text_of, write_apart
+from questions import NO_STOP, Question, commands, over_cut, over_feed
 
 LATE = "2024-06-03T22:00:01"
 EVENING_BEFORE = "2024-06-02T20:00:00"
@@ -76,7 +76,7 @@ def measure_question(table: Table, kind: str, what: str, items: int, question: Q
     reading = replace(question, source=NO_STOP)
     table.line("reading" + kind, "reading, " + what, items, reading.words("safe"), files_of(question.folder), floors)
     for command, words in commands(options.program, question, options.all or not options.before):
-        table.line(command + kind, "`%s`, %s" % (command, what), items, words, floors=floors)
+        table.line(command + kind, f"`{command}`, {what}", items, words, floors=floors)
 
 
 def measure_cases(table: Table, lines: int, folder: str, floors: Floors) -> None:
@@ -84,25 +84,25 @@ def measure_cases(table: Table, lines: int, folder: str, floors: Floors) -> None
     items = stop_times_of(lines)
     for hours in (2, 24, 72):
         for command in SEARCHES:
-            table.line("%s within hours" % command, "`%s --horizon %d`, %d lines" % (command, hours, lines), items,
+            table.line(f"{command} within hours", f"`{command} --horizon {hours}`, {lines} lines", items,
                        over_feed(folder, hours).words(command), floors=floors)
     late, unserved = replace(over_feed(folder), at=LATE), replace(over_feed(folder), source=UNSERVED)
     for command in SEARCHES:
-        table.line("%s late" % command, "`%s` from 22:00 on, %d lines" % (command, lines), items, late.words(command),
+        table.line(f"{command} late", f"`{command}` from 22:00 on, {lines} lines", items, late.words(command),
                    floors=floors)
-        table.line("%s none" % command, "`%s`, nothing is safe, %d lines" % (command, lines), items, unserved.words(command),
+        table.line(f"{command} none", f"`{command}`, nothing is safe, {lines} lines", items, unserved.words(command),
                    floors=floors)
 
 
 def measure_feed(table: Table, lines: int, cases: bool) -> None:
     """A feed with this number of lines: its floors, reading, each command and, if wanted, the further cases."""
     items = stop_times_of(lines)
-    what = "%d lines" % lines
+    what = f"{lines} lines"
     with tempfile.TemporaryDirectory() as folder:
         write_apart(lambda: write_feed(folder, lines))
         floors = table.floors("feed", what, items, files_of(folder), os.path.join(folder, "stop_times.txt"))
         if lines <= LARGEST_SAMPLE:
-            table.line("sample", "`sample --size %d`" % lines, items, ["sample", "--size", str(lines)], floors=floors)
+            table.line("sample", f"`sample --size {lines}`", items, ["sample", "--size", str(lines)], floors=floors)
         measure_question(table, "", what, items, over_feed(folder), floors)
         if cases:
             measure_cases(table, lines, folder, floors)
@@ -115,7 +115,7 @@ def measure_linked(table: Table, lines: int) -> None:
         write_apart(lambda: write_feed(folder, lines))
         for links in ("no links", "4 links a place"):
             for command in SEARCHES:
-                table.line("%s, %s" % (command, links), "`%s`, %d lines, %s" % (command, lines, links), items,
+                table.line(f"{command}, {links}", f"`{command}`, {lines} lines, {links}", items,
                            over_feed(folder).words(command))
             write_apart(lambda: write_links(folder, lines))
 
@@ -124,12 +124,12 @@ def measure_cut(table: Table, rows: int, cases: bool) -> None:
     """A cut file: its floors, reading, each command and, if wanted, a start long before the first departure."""
     with tempfile.TemporaryDirectory() as folder:
         write_apart(lambda: write_cut(folder, rows))
-        what = "cut file of %d rows" % rows
+        what = f"cut file of {rows} rows"
         floors = table.floors("cut", what, rows, files_of(folder), os.path.join(folder, "cut.csv"))
         measure_question(table, " cut", what, rows, over_cut(folder), floors)
         early = replace(over_cut(folder), at=EVENING_BEFORE)
         for command in SEARCHES if cases else ():
-            table.line("%s cut early" % command, "`%s`, %d rows, from 12 hours before on" % (command, rows), rows,
+            table.line(f"{command} cut early", f"`{command}`, {rows} rows, from 12 hours before on", rows,
                        early.words(command), floors=floors)
 
 
@@ -137,8 +137,8 @@ def measure_to_limit(table: Table, hours: int, sizes: Sequence[int], counts_conn
     """Each command over feeds that grow to a limit."""
     for lines in sizes:
         items = connections_of(lines, hours) if counts_connections else stop_times_of(lines)
-        what = "%d lines, %d hours" % (lines, hours)
-        kind = " within %d" % hours
+        what = f"{lines} lines, {hours} hours"
+        kind = f" within {hours}"
         with tempfile.TemporaryDirectory() as folder:
             write_apart(partial(write_feed, folder, lines, names))
             floors = table.floors(kind, what, items, files_of(folder), os.path.join(folder, "stop_times.txt"))
@@ -180,13 +180,13 @@ def print_machine(options: argparse.Namespace) -> None:
     """What is measured, and on what."""
     changed = " with changes" if text_of(["git", "status", "--porcelain", "crates"]) else ""
     memory = os.sysconf("SC_PAGE_SIZE") * os.sysconf("SC_PHYS_PAGES") / 2**30
-    print("- Machine: %s, %d processors, %.0f GiB; load %.1f at the start" % (
-        model(), os.cpu_count() or 1, memory, os.getloadavg()[0]))
-    print("- Kit: %s" % text_of(["rt", "version"]))
-    print("- Commit: %s%s" % (text_of(["git", "rev-parse", "--short=12", "HEAD"]), changed))
-    print("- The fastest of %d runs" % options.times)
+    processors = os.cpu_count() or 1
+    print(f"- Machine: {model()}, {processors} processors, {memory:.0f} GiB; load {os.getloadavg()[0]:.1f} at the start")
+    print(f"- Kit: {text_of(['rt', 'version'])}")
+    print(f"- Commit: {text_of(['git', 'rev-parse', '--short=12', 'HEAD'])}{changed}")
+    print(f"- The fastest of {options.times} runs")
     if options.instructions:
-        print("- Instructions: %s, one run of each" % text_of(["valgrind", "--version"]))
+        print(f"- Instructions: {text_of(['valgrind', '--version'])}, one run of each")
     print()
 
 

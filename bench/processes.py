@@ -83,9 +83,9 @@ def instructions(words: Sequence[str], status: int, limit: float) -> Optional[in
         text = log.read()
     found = COUNTED.search(text)
     if not found:
-        sys.exit("valgrind counted nothing of `%s`:\n%s" % (" ".join(words), text))
+        sys.exit(f"valgrind counted nothing of `{' '.join(words)}`:\n{text}")
     if run.status != status:
-        print("Under valgrind `%s` ends with status %d, not %d." % (" ".join(words), run.status, status), file=sys.stderr)
+        print(f"Under valgrind `{' '.join(words)}` ends with status {run.status}, not {status}.", file=sys.stderr)
         return None
     return int(found[1])
 
@@ -139,11 +139,11 @@ def add_program(parser: argparse.ArgumentParser) -> None:
 def need_program(program: str) -> None:
     """Refuses if the program is not there."""
     if not os.access(program, os.X_OK):
-        sys.exit("The program is not built: %s is not there. `./meat` with no words builds it." % program)
+        sys.exit(f"The program is not built: {program} is not there. `./meat` with no words builds it.")
 
 
 def print_row(cells: Sequence[str]) -> None:
-    print("| %s |" % " | ".join(cells), flush=True)
+    print(f"| {' | '.join(cells)} |", flush=True)
 
 
 def print_head(titles: Sequence[str], texts: Sequence[str] = ()) -> None:
@@ -154,7 +154,7 @@ def print_head(titles: Sequence[str], texts: Sequence[str] = ()) -> None:
 
 def ratio(one: Optional[float], other: Optional[float]) -> str:
     """One divided by the other, or a dash if that is unknown."""
-    return "-" if one is None or not other else "%.2f" % (one / other)
+    return "-" if one is None or not other else f"{one / other:.2f}"
 
 
 class Growth:

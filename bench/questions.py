@@ -1,7 +1,7 @@
 """What the program is asked over the made files: each command about a journey, with the files that it needs.
 
-`replay` and `check` read what `plan` and `certify` print, so that is saved beside the inputs first. `replay` is given a delay of
-0 for each ride of a trip on which nothing is late. `check` is asked twice, about the certificate and about the graph.
+`replay` and `check` read what `plan` and `certify` print, so that is saved beside the inputs first. `replay` is given a delay
+of 0 for each ride of a trip on which nothing is late. `check` is asked twice, about the certificate and about the graph.
 """
 
 from __future__ import annotations
