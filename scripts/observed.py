@@ -199,7 +199,8 @@ class Observations:
 
     def summary(self, groups: int) -> str:
         """A summary in one line."""
-        words = [f"{len(self.found) + self.left_out + self.bad} observations"]
+        count = len(self.found) + self.left_out + self.bad
+        words = [f"{count} observation{'s' if count != 1 else ''}"]
         if self.early:
             words.append(f"{self.early} early by up to {-self.earliest} seconds, counted as on time")
         if self.bad:

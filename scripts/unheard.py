@@ -13,10 +13,10 @@ from plans import Refused
 
 TABLES = ("stops.txt", "routes.txt", "trips.txt", "stop_times.txt", "frequencies.txt", "calendar.txt", "calendar_dates.txt",
           "transfers.txt")
-TRANSFERS = {"": "recommended transfers (type 0)", "0": "recommended transfers (type 0)",
-             "1": "timed transfers, where the departing trip waits (type 1)",
-             "3": "transfers that are not possible (type 3): a plan may still change there",
-             "4": "in-seat transfers between trips (type 4)", "5": "in-seat transfers that are not allowed (type 5)"}
+TRANSFERS = {"": "recommended transfers, type 0", "0": "recommended transfers, type 0",
+             "1": "timed transfers, type 1: the departing trip is not known to wait",
+             "3": "transfers that are not possible, type 3: a plan may still change there",
+             "4": "in-seat transfers between trips, type 4", "5": "in-seat transfers that are not allowed, type 5"}
 
 
 def unheard(folder: str) -> list[tuple[str, int]]:
@@ -46,9 +46,9 @@ def of_stop_times(folder: str) -> Counter[str]:
     counts: Counter[str] = Counter()
     columns, optional = ["stop_id", "arrival_time", "departure_time"], ["pickup_type", "drop_off_type"]
     for _, (stop, arrival, departure, pickup, drop) in table_of(folder, "stop_times.txt", columns, optional):
-        counts["stop times without a stop (on demand): ignored"] += not stop
+        counts["stop times without a stop, on demand: ignored"] += not stop
         counts["stop times without a time: no boarding or alighting there"] += bool(stop) and not arrival and not departure
-        counts["stop times for which one phones ahead or asks the driver (types 2 and 3): treated as any other"] += (
+        counts["stop times for which one phones ahead or asks the driver, types 2 and 3: treated as any other"] += (
             pickup in ("2", "3") or drop in ("2", "3"))
     return counts
 
@@ -71,9 +71,9 @@ def of_transfers(folder: str) -> Counter[str]:
         if kind != "2":
             counts[TRANSFERS.get(kind, "transfers of unknown types")] += 1
         elif any(of):
-            counts["minimum transfer times of routes or trips (type 2): the place's own is used, 2 minutes if it has none"] += 1
+            counts["minimum transfer times of routes or trips, type 2: the place's own is used, 2 minutes if it has none"] += 1
         elif not seconds:
-            counts["minimum transfer times without a value (type 2): ignored"] += 1
+            counts["minimum transfer times without a value, type 2: ignored"] += 1
         elif {first, last} - boarded and first != last:
             counts["transfers to or from stations, entrances and the like: they count for the places of these"] += 1
     return counts
@@ -92,9 +92,9 @@ def of_quotes(folder: str) -> Counter[str]:
                     pass
         except csv.Error as fault:
             if "unexpected end" in str(fault):
-                counts[f"quote that is never closed, in {name}: the rows after it are lost"] += 1
+                counts[f"quotes in {name} that are never closed: the rows after them are lost"] += 1
             else:
-                counts[f"quoted field in {name} with text after its closing quote"] += 1
+                counts[f"quoted fields in {name} with text after the closing quote"] += 1
         except OSError as fault:
             raise Refused(f"cannot read {name}: {reason_of(fault)}") from None
     return counts

@@ -25,7 +25,7 @@ class Look(Case):
   2024-01-01 to 2024-12-29: Mon 3, Tue 3, Wed 3, Thu 3, Fri 3, Sat 0, Sun 0
   2024-12-30 to 2024-12-31: Mon 3, Tue 3
 What the planner does not take into account:
-  1 stop times without a time: no boarding or alighting there
+  stop times without a time (1): no boarding or alighting there
 """)
         self.assertIn("2007-06-04 to 2007-06-10: Mon 0, Tue 7", call("look", "", f"{EXAMPLES}/demo_transit/feed").printed)
         none = self.feed("none", trips="trip_id,route_id,service_id\n", stops="stop_id\n",
@@ -34,15 +34,19 @@ What the planner does not take into account:
 
     def test_what_is_not_taken_into_account(self) -> None:
         printed = call("look", "", self.made()).printed
-        for line in ("1 entrances, nodes and boarding areas", "1 trips whose service is in no calendar", "1 stop times without a stop",
-                     "1 stop times without a time", "1 stop times for which one phones ahead", "1 headways without exact times",
-                     "1 transfers that are not possible (type 3)", "1 minimum transfer times of routes or trips",
-                     "1 minimum transfer times without a value", "1 transfers to or from stations"):
+        for line in ("entrances, nodes and boarding areas (1): ", "trips whose service is in no calendar (1): ",
+                     "stop times without a stop, on demand (1): ", "stop times without a time (1): ",
+                     "stop times for which one phones ahead or asks the driver, types 2 and 3 (1): ",
+                     "headways without exact times (1): ", "transfers that are not possible, type 3 (1): ",
+                     "minimum transfer times of routes or trips, type 2 (1): ",
+                     "minimum transfer times without a value, type 2 (1): ",
+                     "transfers to or from stations, entrances and the like (1): "):
             self.assertIn(f"  {line}", printed)
         self.assertNotIn("quote", printed)
 
     def test_an_open_quote(self) -> None:
-        self.assertIn("1 quote that is never closed, in stop_times.txt", call("look", "", self.made(stop_times=TIMES + '"u,2,A')).printed)
+        printed = call("look", "", self.made(stop_times=TIMES + '"u,2,A')).printed
+        self.assertIn("  quotes in stop_times.txt that are never closed (1): the rows after them are lost\n", printed)
 
     def test_stops(self) -> None:
         self.prints(call("look", "", self.made(), "ZURICH"), """Stops with ZURICH in their name or id (id, name, kind, place):
