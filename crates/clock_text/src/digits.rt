@@ -39,10 +39,8 @@ pub fn read_optional_seconds(text: &[u8]) -> Option<Option<u32>>
     if text.is_empty() {
         return Some(None);
     }
-    match read_whole(text, SECONDS_PER_DAY) {
-        None => None,
-        Some(seconds) => Some(Some(seconds)),
-    }
+    let seconds = read_whole(text, SECONDS_PER_DAY)?;
+    Some(Some(seconds))
 }
 
 /// Two digits of a number.

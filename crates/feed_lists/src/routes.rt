@@ -57,10 +57,8 @@ fn route_columns(rows: &Rows) -> RouteColumns
 fn read_route_type(text: &[u8]) -> Option<u16>
     ensures { result ≡ whole_of 65534 text.now }
 {
-    match read_whole(text, 65_534) {
-        Some(kind) => Some(kind as u16),
-        None => None,
-    }
+    let kind = read_whole(text, 65_534)?;
+    Some(kind as u16)
 }
 
 /// The route of a row, or the first field that is not of its form.

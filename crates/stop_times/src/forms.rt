@@ -28,8 +28,6 @@ pub(crate) fn read_time_or_none(text: &[u8]) -> Option<Option<u32>>
     if text.is_empty() {
         return Some(None);
     }
-    match read_time(text) {
-        None => None,
-        Some(seconds) => Some(Some(seconds)),
-    }
+    let seconds = read_time(text)?;
+    Some(Some(seconds))
 }

@@ -99,10 +99,8 @@ fn number_of(stops: &TextIndex<'_>, text: &str) -> Option<Option<u32>>
     if text.is_empty() {
         return Some(None);
     }
-    match stops.number(text) {
-        None => None,
-        Some(stop) => Some(Some(stop)),
-    }
+    let stop = stops.number(text)?;
+    Some(Some(stop))
 }
 
 /// The number of the stop that a field names, or none if it is empty. It is looked up only if it is not the expected one.
