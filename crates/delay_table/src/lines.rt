@@ -88,10 +88,8 @@ fn read_class(text: &[u8]) -> Option<Option<u16>>
     if text == b"*".as_slice() {
         return Some(None);
     }
-    match read_whole(text, LAST_TYPE) {
-        None => None,
-        Some(route) => Some(Some(route as u16)),
-    }
+    let route = read_whole(text, LAST_TYPE)?;
+    Some(Some(route as u16))
 }
 
 /// A route, which only a row of the class `*` may have.
@@ -104,10 +102,8 @@ fn read_route(class: Option<u16>, text: &[u8]) -> Option<Option<&str>>
     if class.is_some() {
         return None;
     }
-    match read_name(text) {
-        None => None,
-        Some(route) => Some(Some(route)),
-    }
+    let route = read_name(text)?;
+    Some(Some(route))
 }
 
 /// An hour of the day, or nothing.
@@ -117,10 +113,8 @@ fn read_hour(text: &[u8]) -> Option<Option<u8>>
     if text.is_empty() {
         return Some(None);
     }
-    match read_whole(text, LAST_HOUR) {
-        None => None,
-        Some(hour) => Some(Some(hour as u8)),
-    }
+    let hour = read_whole(text, LAST_HOUR)?;
+    Some(Some(hour as u8))
 }
 
 /// A weight, which is 1 or more.

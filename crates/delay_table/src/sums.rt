@@ -44,10 +44,8 @@ fn other_sum(row: &[Outcome]) -> Option<u32>
 fn class_sum(read: &ReadRows<'_>, class: Option<u16>) -> Option<DelayFault>
     ensures { result ≡ class_sum (read_outcomes read.now.groups read.now.rows.items) class }
 {
-    match other_sum(read.class_rows(class)) {
-        None => None,
-        Some(sum) => Some(DelayFault::WeightSum(class_name(class), sum)),
-    }
+    let sum = other_sum(read.class_rows(class))?;
+    Some(DelayFault::WeightSum(class_name(class), sum))
 }
 
 /// The first fault of these route types.
@@ -73,10 +71,8 @@ fn group_sum(read: &ReadRows<'_>, index: usize) -> Option<DelayFault>
         return None;
     }
     let line = read.line(index);
-    match other_sum(read.group_rows(index)) {
-        None => None,
-        Some(sum) => Some(DelayFault::GroupSum(line, sum)),
-    }
+    let sum = other_sum(read.group_rows(index))?;
+    Some(DelayFault::GroupSum(line, sum))
 }
 
 /// The first fault of the groups that name a route or an hour.
