@@ -73,10 +73,8 @@ fn first_row(rows: &[GraphRow], arrival: Moment) -> Option<&GraphRow>
 fn first_leg(rows: &[GraphRow], arrival: Moment) -> Option<Leg>
     ensures { result ≡ pick_row rows.now arrival.0 }
 {
-    match first_row(rows, arrival) {
-        Some(row) => Some(row.leg),
-        None => None,
-    }
+    let row = first_row(rows, arrival)?;
+    Some(row.leg)
 }
 
 /// The first ride of the leg.
