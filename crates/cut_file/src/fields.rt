@@ -25,10 +25,8 @@ pub(crate) fn read_class(text: &[u8]) -> Option<Option<u16>>
     if text.is_empty() || text == b"*".as_slice() {
         return Some(None);
     }
-    match read_whole(text, LAST_TYPE) {
-        None => None,
-        Some(route) => Some(Some(route as u16)),
-    }
+    let route = read_whole(text, LAST_TYPE)?;
+    Some(Some(route as u16))
 }
 
 /// 0 or 1, and 1 if the field is empty.

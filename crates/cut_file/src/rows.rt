@@ -121,20 +121,14 @@ fn read_row<'a>(table: &CutRows<'a>, row: usize) -> Result<NamedRow<'a>, Column>
 fn run_of(before: Option<CutRow>) -> Option<u32>
     ensures { (runs : ℕ) → IfSome before (λ b. b.run < runs) → IfSome result (λ k. k < runs) }
 {
-    match before {
-        None => None,
-        Some(before) => Some(before.run),
-    }
+    before.map(|before| before.run)
 }
 
 /// Where the row before ends, if there is one.
 fn end_of(before: Option<CutRow>) -> Option<u32>
     ensures { (places : ℕ) → IfSome before (λ b. b.to < places) → IfSome result (λ k. k < places) }
 {
-    match before {
-        None => None,
-        Some(before) => Some(before.to),
-    }
+    before.map(|before| before.to)
 }
 
 /// The row with numbers for its names. Mostly it is of the run of the row before, and from where that ends to the place that
