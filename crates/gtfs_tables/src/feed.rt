@@ -123,10 +123,8 @@ impl Feed {
             ≡ option_map (λ stop. slice_index self.now.places stop) (number_in id.now self.now.stop_ids) }
         ensures in_range { IfSome result (λ p. p.0 < length self.now.stop_ids) }
     {
-        match self.lists.stops.ids.number(id) {
-            None => None,
-            Some(stop) => Some(self.place(stop)),
-        }
+        let stop = self.lists.stops.ids.number(id)?;
+        Some(self.place(stop))
     }
 
     /// How many trips there are.
