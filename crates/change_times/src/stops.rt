@@ -41,9 +41,7 @@ impl<'a> FeedStops<'a> {
             ≡ option_map (λ stop. slice_index self.now.places stop) (number_in id.now self.now.stop_ids) }
         ensures in_range { IfSome result (λ p. p.0 < length self.now.stop_ids) }
     {
-        match self.numbers.number(id) {
-            None => None,
-            Some(stop) => Some(self.feed.place(stop)),
-        }
+        let stop = self.numbers.number(id)?;
+        Some(self.feed.place(stop))
     }
 }
