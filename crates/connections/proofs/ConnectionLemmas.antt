@@ -1,4 +1,4 @@
--- The rides of runs are in order, fit their places and classes, and each run has one.
+-- The connections of runs are in order, fit their places and classes, and each run has one.
 use Rattle.std.proofs.Common.{◌≡◌, ℕ, suc, ◌+◌, ◌-◌, ◌<◌, ◌≤◌, ◌⊎◌, inl, inr, ℤ, pos, negsuc, ◌≤ℤ◌, List, length, map, get_or, slice_index, Some, All, refl}
 use Rattle.std.proofs.Common.{sym, ap, ◌∙◌, subst, arith, ⊎_elim, AllPairs, unsigned_abs}
 use Rattle.std.proofs.lemmas.Int.{ints}
@@ -24,10 +24,10 @@ use Rattle.connections.specs.declared.window.Window.{Window}
 use Rattle.connections.specs.declared.runs.Run.{Run}
 use Rattle.connections.specs.Joins.{join_below}
 use Rattle.connections.specs.Window.{IsWindow}
-use Rattle.connections.specs.Rides.{departs, steps_of}
+use Rattle.connections.specs.Steps.{departs, steps_of}
 use Rattle.connections.specs.TripRuns.{run_at, run_steps}
-use Rattle.connections.specs.FeedRuns.{AreRunsOf, AllRide}
-use Rattle.connections.specs.FeedNetworks.{AreChanges, AreRunNames, arrives, ride, run_rides, rides_below, class_of_trip, route_of}
+use Rattle.connections.specs.FeedRuns.{AreRunsOf, HaveConnections}
+use Rattle.connections.specs.FeedNetworks.{AreChanges, AreRunNames, arrives, connection_from, run_connections, connections_below, class_of_trip, route_of}
 use Rattle.connections.proofs.JoinLemmas.{All-join, AllPairs-join, Contains-join, join-many}
 use Rattle.connections.proofs.NameLemmas.{names_trimmed}
 use Rattle.connections.proofs.ReachLemmas.{onward_to}
@@ -56,8 +56,8 @@ module _ (w : Window) (v : IsWindow w) (rows : List StopRow) (places : ℕ) (t :
   abbrev steps : List ℕ
   steps = steps_of w rows o
 
-  good_ride : (k : ℕ) → IsStep w rows o (length rows - 1) k → IsGood places classes runs (ride rows o number class k)
-  good_ride k s =
+  good_connection : (k : ℕ) → IsStep w rows o (length rows - 1) k → IsGood places classes runs (connection_from rows o number class k)
+  good_connection k s =
       let here : k < length rows = omega (arith, s.inside) in
       let next : k + 1 < length rows = omega (arith, s.inside) in
       let held = holds_parts w (departs rows o k) s.holding in
@@ -73,12 +73,12 @@ module _ (w : Window) (v : IsWindow w) (rows : List StopRow) (places : ℕ) (t :
         run_in = inside;
       }
 
-  pub good_rides : All (IsGood places classes runs) (map (ride rows o number class) steps)
-  good_rides = All-map (IsGood places classes runs) (ride rows o number class) steps
-      (All-weaker (IsStep w rows o (length rows - 1)) (λ k. IsGood places classes runs (ride rows o number class k)) good_ride steps (steps_are w rows o
+  pub good_connections : All (IsGood places classes runs) (map (connection_from rows o number class) steps)
+  good_connections = All-map (IsGood places classes runs) (connection_from rows o number class) steps
+      (All-weaker (IsStep w rows o (length rows - 1)) (λ k. IsGood places classes runs (connection_from rows o number class k)) good_connection steps (steps_are w rows o
       (length rows - 1)))
 
-  follow : (a b : ℕ) → a < b → IsStep w rows o (length rows - 1) a → IsStep w rows o (length rows - 1) b → Follows (ride rows o number class a) (ride rows o number class b)
+  follow : (a b : ℕ) → a < b → IsStep w rows o (length rows - 1) a → IsStep w rows o (length rows - 1) b → Follows (connection_from rows o number class a) (connection_from rows o number class b)
   follow a b l s h =
       let e : a + suc (b - a - 1) ≡ b = omega arith in
       let on = onward_to rows places t a (b - a - 1) (omega (arith, h.inside)) in
@@ -86,8 +86,8 @@ module _ (w : Window) (v : IsWindow w) (rows : List StopRow) (places : ℕ) (t :
       let dep = not_before (departs rows o b) (omega (arith, ints, (holds_parts w (departs rows o b) h.holding).0)) in
       inr (refl, l, omega (arith, ints, arr, dep, on, ap (λ k. (kept_at rows k).departure) e))
 
-  pub rides_follow : AllPairs Follows (map (ride rows o number class) steps)
-  rides_follow = AllPairs-map (ride rows o number class) Follows steps (λ i j d l h.
+  pub connections_follow : AllPairs Follows (map (connection_from rows o number class) steps)
+  connections_follow = AllPairs-map (connection_from rows o number class) Follows steps (λ i j d l h.
       let are = steps_are w rows o (length rows - 1) in
       follow (get_or steps i d) (get_or steps j d) (steps_rise w rows o (length rows - 1) i j d l h)
       (All-get_or (IsStep w rows o (length rows - 1)) steps i d (omega arith) are) (All-get_or (IsStep w rows o (length rows - 1)) steps j d h are))
@@ -100,26 +100,26 @@ pub record AreGood (places classes runs : ℕ) (cs : List Connection) : Type 0 w
   pub many : runs ≤ length cs
 
 module _ (f : FeedParts) (delays : DelayLists) (w : Window) (v : IsWindow w) (timed : IsTimed f) (rs : List Run) (runs : AreRunsOf f rs) (classes : ℕ)
-    (few : (trip arr : ℕ) → class_of_trip f delays trip arr < classes) (some : AllRide f w rs) where
-  own : (n : ℕ) → n < length rs → All (IsGood (length f.stop_ids) classes (length rs)) (run_rides f delays w rs n) × AllPairs Follows
-      (run_rides f delays w rs n)
-      × All (λ c. c.run.0 ≡ n) (run_rides f delays w rs n) × (0 < length (run_rides f delays w rs n))
-  unfolding run_rides
+    (few : (trip arr : ℕ) → class_of_trip f delays trip arr < classes) (some : HaveConnections f w rs) where
+  own : (n : ℕ) → n < length rs → All (IsGood (length f.stop_ids) classes (length rs)) (run_connections f delays w rs n) × AllPairs Follows
+      (run_connections f delays w rs n)
+      × All (λ c. c.run.0 ≡ n) (run_connections f delays w rs n) × (0 < length (run_connections f delays w rs n))
+  unfolding run_connections
   own n h =
       let run = run_at rs n in
       let t = timed run.trip (runs.each n h).trip in
       let class = class_of_trip f delays run.trip in
-      let made = ride (rows_of f run.trip) run.origin n class in (
-        good_rides w v (rows_of f run.trip) (length f.stop_ids) t run.origin n class classes (length rs) (few run.trip) h,
-        rides_follow w v (rows_of f run.trip) (length f.stop_ids) t run.origin n class classes (length rs) (few run.trip) h,
+      let made = connection_from (rows_of f run.trip) run.origin n class in (
+        good_connections w v (rows_of f run.trip) (length f.stop_ids) t run.origin n class classes (length rs) (few run.trip) h,
+        connections_follow w v (rows_of f run.trip) (length f.stop_ids) t run.origin n class classes (length rs) (few run.trip) h,
         All-map (λ (c : Connection). c.run.0 ≡ n) made (run_steps f w run) (λ k d l. refl),
         omega (arith, length-map (run_steps f w run) made, some n h),
       )
 
-  pub all_good : AreGood (length f.stop_ids) classes (length rs) (rides_below f delays w rs (length rs))
-  unfolding rides_below
+  pub all_good : AreGood (length f.stop_ids) classes (length rs) (connections_below f delays w rs (length rs))
+  unfolding connections_below
   all_good =
-      let all = run_rides f delays w rs in
+      let all = run_connections f delays w rs in
       record {
         good = All-join (IsGood (length f.stop_ids) classes (length rs)) all (length rs) (λ n h. (own n h).0);
         order = AllPairs-join Follows (λ n c. c.run.0 ≡ n) all (length rs) (λ n h. (own n h).2) (λ n h. (own n h).1) (λ i j x y l h a b. inl (omega
@@ -135,11 +135,11 @@ module _ (f : FeedParts) (delays : DelayLists) (w : Window) (v : IsWindow w) (ti
       }
 
 -- what the parts of a network are made of
-module _ (f : FeedParts) (d : DelayLists) (delays : AreDelays d) (w : Window) (v : IsWindow w) (timed : IsTimed f) (rs : List Run) (runs : AreRunsOf f rs) (some : AllRide f w rs)
-    (few : length (rides_below f d w rs (length rs)) ≤ most_connections) (change : List ℕ) (changes : AreChanges change)
+module _ (f : FeedParts) (d : DelayLists) (delays : AreDelays d) (w : Window) (v : IsWindow w) (timed : IsTimed f) (rs : List Run) (runs : AreRunsOf f rs) (some : HaveConnections f w rs)
+    (few : length (connections_below f d w rs (length rs)) ≤ most_connections) (change : List ℕ) (changes : AreChanges change)
     (size : length change ≡ length f.stop_ids) (stops : length f.stop_ids < 4294967296) where
   abbrev cs : List Connection
-  cs = rides_below f d w rs (length rs)
+  cs = connections_below f d w rs (length rs)
 
   class_few : (trip arr : ℕ) → class_of_trip f d trip arr < length d.classes
   class_few trip arr = class_for-inside d delays (Some (slice_index f.route_types trip)) (Some (route_of f trip)) arr

@@ -1,4 +1,4 @@
--- How many rides runs have, and their rides, run by run.
+-- How many connections runs have, and their connections, run by run.
 use Rattle.std.proofs.Common.{◌≡◌, ℕ, zero, suc, ◌+◌, ◌≤◌, ◌&&◌, Bool, true, false, List, [], ◌∷◌, length, map, take, get_or, if◌then◌else◌, refl, sym, ap, ◌∙◌}
 use Rattle.std.proofs.Common.{arith, add-one, length-append, sum_by, nat_lt, lt-ltb, take_all}
 use mathlib.Core.Path.{fun_ext}
@@ -17,11 +17,11 @@ use Rattle.connections.specs.declared.runs.Run.{Run}
 use Rattle.connections.specs.Joins.{join_below, only_if, sum_below}
 use Rattle.connections.specs.Origins.{origin_of_day}
 use Rattle.connections.specs.Window.{day_at}
-use Rattle.connections.specs.Rides.{is_active_trip, steps_of}
-use Rattle.connections.specs.RepeatedRuns.{origin_at, riding_by, riding_of, in_order}
+use Rattle.connections.specs.Steps.{is_active_trip, steps_of}
+use Rattle.connections.specs.RepeatedRuns.{origin_at, row_repeats, rows_repeats, in_order}
 use Rattle.connections.specs.TripRuns.{frequencies_of, own_run, repeat_run, runs_of_trip, trip_runs, day_runs, runs_below, window_runs, run_at, no_run, run_steps}
 use Rattle.connections.specs.Counts.{steps_sum, rows_sum, runs_sum, day_sum, days_sum, count_in}
-use Rattle.connections.specs.FeedNetworks.{ride, run_rides, rides_below, class_of_trip}
+use Rattle.connections.specs.FeedNetworks.{connection_from, run_connections, connections_below, class_of_trip}
 use Rattle.connections.proofs.JoinLemmas.{join-zero, join-suc}
 use Rattle.connections.proofs.OrderLemmas.{in_order_sum}
 
@@ -69,15 +69,15 @@ sum_by-take g d xs (suc n) h =
 pub sum_by-at : {A : Type 0} (g : A → ℕ) (d : A) (xs : List A) → sum_by g xs ≡ sum_below (λ i. g (get_or xs i d)) (length xs)
 sum_by-at g d xs = ap (sum_by g) (sym (take_all (length xs) xs (omega arith))) ∙ sum_by-take g d xs (length xs) (omega arith)
 
--- what a run adds that rides, where it is one; it has no steps where it does not ride
-pub sum-rides : {A : Type 0} (is : Bool) (each : ℕ → ℕ) (steps : List ℕ) (g : A → ℕ) (x : A) → g x ≡ sum_by each steps
+-- what a run with a connection adds, where it is one; without one it has no steps
+pub sum-connections : {A : Type 0} (is : Bool) (each : ℕ → ℕ) (steps : List ℕ) (g : A → ℕ) (x : A) → g x ≡ sum_by each steps
     → sum_by g (only_if (is && nat_lt 0 (length steps)) x) ≡ (if is then sum_by each steps else 0)
-sum-rides true each [] g x e = refl
-sum-rides true each (k ∷ steps) g x e =
+sum-connections true each [] g x e = refl
+sum-connections true each (k ∷ steps) g x e =
     let some : nat_lt 0 (length (k ∷ steps)) ≡ true = lt-ltb 0 (length (k ∷ steps)) (omega arith) in
     let one : sum_by g (x ∷ []) ≡ g x = omega arith in
     ap (λ b. sum_by g (only_if (true && b) x)) some ∙ one ∙ e
-sum-rides false each steps g x e = refl
+sum-connections false each steps g x e = refl
 
 sum_by-map : {A B : Type 0} (g : B → ℕ) (f : A → B) (xs : List A) → sum_by g (map f xs) ≡ sum_by (λ x. g (f x)) xs
 sum_by-map g f [] = refl
@@ -88,23 +88,23 @@ sum-where true g xs n e = e
 sum-where false g xs n e = refl
 
 module _ (f : FeedParts) (s : ServiceParts) (d : DelayLists) (w : Window) where
-  -- how many rides a run has
+  -- how many connections a run has
   abbrev own : Run → ℕ
   own run = length (run_steps f w run)
 
   of_runs : (day : ServiceDay) (trip : ℕ) (fs : List FrequencyRow) → sum_by own (runs_of_trip w (rows_of f trip) fs day trip) ≡ runs_sum (λ place. 1) w
       (rows_of f trip) fs day
-  unfolding riding_of rows_sum
+  unfolding rows_repeats rows_sum
   of_runs day trip [] =
       let steps = steps_of w (rows_of f trip) (origin_of_day day) in
-      sum-rides true (λ k. 1) steps own (own_run day trip) (sym (sum_by-ones steps))
+      sum-connections true (λ k. 1) steps own (own_run day trip) (sym (sum_by-ones steps))
   of_runs day trip (row ∷ more) =
       let rows = rows_of f trip in let fs = row ∷ more in
       let each : Repeat → ℕ = λ r. steps_sum (λ place. 1) w rows (origin_at rows day r.departure) in
-      sum_by-map own (repeat_run rows day trip) (in_order (riding_of w rows day fs))
-      ∙ ap (λ (g : Repeat → ℕ). sum_by g (in_order (riding_of w rows day fs))) (fun_ext (λ r. sym (sum_by-ones (steps_of w rows (origin_at rows day r.departure)))))
-      ∙ in_order_sum each (riding_of w rows day fs)
-      ∙ sum_by-join each (λ i. riding_by w rows day (repeat_at fs i)) (length fs)
+      sum_by-map own (repeat_run rows day trip) (in_order (rows_repeats w rows day fs))
+      ∙ ap (λ (g : Repeat → ℕ). sum_by g (in_order (rows_repeats w rows day fs))) (fun_ext (λ r. sym (sum_by-ones (steps_of w rows (origin_at rows day r.departure)))))
+      ∙ in_order_sum each (rows_repeats w rows day fs)
+      ∙ sum_by-join each (λ i. row_repeats w rows day (repeat_at fs i)) (length fs)
 
   by_day : (day : ServiceDay) (n : ℕ) → sum_by own (day_runs f s w day n) ≡ day_sum (λ place. 1) f s w day n
   unfolding day_runs day_sum
@@ -119,10 +119,10 @@ module _ (f : FeedParts) (s : ServiceParts) (d : DelayLists) (w : Window) where
       ∙ ap (λ (g : ℕ → ℕ). sum_below g n) (fun_ext (λ d. by_day (day_at w d) (length f.trip_ids)))
 
   -- the connections of all runs are as many as the sum
-  pub rides_counted : (rs : List Run) → rs ≡ window_runs f s w → length (rides_below f d w rs (length rs)) ≡ count_in f s w
-  unfolding rides_below run_rides
-  rides_counted rs e =
-      length-join (run_rides f d w rs) (length rs)
+  pub connections_counted : (rs : List Run) → rs ≡ window_runs f s w → length (connections_below f d w rs (length rs)) ≡ count_in f s w
+  unfolding connections_below run_connections
+  connections_counted rs e =
+      length-join (run_connections f d w rs) (length rs)
       ∙ ap (λ (g : ℕ → ℕ). sum_below g (length rs)) (fun_ext (λ r. length-map (run_steps f w (run_at rs r))
-      (ride (rows_of f (run_at rs r).trip) (run_at rs r).origin r (class_of_trip f d (run_at rs r).trip))))
+      (connection_from (rows_of f (run_at rs r).trip) (run_at rs r).origin r (class_of_trip f d (run_at rs r).trip))))
       ∙ sym (sum_by-at own no_run rs) ∙ ap (sum_by own) e ∙ by_days 18

@@ -11,7 +11,7 @@ use Rattle.run_repeat.specs.Runs.{departure}
 use Rattle.connections.specs.declared.origins.ServiceDay.{ServiceDay}
 use Rattle.connections.specs.declared.window.Window.{Window}
 use Rattle.connections.specs.Window.{holds}
-use Rattle.connections.specs.Rides.{AreDepartures, departs}
+use Rattle.connections.specs.Steps.{AreDepartures, departs}
 use Rattle.connections.specs.RepeatedRuns.{origin_at}
 use Rattle.connections.specs.Counts.{leaving_sum}
 use Rattle.connections.proofs.RepeatLemmas.{AreLeaving, between, inside, to_few}

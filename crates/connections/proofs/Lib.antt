@@ -10,7 +10,7 @@ pub mod RunLemmas
 pub mod ConnectionLemmas
 pub mod ChangeLemmas
 pub mod ReachLemmas
-pub mod RideLemmas
+pub mod MapLemmas
 pub mod RouteLemmas
 pub mod RepeatLemmas
 pub mod LeavingLemmas

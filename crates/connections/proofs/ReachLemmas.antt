@@ -1,4 +1,4 @@
--- Trips that do not ride in a window, by their first and their last departure.
+-- Trips that do not depart in a window, by their first and their last departure.
 use Rattle.std.proofs.Common.{◌≡◌, ℕ, zero, suc, ◌+◌, ◌-◌, ◌<◌, ◌≤◌, Bool, true, false, List, [], ◌∷◌, length, arith, ap, refl, sym, subst, inl, inr, ℤ, pos, ◌<ℤ◌, nat_lt, if◌then◌else◌}
 use Rattle.std.proofs.lemmas.Bool.{cases_eq}
 use Rattle.std.proofs.lemmas.Bool.Decides.{nat_tests}
@@ -15,7 +15,7 @@ use Rattle.connections.specs.declared.origins.ServiceDay.{ServiceDay}
 use Rattle.connections.specs.Joins.{only_if}
 use Rattle.connections.specs.Origins.{moment_of, origin_of_day}
 use Rattle.connections.specs.Window.{holds}
-use Rattle.connections.specs.Rides.{DepartInOrder, AreDepartures, departs, rides, steps_of, is_active_trip}
+use Rattle.connections.specs.Steps.{DepartInOrder, AreDepartures, departs, has_connection, steps_of, is_active_trip}
 use Rattle.connections.specs.TripRuns.{frequencies_of, own_run, runs_of_trip, trip_runs, day_runs}
 use Rattle.connections.specs.Reach.{AreOverBy, NoneRuns}
 use Rattle.connections.proofs.JoinLemmas.{join-none}
@@ -57,11 +57,11 @@ holds_early : (w : Window) (moment : ℤ) → moment <ℤ pos w.start → holds 
 holds_early w moment early = grind (arith, ints)
 
 module _ (w : Window) (rows : List StopRow) (o : Origin) where
-  -- where there is no ride at all
+  -- where there is no connection at all
   pub none_at_all : length rows - 1 ≡ 0 → steps_of w rows o ≡ []
   none_at_all none = steps_none w rows o (length rows - 1) (λ k less. absurd (omega arith))
 
-  -- where the first ride is late
+  -- where the first connection is late
   pub none_late : DepartInOrder rows → pos w.end <ℤ departs rows o 0 → steps_of w rows o ≡ []
   none_late ordered late = steps_none w rows o (length rows - 1) (λ k less. holds_late w (departs rows o k) (omega (
     arith,
@@ -71,7 +71,7 @@ module _ (w : Window) (rows : List StopRow) (o : Origin) where
         (omega arith) (omega arith),
   )))
 
-  -- where the last ride is early
+  -- where the last connection is early
   pub none_early : DepartInOrder rows → departs rows o (length rows - 1 - 1) <ℤ pos w.start → steps_of w rows o ≡ []
   none_early ordered early =
       steps_none w rows o (length rows - 1) (λ k less. holds_early w (departs rows o k) (omega (
@@ -108,11 +108,11 @@ module _ (w : Window) (rows : List StopRow) (o : Origin) where
         (omega arith),
   )))
 
-  pub rides_true : (k : ℕ) → k < length rows - 1 → holds w (departs rows o k) ≡ true → true ≡ rides w rows o
-  rides_true k h t = let some = some_step w rows o (length rows - 1) k h t in grind (arith, nat_tests)
+  pub has_connection_true : (k : ℕ) → k < length rows - 1 → holds w (departs rows o k) ≡ true → true ≡ has_connection w rows o
+  has_connection_true k h t = let some = some_step w rows o (length rows - 1) k h t in grind (arith, nat_tests)
 
-  pub rides_false : steps_of w rows o ≡ [] → false ≡ rides w rows o
-  rides_false none = rw none refl
+  pub has_connection_false : steps_of w rows o ≡ [] → false ≡ has_connection w rows o
+  has_connection_false none = rw none refl
 
 runs_none : (w : Window) (rows : List StopRow) (day : ServiceDay) (trip : ℕ) (fs : List FrequencyRow) → fs ≡ [] → steps_of w rows (origin_of_day day) ≡ []
     → runs_of_trip w rows fs day trip ≡ []
@@ -123,7 +123,7 @@ where_none : {A : Type 0} (active : Bool) (xs : List A) → xs ≡ [] → (if ac
 where_none true xs h = h
 where_none false xs h = refl
 
--- on a day on which no trip rides there is no run
+-- on a day on which no trip departs there is no run
 pub day_runs-none : (f : FeedParts) (s : ServiceParts) (w : Window) (day : ServiceDay) → NoneRuns f w day → day_runs f s w day (length f.trip_ids) ≡ []
 unfolding day_runs
 day_runs-none f s w day none = join-none (trip_runs f s w day) (length f.trip_ids) (λ trip inside.

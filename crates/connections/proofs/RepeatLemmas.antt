@@ -1,4 +1,4 @@
--- The runs of a row of frequencies that ride in a window, gathered from the last kept row to the first.
+-- The runs of a row of frequencies that depart in a window, gathered from the last kept row to the first.
 use Rattle.std.proofs.Common.{◌≡◌, ℕ, ℤ, pos, suc, ◌+◌, ◌-◌, ◌*◌, ◌<◌, ◌≤◌, ◌<ℤ◌, ◌≤ℤ◌, max, nat_lt, nat_le, Bool, true, false, List, ◌++◌, length, All, refl}
 use Rattle.std.proofs.Common.{sym, ap, ◌∙◌, arith, ⊎_elim, if◌then◌else◌, AllPairs, le-ltb, leb-true, ltb-true}
 use Rattle.std.proofs.Common.{le-leb, lt-ltb}
@@ -17,12 +17,12 @@ use Rattle.connections.specs.declared.repeats.Repeat.{Repeat}
 use Rattle.connections.specs.declared.window.Window.{Window}
 use Rattle.connections.specs.Joins.{join_below, only_if}
 use Rattle.connections.specs.Window.{holds}
-use Rattle.connections.specs.Rides.{AreDepartures, departs, rides}
-use Rattle.connections.specs.RepeatedRuns.{repeat_of, origin_at, rides_by, riding_by, riding_of, in_order}
+use Rattle.connections.specs.Steps.{AreDepartures, departs, has_connection}
+use Rattle.connections.specs.RepeatedRuns.{repeat_of, origin_at, is_repeat, row_repeats, rows_repeats, in_order}
 use Rattle.connections.proofs.JoinLemmas.{join-same, join-rest, join-on, All-join, AllPairs-join, All-only_if, AllPairs-only_if}
 use Rattle.connections.proofs.OrderLemmas.{Differ, All-in_order}
-use Rattle.connections.proofs.ReachLemmas.{rides_true}
-use Rattle.connections.proofs.StepLemmas.{holds_parts, some_ride}
+use Rattle.connections.proofs.ReachLemmas.{has_connection_true}
+use Rattle.connections.proofs.StepLemmas.{holds_parts, leaves_some}
 
 same_bool : (a b : Bool) → (a ≡ true → b ≡ true) → (b ≡ true → a ≡ true) → a ≡ b
 same_bool true b h k = sym (h refl)
@@ -59,7 +59,7 @@ module _ (w : Window) (rows : List StopRow) (day : ServiceDay) (row : FrequencyR
   -- which of the first runs are taken, when each kept row from k on was looked at
   pub record AreTaken (k next : ℕ) (taken : ℕ → Bool) : Type 0 where
     pub few : next ≤ end_of_times
-    pub sound : (m : ℕ) → m < next → taken m ≡ true → rides_by w rows day row m ≡ true
+    pub sound : (m : ℕ) → m < next → taken m ≡ true → is_repeat w rows day row m ≡ true
     pub all : (m j : ℕ) → k ≤ j → j < length rows - 1 → IsRunOf row m → holds w (departs rows (origin_at rows day (departure row m)) j) ≡ true → (m < next) × (taken m ≡ true)
     pub late : (m : ℕ) → m < next → pos w.start ≤ℤ departs rows (origin_at rows day (departure row m)) k → taken m ≡ true
 
@@ -103,10 +103,10 @@ module _ (w : Window) (rows : List StopRow) (day : ServiceDay) (row : FrequencyR
           (⊎_elim (λ (less : m < from). absurd (omega (arith, ints, (l.before.hold m less).1, start))) (λ le. le) (cases_lt m from)))
           (cases_lt m next)
 
-      new_run : (m : ℕ) → next ≤ m → m < max next to → from ≤ m → rides_by w rows day row m ≡ true
+      new_run : (m : ℕ) → next ≤ m → m < max next to → from ≤ m → is_repeat w rows day row m ≡ true
       new_run m ge h low =
           let p = between k from to m l low (omega (arith, h, ge)) in
-          and_from _ _ (lt-ltb (departure row m) row.end p.0) (sym (rides_true w rows (origin_at rows day (departure row m)) k step p.1))
+          and_from _ _ (lt-ltb (departure row m) row.end p.0) (sym (has_connection_true w rows (origin_at rows day (departure row m)) k step p.1))
 
       pub step_taken : AreTaken k (max next to) (more next from taken)
       step_taken = record {
@@ -138,71 +138,71 @@ module _ (w : Window) (rows : List StopRow) (day : ServiceDay) (row : FrequencyR
           (λ i ge h. ap (λ b. only_if b (repeat_of row i)) (fresh next from i taken (omega (arith, ge)) ∙ le-leb from i (omega (arith, ge))))
           ∙ ap (λ n. taken_runs row taken next ++ list_below (λ i. repeat_of row (max from next + i)) n) size
 
-    -- when each was looked at, the runs that ride are taken
+    -- when each was looked at, the runs with a connection are taken
     module _ (next : ℕ) (taken : ℕ → Bool) (t : AreTaken 0 next taken) where
-      found : (m : ℕ) → rides_by w rows day row m ≡ true → (m < next) × (taken m ≡ true)
+      found : (m : ℕ) → is_repeat w rows day row m ≡ true → (m < next) × (taken m ≡ true)
       found m h =
-          let p = and_parts (nat_lt (departure row m) row.end) (rides w rows (origin_at rows day (departure row m))) h in
-          let x = some_ride w rows (origin_at rows day (departure row m)) (length rows - 1) (ltb-true 0 _ p.1) in
+          let p = and_parts (nat_lt (departure row m) row.end) (has_connection w rows (origin_at rows day (departure row m))) h in
+          let x = leaves_some w rows (origin_at rows day (departure row m)) (length rows - 1) (ltb-true 0 _ p.1) in
           t.all m x.0 (omega arith) x.1.inside (ltb-true (departure row m) row.end p.0) x.1.holding
 
-      pub all_taken : taken_runs row taken next ≡ riding_by w rows day row
-      unfolding riding_by
+      pub all_taken : taken_runs row taken next ≡ row_repeats w rows day row
+      unfolding row_repeats
       all_taken =
           let rest = end_of_times - next in
           let e : next + rest ≡ end_of_times = omega (arith, t.few) in
-          let own : ℕ → List Repeat = λ m. only_if (rides_by w rows day row m) (repeat_of row m) in
+          let own : ℕ → List Repeat = λ m. only_if (is_repeat w rows day row m) (repeat_of row m) in
           join-same (λ m. only_if (taken m) (repeat_of row m)) own next
-          (λ m h. ap (λ b. only_if b (repeat_of row m)) (same_bool (taken m) (rides_by w rows day row m) (t.sound m h) (λ r. (found m r).1)))
-          ∙ sym (join-rest own next rest (λ m ge. ap (λ b. only_if b (repeat_of row m)) (false_from_ne_true (rides_by w rows day row m) (λ r. omega (arith, (found m r).0, ge)))))
+          (λ m h. ap (λ b. only_if b (repeat_of row m)) (same_bool (taken m) (is_repeat w rows day row m) (t.sound m h) (λ r. (found m r).1)))
+          ∙ sym (join-rest own next rest (λ m ge. ap (λ b. only_if b (repeat_of row m)) (false_from_ne_true (is_repeat w rows day row m) (λ r. omega (arith, (found m r).0, ge)))))
           ∙ ap (join_below own) e
 
 module _ (w : Window) (rows : List StopRow) (day : ServiceDay) where
-  -- what holds of each run of a row that rides
-  pub riding_by_all : (P : Repeat → Type 0) (row : FrequencyRow)
-      → ((m : ℕ) → IsRunOf row m → rides w rows (origin_at rows day (departure row m)) ≡ true → P (repeat_of row m)) → All P (riding_by w rows day row)
-  unfolding riding_by
-  riding_by_all P row h = All-join P (λ m. only_if (rides_by w rows day row m) (repeat_of row m)) end_of_times (λ m l. All-only_if P
-      (rides_by w rows day row m) (repeat_of row m) (λ r.
-      let p = and_parts (nat_lt (departure row m) row.end) (rides w rows (origin_at rows day (departure row m))) r in h m (ltb-true (departure row m) row.end p.0) p.1))
+  -- what holds of each run of a row that has a connection
+  pub row_repeats_all : (P : Repeat → Type 0) (row : FrequencyRow)
+      → ((m : ℕ) → IsRunOf row m → has_connection w rows (origin_at rows day (departure row m)) ≡ true → P (repeat_of row m)) → All P (row_repeats w rows day row)
+  unfolding row_repeats
+  row_repeats_all P row h = All-join P (λ m. only_if (is_repeat w rows day row m) (repeat_of row m)) end_of_times (λ m l. All-only_if P
+      (is_repeat w rows day row m) (repeat_of row m) (λ r.
+      let p = and_parts (nat_lt (departure row m) row.end) (has_connection w rows (origin_at rows day (departure row m))) r in h m (ltb-true (departure row m) row.end p.0) p.1))
 
-  pub riding_of_all : (P : Repeat → Type 0) (fs : List FrequencyRow) → ((i : ℕ) → i < length fs → All P (riding_by w rows day (repeat_at fs i))) → All P (riding_of w rows day fs)
-  unfolding riding_of
-  riding_of_all P fs h = All-join P (λ i. riding_by w rows day (repeat_at fs i)) (length fs) h
+  pub rows_repeats_all : (P : Repeat → Type 0) (fs : List FrequencyRow) → ((i : ℕ) → i < length fs → All P (row_repeats w rows day (repeat_at fs i))) → All P (rows_repeats w rows day fs)
+  unfolding rows_repeats
+  rows_repeats_all P fs h = All-join P (λ i. row_repeats w rows day (repeat_at fs i)) (length fs) h
 
   -- they depart on the service day, and their trip has kept rows
-  pub riding_early : (fs : List FrequencyRow) → AreRepeats fs → All (λ r. r.departure < end_of_times) (in_order (riding_of w rows day fs))
-  riding_early fs are =
+  pub repeats_early : (fs : List FrequencyRow) → AreRepeats fs → All (λ r. r.departure < end_of_times) (in_order (rows_repeats w rows day fs))
+  repeats_early fs are =
       let P : Repeat → Type 0 = λ r. r.departure < end_of_times in
-      All-in_order P (riding_of w rows day fs) (riding_of_all P fs (λ i l. riding_by_all P (repeat_at fs i) (λ m run h.
+      All-in_order P (rows_repeats w rows day fs) (rows_repeats_all P fs (λ i l. row_repeats_all P (repeat_at fs i) (λ m run h.
       let is : IsFrequency (repeat_at fs i) = are.each i no_frequency.row l in omega (arith, run, is.end))))
 
-  pub riding_some : (fs : List FrequencyRow) → 0 < length (in_order (riding_of w rows day fs)) → 0 < length rows
-  riding_some fs some =
+  pub repeats_some : (fs : List FrequencyRow) → 0 < length (in_order (rows_repeats w rows day fs)) → 0 < length rows
+  repeats_some fs some =
       let P : Repeat → Type 0 = λ r. 0 < length rows in
-      let all : All P (in_order (riding_of w rows day fs)) = All-in_order P (riding_of w rows day fs) (riding_of_all P fs (λ i l. riding_by_all P (repeat_at fs i) (λ m run h.
-      let x = some_ride w rows (origin_at rows day (departure (repeat_at fs i) m)) (length rows - 1) (ltb-true 0 _ h) in omega (arith, x.1.inside)))) in
+      let all : All P (in_order (rows_repeats w rows day fs)) = All-in_order P (rows_repeats w rows day fs) (rows_repeats_all P fs (λ i l. row_repeats_all P (repeat_at fs i) (λ m run h.
+      let x = leaves_some w rows (origin_at rows day (departure (repeat_at fs i) m)) (length rows - 1) (ltb-true 0 _ h) in omega (arith, x.1.inside)))) in
       all 0 (record { departure = 0; line = 0 }) some
 
   rising : (row : FrequencyRow) → 1 ≤ row.headway → (m n : ℕ) → m < n → departure row m < departure row n
   rising row some m n h =
       let a : suc m * row.headway ≤ n * row.headway = mul-le-mul_right row.headway (omega (arith, h)) in omega (arith, a, suc-mul m row.headway, some)
 
-  pub riding_by_pairs : (row : FrequencyRow) → IsFrequency row → AllPairs Differ (riding_by w rows day row)
-  unfolding riding_by
-  riding_by_pairs row is =
+  pub row_repeats_pairs : (row : FrequencyRow) → IsFrequency row → AllPairs Differ (row_repeats w rows day row)
+  unfolding row_repeats
+  row_repeats_pairs row is =
       let At : ℕ → Repeat → Type 0 = λ m r. r.departure ≡ departure row m in
-      AllPairs-join Differ At (λ m. only_if (rides_by w rows day row m) (repeat_of row m)) end_of_times (λ m l. All-only_if (At m)
-      (rides_by w rows day row m) (repeat_of row m) (λ r. refl))
-      (λ m l. AllPairs-only_if Differ (rides_by w rows day row m) (repeat_of row m)) (λ m n a b l h at at' e. omega
+      AllPairs-join Differ At (λ m. only_if (is_repeat w rows day row m) (repeat_of row m)) end_of_times (λ m l. All-only_if (At m)
+      (is_repeat w rows day row m) (repeat_of row m) (λ r. refl))
+      (λ m l. AllPairs-only_if Differ (is_repeat w rows day row m) (repeat_of row m)) (λ m n a b l h at at' e. omega
       (arith, at, at', rising row is.some m n l, ap (λ (r : Repeat). r.departure) e))
 
-  pub riding_of_pairs : (fs : List FrequencyRow) → AreRepeats fs → AllPairs Differ (riding_of w rows day fs)
-  unfolding riding_of
-  riding_of_pairs fs are =
+  pub rows_repeats_pairs : (fs : List FrequencyRow) → AreRepeats fs → AllPairs Differ (rows_repeats w rows day fs)
+  unfolding rows_repeats
+  rows_repeats_pairs fs are =
       let At : ℕ → Repeat → Type 0 = λ i r. r.line ≡ (repeat_at fs i).line in
-      AllPairs-join Differ At (λ i. riding_by w rows day (repeat_at fs i)) (length fs) (λ i l. riding_by_all (At i) (repeat_at fs i) (λ m run r. refl))
-      (λ i l. riding_by_pairs (repeat_at fs i) (are.each i no_frequency.row l)) (λ i j a b l h at at' e. omega (
+      AllPairs-join Differ At (λ i. row_repeats w rows day (repeat_at fs i)) (length fs) (λ i l. row_repeats_all (At i) (repeat_at fs i) (λ m run r. refl))
+      (λ i l. row_repeats_pairs (repeat_at fs i) (are.each i no_frequency.row l)) (λ i j a b l h at at' e. omega (
         arith,
         at,
         at',

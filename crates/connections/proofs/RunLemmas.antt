@@ -1,4 +1,4 @@
--- The runs that ride in a window, by service day, position of the trip, and how they start.
+-- The runs that depart in a window, by service day, position of the trip, and how they start.
 use Rattle.std.proofs.Common.{◌≡◌, ℕ, ◌<ℤ◌, ◌<◌, ◌⊎◌, inl, inr, Bool, true, false, List, [], ◌∷◌, length, map, All, refl, sym, ◌∙◌, subst, arith, ⊎_elim}
 use Rattle.std.proofs.Common.{if◌then◌else◌, AllPairs, ltb-true}
 use Rattle.std.proofs.lemmas.Int.{ints}
@@ -17,90 +17,90 @@ use Rattle.connections.specs.declared.window.Window.{Window}
 use Rattle.connections.specs.Joins.{join_below, only_if}
 use Rattle.connections.specs.Origins.{origin_of_day}
 use Rattle.connections.specs.Window.{day_at, IsWindow}
-use Rattle.connections.specs.Rides.{is_active_trip, rides, steps_of}
-use Rattle.connections.specs.RepeatedRuns.{riding_of, in_order}
+use Rattle.connections.specs.Steps.{is_active_trip, has_connection, steps_of}
+use Rattle.connections.specs.RepeatedRuns.{rows_repeats, in_order}
 use Rattle.connections.specs.TripRuns.{frequencies_of, own_run, repeat_run, runs_of_trip, trip_runs, day_runs, runs_below, window_runs, no_run, run_steps, days}
-use Rattle.connections.specs.FeedRuns.{IsRunOfFeed, AreRunsOf, AllRide}
+use Rattle.connections.specs.FeedRuns.{IsRunOfFeed, AreRunsOf, HaveConnections}
 use Rattle.connections.proofs.JoinLemmas.{All-join, AllPairs-join, All-only_if, AllPairs-only_if}
 use Rattle.connections.proofs.OrderLemmas.{All-in_order, pairs_in_order}
-use Rattle.connections.proofs.RepeatLemmas.{riding_by_all, riding_of_all, riding_of_pairs}
+use Rattle.connections.proofs.RepeatLemmas.{row_repeats_all, rows_repeats_all, rows_repeats_pairs}
 use Rattle.plan_model.proofs.Lists.{AllPairs-map, AllPairs-nil}
 
 -- by day, then by trip, and of one trip and day apart by how they start
 abbrev pub Precedes : Run → Run → Type 0
 Precedes a b = (a.origin.day.number <ℤ b.origin.day.number) ⊎ ((a.origin.day.number ≡ b.origin.day.number) × ((a.trip < b.trip) ⊎ (a.repeat ≡ b.repeat → ⊥)))
 
--- a run of this trip on this day, with a ride in the window
-pub record IsRide (w : Window) (rows : List StopRow) (day : ServiceDay) (trip : ℕ) (run : Run) : Type 0 where
+-- a run of this trip on this day, with a connection in the window
+pub record IsTripRun (w : Window) (rows : List StopRow) (day : ServiceDay) (trip : ℕ) (run : Run) : Type 0 where
   pub same : run.origin.day.number ≡ day.number
   pub trip_is : run.trip ≡ trip
-  pub rides : 0 < length (steps_of w rows run.origin)
+  pub some : 0 < length (steps_of w rows run.origin)
 
 module _ (w : Window) (rows : List StopRow) (day : ServiceDay) (trip : ℕ) where
-  pub record AreRides (rs : List Run) : Type 0 where
-    pub each : All (IsRide w rows day trip) rs
+  pub record AreTripRuns (rs : List Run) : Type 0 where
+    pub each : All (IsTripRun w rows day trip) rs
     pub order : AllPairs Precedes rs
 
-  own_rides : AreRides (only_if (rides w rows (origin_of_day day)) (own_run day trip))
-  own_rides = record {
-    each = All-only_if (IsRide w rows day trip) (rides w rows (origin_of_day day)) (own_run day trip)
-        (λ h. record { same = refl; trip_is = refl; rides = ltb-true 0 _ h });
-    order = AllPairs-only_if Precedes (rides w rows (origin_of_day day)) (own_run day trip);
+  own_run_is : AreTripRuns (only_if (has_connection w rows (origin_of_day day)) (own_run day trip))
+  own_run_is = record {
+    each = All-only_if (IsTripRun w rows day trip) (has_connection w rows (origin_of_day day)) (own_run day trip)
+        (λ h. record { same = refl; trip_is = refl; some = ltb-true 0 _ h });
+    order = AllPairs-only_if Precedes (has_connection w rows (origin_of_day day)) (own_run day trip);
   }
 
-  repeat_rides : (fs : List FrequencyRow) → AreRepeats fs → AreRides (map (repeat_run rows day trip) (in_order (riding_of w rows day fs)))
-  repeat_rides fs are =
+  repeat_runs_are : (fs : List FrequencyRow) → AreRepeats fs → AreTripRuns (map (repeat_run rows day trip) (in_order (rows_repeats w rows day fs)))
+  repeat_runs_are fs are =
       let f = repeat_run rows day trip in
-      let P : Repeat → Type 0 = λ r. IsRide w rows day trip (f r) in
-      let all : All P (in_order (riding_of w rows day fs)) = All-in_order P (riding_of w rows day fs) (riding_of_all w rows day P fs
-      (λ i l. riding_by_all w rows day P _ (λ m run h.
-      record { same = refl; trip_is = refl; rides = ltb-true 0 _ h }))) in
-      let apart = pairs_in_order (riding_of w rows day fs) (riding_of_pairs w rows day fs are) in
+      let P : Repeat → Type 0 = λ r. IsTripRun w rows day trip (f r) in
+      let all : All P (in_order (rows_repeats w rows day fs)) = All-in_order P (rows_repeats w rows day fs) (rows_repeats_all w rows day P fs
+      (λ i l. row_repeats_all w rows day P _ (λ m run h.
+      record { same = refl; trip_is = refl; some = ltb-true 0 _ h }))) in
+      let apart = pairs_in_order (rows_repeats w rows day fs) (rows_repeats_pairs w rows day fs are) in
       record {
-        each = All-map (IsRide w rows day trip) f (in_order (riding_of w rows day fs)) all;
-        order = AllPairs-map f Precedes (in_order (riding_of w rows day fs)) (λ i j d l h. inr (refl, inr (λ e. apart i j d l h (same_Some _ _ e))));
+        each = All-map (IsTripRun w rows day trip) f (in_order (rows_repeats w rows day fs)) all;
+        order = AllPairs-map f Precedes (in_order (rows_repeats w rows day fs)) (λ i j d l h. inr (refl, inr (λ e. apart i j d l h (same_Some _ _ e))));
       }
 
-  pub rides_of_trip : (fs : List FrequencyRow) → AreRepeats fs → AreRides (runs_of_trip w rows fs day trip)
-  rides_of_trip [] are = own_rides
-  rides_of_trip (row ∷ more) are = repeat_rides (row ∷ more) are
+  pub trip_runs_are : (fs : List FrequencyRow) → AreRepeats fs → AreTripRuns (runs_of_trip w rows fs day trip)
+  trip_runs_are [] are = own_run_is
+  trip_runs_are (row ∷ more) are = repeat_runs_are (row ∷ more) are
 
-  pub rides_where : (active : Bool) (rs : List Run) → AreRides rs → AreRides (if active then rs else [])
-  rides_where true rs a = a
-  rides_where false rs a = record { each = All-nil (IsRide w rows day trip); order = AllPairs-nil Precedes }
+  pub runs_where : (active : Bool) (rs : List Run) → AreTripRuns rs → AreTripRuns (if active then rs else [])
+  runs_where true rs a = a
+  runs_where false rs a = record { each = All-nil (IsTripRun w rows day trip); order = AllPairs-nil Precedes }
 
 module _ (f : FeedParts) (s : ServiceParts) (w : Window) (repeats : AreRepeating f) where
-  -- a run of this day, with a ride in the window
+  -- a run of this day, with a connection in the window
   pub record IsRunOn (day : ServiceDay) (run : Run) : Type 0 where
     pub same : run.origin.day.number ≡ day.number
     pub trip : run.trip < length f.trip_ids
-    pub rides : 0 < length (run_steps f w run)
+    pub some : 0 < length (run_steps f w run)
 
-  of_trip : (day : ServiceDay) (trip : ℕ) → trip < length f.trip_ids → AreRides w (rows_of f trip) day trip (trip_runs f s w day trip)
-  of_trip day trip h = rides_where w (rows_of f trip) day trip (is_active_trip f s day trip) _ (rides_of_trip w (rows_of f trip) day trip
+  of_trip : (day : ServiceDay) (trip : ℕ) → trip < length f.trip_ids → AreTripRuns w (rows_of f trip) day trip (trip_runs f s w day trip)
+  of_trip day trip h = runs_where w (rows_of f trip) day trip (is_active_trip f s day trip) _ (trip_runs_are w (rows_of f trip) day trip
       (frequencies_of f trip) (repeats trip h))
 
   of_day : (day : ServiceDay) → All (IsRunOn day) (day_runs f s w day (length f.trip_ids)) × AllPairs Precedes (day_runs f s w day (length f.trip_ids))
   unfolding day_runs
   of_day day = (
-    All-join (IsRunOn day) (trip_runs f s w day) (length f.trip_ids) (λ trip h. All-weaker (IsRide w (rows_of f trip) day trip) (IsRunOn day) (λ run r. record {
+    All-join (IsRunOn day) (trip_runs f s w day) (length f.trip_ids) (λ trip h. All-weaker (IsTripRun w (rows_of f trip) day trip) (IsRunOn day) (λ run r. record {
       same = r.same;
       trip = omega (arith, r.trip_is, h);
-      rides = let P : ℕ → Type 0 = λ k. 0 < length (steps_of w (rows_of f k) run.origin) in subst P (sym r.trip_is) r.rides;
+      some = let P : ℕ → Type 0 = λ k. 0 < length (steps_of w (rows_of f k) run.origin) in subst P (sym r.trip_is) r.some;
     }) (trip_runs f s w day trip) (of_trip day trip h).each),
-    AllPairs-join Precedes (λ trip. IsRide w (rows_of f trip) day trip) (trip_runs f s w day) (length f.trip_ids) (λ trip h. (of_trip day trip h).each)
+    AllPairs-join Precedes (λ trip. IsTripRun w (rows_of f trip) day trip) (trip_runs f s w day) (length f.trip_ids) (λ trip h. (of_trip day trip h).each)
         (λ trip h. (of_trip day trip h).order) (λ i j x y l h a b. inr (a.same ∙ sym b.same, inl (omega (arith, l, a.trip_is, b.trip_is)))),
   )
 
   -- the runs of a window
-  pub runs_are : IsWindow w → (rs : List Run) → rs ≡ window_runs f s w → AreRunsOf f rs × AllRide f w rs
+  pub runs_are : IsWindow w → (rs : List Run) → rs ≡ window_runs f s w → AreRunsOf f rs × HaveConnections f w rs
   unfolding runs_below
   runs_are v rs e =
-      let P : List Run → Type 0 = λ xs. AreRunsOf f xs × AllRide f w xs in
+      let P : List Run → Type 0 = λ xs. AreRunsOf f xs × HaveConnections f w xs in
       let Q : Run → Type 0 = λ run. IsRunOfFeed f run × (0 < length (run_steps f w run)) in
       let of : ℕ → List Run = λ d. day_runs f s w (day_at w d) (length f.trip_ids) in
       let all = All-join Q of days (λ d h. All-weaker (IsRunOn (day_at w d)) Q (λ run r.
-      (record { trip = r.trip; day = record { from = omega (arith, ints, r.same, v.early); to = omega (arith, ints, r.same, h, v.late) } }, r.rides)) (of d)
+      (record { trip = r.trip; day = record { from = omega (arith, ints, r.same, v.early); to = omega (arith, ints, r.same, h, v.late) } }, r.some)) (of d)
       (of_day (day_at w d)).0) in
       let order = AllPairs-join Precedes (λ d. IsRunOn (day_at w d)) of days (λ d h. (of_day (day_at w d)).0) (λ d h. (of_day (day_at w d)).1)
       (λ i j x y l h a b.

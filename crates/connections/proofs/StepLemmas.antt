@@ -10,7 +10,7 @@ use Rattle.connections.specs.declared.origins.Origin.{Origin}
 use Rattle.connections.specs.declared.window.Window.{Window}
 use Rattle.connections.specs.Joins.{only_if}
 use Rattle.connections.specs.Window.{holds}
-use Rattle.connections.specs.Rides.{steps_below, departs}
+use Rattle.connections.specs.Steps.{steps_below, departs}
 use Rattle.connections.proofs.JoinLemmas.{join-zero, join-next, All-join, AllPairs-join, Contains-join, All-only_if, AllPairs-only_if}
 
 le_is : (a b : ℤ) → int_le a b ≡ true → a ≤ℤ b
@@ -53,18 +53,18 @@ module _ (w : Window) (rows : List StopRow) (o : Origin) where
   steps_rise n = AllPairs-join Less (λ k step. step ≡ k) step_of n (λ k l. All-only_if (λ step. step ≡ k) (holds w (departs rows o k)) k (λ h. refl))
       (λ k l. AllPairs-only_if Less (holds w (departs rows o k)) k) (λ i j x y l h a b. omega (arith, l, a, b))
 
-  -- a row that is left in the window is a ride
+  -- a row that is left in the window gives a connection
   pub some_step : (n k : ℕ) → k < n → holds w (departs rows o k) ≡ true → 0 < length (steps_below w rows o n)
   unfolding steps_below
   some_step n k l h = let has = Contains-join step_of n k k l (rw h (0, omega arith, refl)) in omega (arith, has.1)
 
-  -- a run that rides leaves some kept row in the window
-  pub some_ride : (n : ℕ) → 0 < length (steps_below w rows o n) → (j : ℕ) × IsStep w rows o n j
-  some_ride n some = (get_or (steps_below w rows o n) 0 0, All-get_or (IsStep w rows o n) (steps_below w rows o n) 0 0 some (steps_are n))
+  -- a run with a connection leaves some kept row in the window
+  pub leaves_some : (n : ℕ) → 0 < length (steps_below w rows o n) → (j : ℕ) × IsStep w rows o n j
+  leaves_some n some = (get_or (steps_below w rows o n) 0 0, All-get_or (IsStep w rows o n) (steps_below w rows o n) 0 0 some (steps_are n))
 
   pub steps_none : (n : ℕ) → ((k : ℕ) → k < n → holds w (departs rows o k) ≡ false) → steps_below w rows o n ≡ []
   steps_none n none = nil_from_length (steps_below w rows o n) (⊎_elim
-      (λ (some : 0 < length (steps_below w rows o n)). let x = some_ride n some in absurd (let no = none x.0 x.1.inside in let yes = x.1.holding in cc))
+      (λ (some : 0 < length (steps_below w rows o n)). let x = leaves_some n some in absurd (let no = none x.0 x.1.inside in let yes = x.1.holding in cc))
       (λ (few : length (steps_below w rows o n) ≤ 0). omega arith) (cases_lt 0 (length (steps_below w rows o n))))
 
 -- the start and the step of a loop that makes something of each

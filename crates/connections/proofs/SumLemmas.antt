@@ -29,12 +29,12 @@ use Rattle.connections.specs.declared.window.Window.{Window}
 use Rattle.connections.specs.Joins.{only_if, sum_below}
 use Rattle.connections.specs.Origins.{origin_of_day}
 use Rattle.connections.specs.Window.{holds, day_at, IsWindow}
-use Rattle.connections.specs.Rides.{departs, is_active_trip, steps_below, steps_of}
-use Rattle.connections.specs.RepeatedRuns.{origin_at, repeat_of, rides_by, riding_by}
+use Rattle.connections.specs.Steps.{departs, is_active_trip, steps_below, steps_of}
+use Rattle.connections.specs.RepeatedRuns.{origin_at, repeat_of, is_repeat, row_repeats}
 use Rattle.connections.specs.TripRuns.{frequencies_of, days}
 use Rattle.connections.specs.Counts.{each_of, steps_sum, row_sum, rows_sum, runs_sum, leaving_sum, trip_sum, day_sum, days_sum, window_sum, count_in, entries_in, HaveWays}
 use Rattle.connections.specs.Reach.{NoneRuns}
-use Rattle.connections.proofs.CountLemmas.{sum-zero, sum-suc, sum_by-ones, sum_by-join, length-join, sum_by-at, sum-rides}
+use Rattle.connections.proofs.CountLemmas.{sum-zero, sum-suc, sum_by-ones, sum_by-join, length-join, sum_by-at, sum-connections}
 use Rattle.connections.proofs.StepLemmas.{holds_parts}
 
 pub active-sum : (active : Bool) (n x : ℕ) → active ≡ true → x ≡ min n (2 ^ 64 - 1) → x ≡ min (if active then n else 0) (2 ^ 64 - 1)
@@ -78,15 +78,15 @@ where-sum false holds' f n = sym (sum-none n)
 -- what the runs of a row add up to, by the kept rows that they leave
 pub row_sum-leaving : (each : PlaceId → ℕ) (w : Window) (rows : List StopRow) (day : ServiceDay) (row : FrequencyRow)
     → row_sum each w rows day row ≡ sum_below (leaving_sum each w rows day row) (length rows - 1)
-unfolding riding_by leaving_sum
+unfolding row_repeats leaving_sum
 row_sum-leaving each w rows day row =
     let own : Repeat → ℕ = λ r. steps_sum each w rows (origin_at rows day r.departure) in
     let f : ℕ → ℕ = λ k. each (kept_at rows k).place in
     let o : ℕ → Origin = λ m. origin_at rows day (departure row m) in
     let F : ℕ → ℕ → ℕ = λ m k. if nat_lt (departure row m) row.end && holds w (departs rows (o m) k) then f k else 0 in
-    sum_by-join own (λ m. only_if (rides_by w rows day row m) (repeat_of row m)) end_of_times
-    ∙ sum-same (λ m. sum_by own (only_if (rides_by w rows day row m) (repeat_of row m))) (λ m. sum_below (F m) (length rows - 1)) end_of_times (λ m.
-    sum-rides (nat_lt (departure row m) row.end) f (steps_of w rows (o m)) own (repeat_of row m) refl
+    sum_by-join own (λ m. only_if (is_repeat w rows day row m) (repeat_of row m)) end_of_times
+    ∙ sum-same (λ m. sum_by own (only_if (is_repeat w rows day row m) (repeat_of row m))) (λ m. sum_below (F m) (length rows - 1)) end_of_times (λ m.
+    sum-connections (nat_lt (departure row m) row.end) f (steps_of w rows (o m)) own (repeat_of row m) refl
     ∙ ap (λ x. if nat_lt (departure row m) row.end then x else 0) (steps-sum f w rows (o m) (length rows - 1))
     ∙ where-sum (nat_lt (departure row m) row.end) (λ k. holds w (departs rows (o m) k)) f (length rows - 1))
     ∙ sum-swap F end_of_times (length rows - 1)
@@ -189,7 +189,7 @@ module _ (most : ℕ) (w : Window) (each : PlaceId → ℕ) where
       sum-scale (λ i. row_sum each w rows day (repeat_at fs i)) (λ i. row_sum (λ place. 1) w rows day (repeat_at fs i)) (length fs) (λ i less.
       sum_by-scale (λ (r : Repeat). steps_sum each w rows (origin_at rows day r.departure)) (λ (r : Repeat). steps_sum (λ place. 1) w rows
       (origin_at rows day r.departure))
-      (riding_by w rows day (repeat_at fs i)) (λ r. steps-scale rows h (origin_at rows day r.departure)))
+      (row_repeats w rows day (repeat_at fs i)) (λ r. steps-scale rows h (origin_at rows day r.departure)))
 
   -- where each place that a trip leaves counts for this many at most, the sum is at most this many times that of ones
   pub window-scale : (f : FeedParts) (s : ServiceParts) → ((trip k : ℕ) → trip < length f.trip_ids → each (kept_at (rows_of f trip) k).place ≤ most)
@@ -290,7 +290,7 @@ runs_nothing : (each : PlaceId → ℕ) (w : Window) (rows : List StopRow) (day 
 runs_nothing each w rows day [] once none = ap (sum_by (λ k. each (kept_at rows k).place)) none
 runs_nothing each w rows day (row ∷ more) once none = absurd (cc)
 
--- a day on which no trip rides adds nothing
+-- a day on which no trip departs adds nothing
 pub day_sum-none : (each : PlaceId → ℕ) (f : FeedParts) (s : ServiceParts) (w : Window) (day : ServiceDay) → NoneRuns f w day → day_sum each f s w day (length f.trip_ids) ≡ 0
 unfolding day_sum
 day_sum-none each f s w day none = sum-nothing (trip_sum each f s w day) (length f.trip_ids) (λ trip inside.

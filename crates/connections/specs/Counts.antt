@@ -18,8 +18,8 @@ use Rattle.connections.specs.declared.window.Window.{Window}
 use Rattle.connections.specs.Joins.{sum_below}
 use Rattle.connections.specs.Origins.{origin_of_day}
 use Rattle.connections.specs.Window.{holds, day_at}
-use Rattle.connections.specs.Rides.{is_active_trip, departs, steps_of}
-use Rattle.connections.specs.RepeatedRuns.{origin_at, riding_by}
+use Rattle.connections.specs.Steps.{is_active_trip, departs, steps_of}
+use Rattle.connections.specs.RepeatedRuns.{origin_at, row_repeats}
 use Rattle.connections.specs.TripRuns.{frequencies_of, days}
 
 -- what the connections of a run with these kept rows add up to, by the places that they leave
@@ -28,7 +28,7 @@ steps_sum each w rows o = sum_by (λ k. each (kept_at rows k).place) (steps_of w
 
 -- the same of the runs that a row of frequencies starts
 abbrev pub row_sum : (PlaceId → ℕ) → Window → List StopRow → ServiceDay → FrequencyRow → ℕ
-row_sum each w rows day row = sum_by (λ r. steps_sum each w rows (origin_at rows day r.departure)) (riding_by w rows day row)
+row_sum each w rows day row = sum_by (λ r. steps_sum each w rows (origin_at rows day r.departure)) (row_repeats w rows day row)
 
 -- and of those that the first n rows start
 unfoldable pub rows_sum : (PlaceId → ℕ) → Window → List StopRow → ServiceDay → List FrequencyRow → (n : ℕ) → ℕ

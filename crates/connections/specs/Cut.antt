@@ -14,7 +14,7 @@ use Rattle.connections.specs.Faults.{window_fault}
 use Rattle.connections.specs.Counts.{count_in, entries_in}
 use Rattle.connections.specs.FeedNetworks.{IsNetworkOf}
 
--- its connections are the rides in the window, its change seconds and links are those of the feed's transfers, and its classes
+-- its connections are those of the window, its change seconds and links are those of the feed's transfers, and its classes
 -- those of the delays
 abbrev pub IsNetworkFrom : FeedParts → ServiceParts → ChangeParts → DelayLists → (start horizon : ℕ) → NetworkModel → NameLists → Type 0
 IsNetworkFrom f s c d start horizon network names =

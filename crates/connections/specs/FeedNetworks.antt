@@ -17,17 +17,17 @@ use Rattle.connections.specs.declared.window.Window.{Window}
 use Rattle.connections.specs.declared.runs.Run.{Run}
 use Rattle.connections.specs.Joins.{join_below}
 use Rattle.connections.specs.Origins.{moment_of}
-use Rattle.connections.specs.Rides.{departs}
+use Rattle.connections.specs.Steps.{departs}
 use Rattle.connections.specs.TripRuns.{run_steps, run_at, window_runs}
 
--- when the ride from the k-th kept row to the next arrives
+-- when the connection from the k-th kept row to the next arrives
 abbrev pub arrives : List StopRow → Origin → ℕ → ℤ
 arrives rows o k = moment_of o (kept_at rows (k + 1)).arrival
 
--- the ride of a run from its k-th kept row to the next, with the number of the run, and its class by its arrival; it departs
+-- the connection of a run from its k-th kept row to the next, with the number of the run, and its class by its arrival; it departs
 -- in a window, so no moment of it is before 1970
-abbrev pub ride : List StopRow → (o : Origin) → (number : ℕ) → (class : ℕ → ℕ) → (k : ℕ) → Connection
-ride rows o number class k = record {
+abbrev pub connection_from : List StopRow → (o : Origin) → (number : ℕ) → (class : ℕ → ℕ) → (k : ℕ) → Connection
+connection_from rows o number class k = record {
   from = (kept_at rows k).place;
   to = (kept_at rows (k + 1)).place;
   dep = record { 0 = unsigned_abs (departs rows o k) };
@@ -47,14 +47,14 @@ route_of f trip = slice_index_or f.route_ids (slice_index f.routes trip) []
 abbrev pub class_of_trip : FeedParts → DelayLists → (trip arr : ℕ) → ℕ
 class_of_trip f d trip arr = class_for d (Some (slice_index f.route_types trip)) (Some (route_of f trip)) arr
 
--- the rides of a run in the window
-unfoldable pub run_rides : FeedParts → DelayLists → Window → List Run → ℕ → List Connection
-run_rides f d w rs r =
-    map (ride (rows_of f (run_at rs r).trip) (run_at rs r).origin r (class_of_trip f d (run_at rs r).trip)) (run_steps f w (run_at rs r))
+-- the connections of a run in the window
+unfoldable pub run_connections : FeedParts → DelayLists → Window → List Run → ℕ → List Connection
+run_connections f d w rs r =
+    map (connection_from (rows_of f (run_at rs r).trip) (run_at rs r).origin r (class_of_trip f d (run_at rs r).trip)) (run_steps f w (run_at rs r))
 
--- the rides of the first n runs, by run and step
-unfoldable pub rides_below : FeedParts → DelayLists → Window → List Run → ℕ → List Connection
-rides_below f d w rs n = join_below (run_rides f d w rs) n
+-- the connections of the first n runs, by run and step
+unfoldable pub connections_below : FeedParts → DelayLists → Window → List Run → ℕ → List Connection
+connections_below f d w rs n = join_below (run_connections f d w rs) n
 
 -- a change takes from a second to a day
 abbrev pub AreChanges : List ℕ → Type 0
@@ -62,7 +62,7 @@ AreChanges change = (p : ℕ) → p < length change → (1 ≤ slice_index chang
 
 -- the connections of the window
 abbrev pub connections_in : FeedParts → ServiceParts → DelayLists → Window → List Connection
-connections_in f s d w = rides_below f d w (window_runs f s w) (length (window_runs f s w))
+connections_in f s d w = connections_below f d w (window_runs f s w) (length (window_runs f s w))
 
 -- of a run that a row of frequencies starts: an at sign, its departure from the first kept row in seconds of the service day, a
 -- point, and the line of the row

@@ -29,6 +29,6 @@ pub record AreRunsOf (f : FeedParts) (rs : List Run) : Type 0 where
   pub apart : (i j : ℕ) → i < j → j < length rs → (run_at rs i).origin.day.number ≡ (run_at rs j).origin.day.number
       → (run_at rs i).trip ≡ (run_at rs j).trip → (run_at rs i).repeat ≡ (run_at rs j).repeat → ⊥
 
--- each has a ride in the window
-abbrev pub AllRide : FeedParts → Window → List Run → Type 0
-AllRide f w rs = (r : ℕ) → r < length rs → 0 < length (run_steps f w (run_at rs r))
+-- each has a connection in the window
+abbrev pub HaveConnections : FeedParts → Window → List Run → Type 0
+HaveConnections f w rs = (r : ℕ) → r < length rs → 0 < length (run_steps f w (run_at rs r))

@@ -1,7 +1,7 @@
 pub mod Joins
 pub mod Window
 pub mod Origins
-pub mod Rides
+pub mod Steps
 pub mod TripDays
 pub mod RepeatedRuns
 pub mod TripRuns

@@ -5,7 +5,7 @@ use Rattle.gtfs_tables.specs.Timed.{rows_of, kept_at}
 use Rattle.connections.specs.declared.origins.ServiceDay.{ServiceDay}
 use Rattle.connections.specs.declared.window.Window.{Window}
 use Rattle.connections.specs.Origins.{origin_of_day}
-use Rattle.connections.specs.Rides.{steps_of}
+use Rattle.connections.specs.Steps.{steps_of}
 use Rattle.connections.specs.TripRuns.{frequencies_of}
 
 -- the first n trips do not repeat, and none of them departs after this second of its service day
@@ -13,7 +13,7 @@ pub record AreOverBy (f : FeedParts) (n latest : ℕ) : Type 0 where
   pub once : (trip : ℕ) → trip < n → frequencies_of f trip ≡ []
   pub over : (trip k : ℕ) → trip < n → k < length (rows_of f trip) → (kept_at (rows_of f trip) k).departure ≤ latest
 
--- no trip repeats, or rides in the window on this service day
+-- no trip repeats, or departs in the window on this service day
 pub record NoneRuns (f : FeedParts) (w : Window) (day : ServiceDay) : Type 0 where
   pub once : (trip : ℕ) → trip < length f.trip_ids → frequencies_of f trip ≡ []
   pub none : (trip : ℕ) → trip < length f.trip_ids → steps_of w (rows_of f trip) (origin_of_day day) ≡ []

@@ -11,7 +11,7 @@ use Rattle.connections.specs.declared.origins.Origin.{Origin}
 use Rattle.connections.specs.declared.repeats.Repeat.{Repeat}
 use Rattle.connections.specs.declared.window.Window.{Window}
 use Rattle.connections.specs.Joins.{join_below, only_if}
-use Rattle.connections.specs.Rides.{rides}
+use Rattle.connections.specs.Steps.{has_connection}
 
 -- the m-th run of a row, from 0 on
 abbrev pub repeat_of : FrequencyRow → ℕ → Repeat
@@ -21,17 +21,17 @@ repeat_of row m = record { departure = departure row m; line = row.line }
 abbrev pub origin_at : List StopRow → ServiceDay → ℕ → Origin
 origin_at rows day second = record { day = day; shift = pos second -ℤ pos (kept_at rows 0).departure }
 
--- whether the m-th run of a row is one, since it departs before the row's end, and rides in the window
-abbrev pub rides_by : Window → List StopRow → ServiceDay → FrequencyRow → ℕ → Bool
-rides_by w rows day row m = nat_lt (departure row m) row.end && rides w rows (origin_at rows day (departure row m))
+-- whether the m-th run of a row is one, since it departs before the row's end, and has a connection in the window
+abbrev pub is_repeat : Window → List StopRow → ServiceDay → FrequencyRow → ℕ → Bool
+is_repeat w rows day row m = nat_lt (departure row m) row.end && has_connection w rows (origin_at rows day (departure row m))
 
--- the runs of a row that ride in the window, in their order
-unfoldable pub riding_by : Window → List StopRow → ServiceDay → FrequencyRow → List Repeat
-riding_by w rows day row = join_below (λ m. only_if (rides_by w rows day row m) (repeat_of row m)) end_of_times
+-- the runs of a row that depart in the window, in their order
+unfoldable pub row_repeats : Window → List StopRow → ServiceDay → FrequencyRow → List Repeat
+row_repeats w rows day row = join_below (λ m. only_if (is_repeat w rows day row m) (repeat_of row m)) end_of_times
 
 -- the same of all rows, row by row
-unfoldable pub riding_of : Window → List StopRow → ServiceDay → List FrequencyRow → List Repeat
-riding_of w rows day fs = join_below (λ i. riding_by w rows day (repeat_at fs i)) (length fs)
+unfoldable pub rows_repeats : Window → List StopRow → ServiceDay → List FrequencyRow → List Repeat
+rows_repeats w rows day fs = join_below (λ i. row_repeats w rows day (repeat_at fs i)) (length fs)
 
 -- it departs sooner, or at the same time by an earlier line
 abbrev pub repeat_precedes : Repeat → Repeat → Bool

@@ -6,7 +6,7 @@ use Rattle.delay_table.specs.DelayLists.{DelayLists, hour_of}
 use Rattle.delay_table.specs.Groups.{routes_of}
 use Rattle.gtfs_tables.specs.Feeds.{FeedParts}
 use Rattle.connections.specs.FeedNetworks.{route_of, class_of_trip}
-use Rattle.connections.specs.declared.rides.HourClass.{HourClass}
+use Rattle.connections.specs.declared.window_connections.HourClass.{HourClass}
 
 -- the number of a route, where the delays name it
 abbrev pub route_number : DelayLists → List ℕ → Option ℕ

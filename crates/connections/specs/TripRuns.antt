@@ -1,4 +1,4 @@
--- The runs of a feed that ride in a window.
+-- The runs of a feed that depart in a window.
 use Rattle.std.specs.Prelude.{ℕ, pos, List, [], ◌∷◌, length, map, slice_index_or, Some, None, if◌then◌else◌}
 use Rattle.trip_frequencies.specs.declared.frequencies.FrequencyRow.{FrequencyRow}
 use Rattle.stop_times.specs.declared.rows.StopRow.{StopRow}
@@ -12,8 +12,8 @@ use Rattle.connections.specs.declared.window.Window.{Window}
 use Rattle.connections.specs.Joins.{join_below, only_if}
 use Rattle.connections.specs.Origins.{origin_of_day}
 use Rattle.connections.specs.Window.{day_at}
-use Rattle.connections.specs.Rides.{rides, steps_of, is_active_trip}
-use Rattle.connections.specs.RepeatedRuns.{origin_at, riding_of, in_order}
+use Rattle.connections.specs.Steps.{has_connection, steps_of, is_active_trip}
+use Rattle.connections.specs.RepeatedRuns.{origin_at, rows_repeats, in_order}
 
 -- the rows of frequencies of a trip
 abbrev pub frequencies_of : FeedParts → ℕ → List FrequencyRow
@@ -27,11 +27,11 @@ own_run day trip = record { origin = origin_of_day day; trip = trip; repeat = No
 abbrev pub repeat_run : List StopRow → ServiceDay → (trip : ℕ) → Repeat → Run
 repeat_run rows day trip r = record { origin = origin_at rows day r.departure; trip = trip; repeat = Some r }
 
--- the runs of a trip on a service day that ride in the window: its own where it has no rows of frequencies, and else those
+-- the runs of a trip on a service day that depart in the window: its own where it has no rows of frequencies, and else those
 -- that these start, by departure and then by line
 abbrev pub runs_of_trip : Window → List StopRow → List FrequencyRow → ServiceDay → (trip : ℕ) → List Run
-runs_of_trip w rows [] day trip = only_if (rides w rows (origin_of_day day)) (own_run day trip)
-runs_of_trip w rows (row ∷ more) day trip = map (repeat_run rows day trip) (in_order (riding_of w rows day (row ∷ more)))
+runs_of_trip w rows [] day trip = only_if (has_connection w rows (origin_of_day day)) (own_run day trip)
+runs_of_trip w rows (row ∷ more) day trip = map (repeat_run rows day trip) (in_order (rows_repeats w rows day (row ∷ more)))
 
 -- the same, where its service is active on the day
 abbrev pub trip_runs : FeedParts → ServiceParts → Window → ServiceDay → ℕ → List Run
@@ -49,7 +49,7 @@ runs_below f s w n = join_below (λ d. day_runs f s w (day_at w d) (length f.tri
 abbrev pub days : ℕ
 days = 18
 
--- the runs that ride in the window, by service day, position of the trip, departure from the first kept row and line of the row
+-- the runs that depart in the window, by service day, position of the trip, departure from the first kept row and line of the row
 -- of frequencies
 abbrev pub window_runs : FeedParts → ServiceParts → Window → List Run
 window_runs f s w = runs_below f s w days

@@ -1,4 +1,4 @@
--- A window of time, and the service days whose trips may ride in it.
+-- A window of time, and the service days whose trips may depart in it.
 use Rattle.std.specs.Prelude.{ℕ, ℤ, pos, ◌+◌, ◌*◌, ◌/◌, ◌-ℤ◌, ◌≤◌, ◌&&◌, int_le, Bool}
 use Rattle.plan_model.specs.Bounds.{first_start, last_start, seconds_per_day}
 use Rattle.connections.specs.declared.origins.ServiceDay.{ServiceDay}

@@ -6,8 +6,8 @@ ghost use Rattle.change_times.specs.Changes.{place_seconds, links_of, LinksComeF
 ghost use Rattle.plan_model.specs.Bounds.{first_start, last_start, most_connections};
 ghost use Rattle.plan_model.specs.NameLists.{NamesFit};
 ghost use Rattle.connections.specs.Window.{most_hours};
-ghost use Rattle.connections.specs.FeedRuns.{AreRunsOf, AllRide};
-ghost use Rattle.connections.specs.FeedNetworks.{rides_below, AreChanges, AreRunNames, IsNetworkOf};
+ghost use Rattle.connections.specs.FeedRuns.{AreRunsOf, HaveConnections};
+ghost use Rattle.connections.specs.FeedNetworks.{connections_below, AreChanges, AreRunNames, IsNetworkOf};
 ghost use Rattle.connections.specs.Cut.{IsNetworkFrom, connection_count, fault_from};
 ghost use Rattle.connections.specs.Faults.{window_fault};
 ghost use Rattle.connections.specs.Counts.{count_in, entries_in};
@@ -15,10 +15,10 @@ ghost use Rattle.connections.specs.Counts.{count_in, entries_in};
 use crate::counts::{Counted, most_ways, sum_window};
 use crate::feed_window::FeedWindow;
 use crate::names::names_of;
-use crate::rides::connections_of;
 use crate::runs::{Run, runs_of};
 use crate::trip_days::TripDays;
 use crate::window::Window;
+use crate::window_connections::connections_of;
 use change_times::Changes;
 use csv_rows::Limits;
 use delay_table::DelayTable;
@@ -38,7 +38,7 @@ pub enum WindowFault {
     NoMemory,
 }
 
-/// The network of the rides of these runs in the window, and its names.
+/// The network of the connections of these runs in the window, and its names.
 fn network_of_runs(
     alloc: Global,
     trips: &FeedWindow<'_>,
@@ -48,13 +48,13 @@ fn network_of_runs(
     room: u64,
 ) -> Result<(Network, Names), NoMemory>
     requires runs { AreRunsOf trips.now.feed.now runs.now }
-    requires rides { AllRide trips.now.feed.now trips.now.window runs.now }
-    requires few { length (rides_below trips.now.feed.now delays.now trips.now.window runs.now
+    requires some { HaveConnections trips.now.feed.now trips.now.window runs.now }
+    requires few { length (connections_below trips.now.feed.now delays.now trips.now.window runs.now
         (length runs.now)) ≤ most_connections }
     requires places { length change ≡ length trips.now.feed.now.stop_ids }
     requires change { AreChanges change }
     ensures connections { IfOk result (λ r. r.0.connections
-        ≡ rides_below trips.now.feed.now delays.now trips.now.window runs.now (length runs.now)) }
+        ≡ connections_below trips.now.feed.now delays.now trips.now.window runs.now (length runs.now)) }
     ensures change { IfOk result (λ r. r.0.change ≡ change) }
     ensures classes { IfOk result (λ r. r.0.classes ≡ delays.now.classes) }
     ensures links { IfOk result (λ r. r.0.links ≡ []) }
@@ -170,7 +170,7 @@ fn network_of(
 
 /// The network of the connections of a feed that depart from the start to this many hours later, both ends included, over
 /// the service days from 14 before the date of the start to 3 after it, and the names of its places and runs. A connection
-/// is the ride of a run from one kept row of its trip to the next, on a day on which the trip's service is active. A trip
+/// goes with a run from one kept row of its trip to the next, on a day on which the trip's service is active. A trip
 /// with no rows of frequencies has one run on such a day. One with such rows has a run for each of them and each departure
 /// by it, from its start on, each headway later and before its end; the run leaves the first kept row then, and its other
 /// times are as much sooner or later. It has no other run. Runs are numbered by service day, position of the trip, departure

@@ -8,7 +8,7 @@ ghost use Rattle.change_times.specs.Changes.{links_of};
 ghost use Rattle.gtfs_tables.specs.TripRepeats.{AreRepeats, AreRepeating, IsSmall};
 ghost use Rattle.gtfs_tables.specs.Timed.{IsTimed, rows_of};
 ghost use Rattle.connections.specs.Window.{IsWindow};
-ghost use Rattle.connections.specs.Rides.{AreDepartures, is_active_trip};
+ghost use Rattle.connections.specs.Steps.{AreDepartures, is_active_trip};
 ghost use Rattle.connections.specs.TripRuns.{frequencies_of};
 ghost use Rattle.connections.specs.Reach.{AreOverBy};
 

@@ -11,9 +11,9 @@ mod names;
 mod origins;
 mod reach;
 mod repeats;
-mod rides;
 mod runs;
 mod trip_days;
 mod window;
+mod window_connections;
 
 pub use cuts::{WindowFault, cut};

@@ -1,7 +1,7 @@
 //! The service days on which trips may run in a window.
 ghost use Rattle.std.specs.Prelude.{◌≡◌, ℕ, ◌<◌, ◌≤◌, length, false, IfSome};
 ghost use Rattle.gtfs_tables.specs.Timed.{kept_at};
-ghost use Rattle.connections.specs.Rides.{AreDepartures};
+ghost use Rattle.connections.specs.Steps.{AreDepartures};
 ghost use Rattle.connections.specs.Reach.{AreOverBy, NoneRuns};
 
 use crate::feed_window::FeedWindow;

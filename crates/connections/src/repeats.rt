@@ -4,8 +4,8 @@ ghost use Rattle.csv_rows.specs.Lists.{list_below};
 ghost use Rattle.stop_times.specs.StopTimeBounds.{end_of_times};
 ghost use Rattle.gtfs_tables.specs.TripRepeats.{IsFrequency};
 ghost use Rattle.run_repeat.specs.Runs.{AreBelow, IsRunOf, departure};
-ghost use Rattle.connections.specs.Rides.{departs};
-ghost use Rattle.connections.specs.RepeatedRuns.{repeat_of, origin_at, riding_by, riding_of, in_order};
+ghost use Rattle.connections.specs.Steps.{departs};
+ghost use Rattle.connections.specs.RepeatedRuns.{repeat_of, origin_at, row_repeats, rows_repeats, in_order};
 
 use crate::feed_window::TripWindow;
 use crate::origins::Origin;
@@ -77,16 +77,16 @@ fn add_between(
     Ok(())
 }
 
-/// Adds the runs of a row that ride in the window, in their order: the later a kept row is left, the sooner run is the first
+/// Adds the runs of a row that depart in the window, in their order: the later a kept row is left, the sooner run is the first
 /// to leave it in the window.
-fn add_riding(
+fn add_row_repeats(
     repeats: &mut Vec<Repeat>,
     trip: &TripWindow<'_>,
     row: &FrequencyRow,
 ) -> Result<(), NoMemory>
     requires { IsFrequency row.now }
     ensures { OnOk result (repeats.new.items
-        ≡ repeats.old.items ++ riding_by trip.now.window trip.now.rows.now trip.now.day row.now) }
+        ≡ repeats.old.items ++ row_repeats trip.now.window trip.now.rows.now trip.now.day row.now) }
 {
     let mut next = 0;
     for step in (0..trip.rows.len().saturating_sub(1)).rev() {
@@ -97,15 +97,15 @@ fn add_riding(
     Ok(())
 }
 
-/// The runs of a trip that repeats which ride in the window, by departure and then by line.
-#[tactic(auto, using(crate::proofs::JoinLemmas::join_steps), unfolding(crate::specs::RepeatedRuns::riding_of))]
+/// The runs of a trip that repeats which depart in the window, by departure and then by line.
+#[tactic(auto, using(crate::proofs::JoinLemmas::join_steps), unfolding(crate::specs::RepeatedRuns::rows_repeats))]
 pub(crate) fn repeats_of(alloc: Global, trip: &TripWindow<'_>) -> Result<Vec<Repeat>, NoMemory>
     ensures { IfOk result (λ found. found.items
-        ≡ in_order (riding_of trip.now.window trip.now.rows.now trip.now.day trip.now.frequencies.now)) }
+        ≡ in_order (rows_repeats trip.now.window trip.now.rows.now trip.now.day trip.now.frequencies.now)) }
 {
     let mut repeats: Vec<Repeat> = Vec::new(alloc);
     for i in 0..trip.frequencies.len() {
-        add_riding(&mut repeats, trip, &trip.frequencies[i])?;
+        add_row_repeats(&mut repeats, trip, &trip.frequencies[i])?;
     }
     repeats.sort_unstable();
     Ok(repeats)

@@ -1,10 +1,10 @@
-//! The runs that ride in a window.
+//! The runs that depart in a window.
 ghost use Rattle.std.specs.Prelude.{◌≡◌, ◌<◌, ◌++◌, length, map, [], false, All, IfOk, OnOk};
 ghost use Rattle.stop_times.specs.StopTimeBounds.{end_of_times};
 ghost use Rattle.connections.specs.Joins.{only_if};
 ghost use Rattle.connections.specs.Window.{holds};
 ghost use Rattle.connections.specs.Origins.{origin_of_day};
-ghost use Rattle.connections.specs.Rides.{departs, rides, steps_of};
+ghost use Rattle.connections.specs.Steps.{departs, has_connection, steps_of};
 ghost use Rattle.connections.specs.TripRuns.{own_run, repeat_run, runs_of_trip, trip_runs, day_runs, window_runs};
 
 use crate::feed_window::{FeedWindow, TripWindow};
@@ -46,21 +46,22 @@ pub(crate) fn leaves(rows: &[StopRow], row: usize, origin: Origin, window: Windo
     window.holds(departure_of(rows, row, origin))
 }
 
-/// Whether a run of a trip may ride in the window: not where its first ride departs after it, or its last one before it.
-pub(crate) fn may_ride(trip: &TripWindow<'_>, origin: Origin) -> bool
+/// Whether a run of a trip may depart in the window: not where its first connection departs after it, or its last one before
+/// it.
+pub(crate) fn may_depart(trip: &TripWindow<'_>, origin: Origin) -> bool
     ensures { result ≡ false → steps_of trip.now.window trip.now.rows.now origin ≡ [] }
 {
-    let rides = trip.rows.len().saturating_sub(1);
-    if rides == 0 || trip.window.ends_before(departure_of(trip.rows, 0, origin)) {
+    let connections = trip.rows.len().saturating_sub(1);
+    if connections == 0 || trip.window.ends_before(departure_of(trip.rows, 0, origin)) {
         return false;
     }
     !trip
         .window
-        .starts_after(departure_of(trip.rows, rides - 1, origin))
+        .starts_after(departure_of(trip.rows, connections - 1, origin))
 }
 
-/// Whether some run of a trip may ride in the window on its day: no run of a trip that does not repeat rides after the end of
-/// times of its service day.
+/// Whether some run of a trip may depart in the window on its day: no run of a trip that does not repeat departs after the
+/// end of times of its service day.
 pub(crate) fn may_run(trip: &TripWindow<'_>) -> bool
     ensures { result ≡ false → (trip.now.frequencies.now ≡ [])
         × (steps_of trip.now.window trip.now.rows.now (origin_of_day trip.now.day) ≡ []) }
@@ -69,13 +70,13 @@ pub(crate) fn may_run(trip: &TripWindow<'_>) -> bool
         return true;
     }
     let origin = Origin::of_day(trip.day);
-    !trip.window.starts_after(origin.plus(END_OF_TIMES)) && may_ride(trip, origin)
+    !trip.window.starts_after(origin.plus(END_OF_TIMES)) && may_depart(trip, origin)
 }
 
-/// Whether a run with these kept rows rides in the window.
-#[tactic(auto, using(crate::proofs::JoinLemmas::join_steps), unfolding(crate::specs::Rides::steps_below))]
-fn rides(rows: &[StopRow], origin: Origin, window: Window) -> bool
-    ensures { result ≡ rides window rows.now origin }
+/// Whether a run with these kept rows has a connection in the window.
+#[tactic(auto, using(crate::proofs::JoinLemmas::join_steps), unfolding(crate::specs::Steps::steps_below))]
+fn has_connection(rows: &[StopRow], origin: Origin, window: Window) -> bool
+    ensures { result ≡ has_connection window rows.now origin }
 {
     for k in 0..rows.len().saturating_sub(1) {
         if leaves(rows, k, origin, window) {
@@ -85,13 +86,14 @@ fn rides(rows: &[StopRow], origin: Origin, window: Window) -> bool
     false
 }
 
-/// Adds the run of a trip that does not repeat, where it rides in the window.
+/// Adds the run of a trip that does not repeat, where it has a connection in the window.
 fn add_own(runs: &mut Vec<Run>, trip: &TripWindow<'_>, number: u32) -> Result<(), NoMemory>
     ensures { OnOk result (runs.new.items ≡ runs.old.items
-        ++ only_if (rides trip.now.window trip.now.rows.now (origin_of_day trip.now.day)) (own_run trip.now.day number)) }
+        ++ only_if (has_connection trip.now.window trip.now.rows.now (origin_of_day trip.now.day))
+        (own_run trip.now.day number)) }
 {
     let origin = Origin::of_day(trip.day);
-    if rides(trip.rows, origin, trip.window) {
+    if has_connection(trip.rows, origin, trip.window) {
         runs.push(Run {
             origin,
             trip: number,
@@ -124,7 +126,7 @@ fn add_repeats(
     Ok(())
 }
 
-/// Adds the runs of an active trip that ride in the window.
+/// Adds the runs of an active trip that depart in the window.
 fn add_trip(
     alloc: Global,
     runs: &mut Vec<Run>,
@@ -141,7 +143,7 @@ fn add_trip(
     add_repeats(runs, trip, number, repeats.as_slice())
 }
 
-/// Adds the runs of a trip that ride in the window on a day, where its service is active then.
+/// Adds the runs of a trip that depart in the window on a day, where its service is active then.
 fn add_active(
     alloc: Global,
     runs: &mut Vec<Run>,
@@ -160,7 +162,7 @@ fn add_active(
     add_trip(alloc, runs, &found, trip)
 }
 
-/// Adds the runs of the trips that are active on a day and ride in the window then.
+/// Adds the runs of the trips that are active on a day and depart in the window then.
 #[tactic(auto, using(crate::proofs::JoinLemmas::join_steps), unfolding(crate::specs::TripRuns::day_runs))]
 fn add_day(
     alloc: Global,
@@ -181,7 +183,7 @@ fn add_day(
     Ok(())
 }
 
-/// The runs that ride in the window, by service day, position of the trip, departure from the first kept row and line of the
+/// The runs that depart in the window, by service day, position of the trip, departure from the first kept row and line of the
 /// row of frequencies.
 #[tactic(auto, using(crate::proofs::JoinLemmas::join_steps), unfolding(crate::specs::TripRuns::runs_below))]
 pub(crate) fn runs_of(alloc: Global, trips: &FeedWindow<'_>) -> Result<Vec<Run>, NoMemory>

@@ -1,6 +1,6 @@
 //! The trips of a feed, and the days on which the service of each is active.
 ghost use Rattle.std.specs.Prelude.{◌≡◌, ◌<◌, length, IfOk};
-ghost use Rattle.connections.specs.Rides.{is_active_trip};
+ghost use Rattle.connections.specs.Steps.{is_active_trip};
 ghost use Rattle.connections.specs.TripDays.{service_numbers};
 
 use crate::origins::ServiceDay;

@@ -58,7 +58,7 @@ impl Window {
         moment < 0 || moment.unsigned_abs() < self.start
     }
 
-    /// A service day whose trips may ride in the window, the first of which is 14 days before the date of the start.
+    /// A service day whose trips may depart in the window, the first of which is 14 days before the date of the start.
     pub(crate) fn day(self, d: u32) -> ServiceDay
         requires window { IsWindow self }
         requires inside { d < days }

@@ -17,7 +17,7 @@ use Rattle.connections.specs.Joins.{join_below, sum_below}
 use Rattle.connections.specs.Window.{day_at, window_of}
 use Rattle.connections.specs.TripRuns.{frequencies_of, runs_of_trip, day_runs, runs_below, window_runs, run_at, days}
 use Rattle.connections.specs.Counts.{runs_sum, day_sum, days_sum, window_sum}
-use Rattle.connections.specs.FeedNetworks.{start_text, IsRunName, AreRunNames, rides_below}
+use Rattle.connections.specs.FeedNetworks.{start_text, IsRunName, AreRunNames, connections_below}
 use Rattle.connections.specs.Cut.{IsNetworkFrom, connection_count, entry_count}
 
 -- they run on the same days
@@ -68,7 +68,7 @@ module _ (f : FeedParts) (s t : ServiceParts) (c d : ChangeParts) (lists : Delay
   one_window n m names more a b =
       let w = window_of start horizon in
       let rs : window_runs f s w ≡ window_runs f t w = same_runs f s t w days in
-      let connections : n.connections ≡ m.connections = a.connections ∙ ap (λ (x : _). rides_below f lists w x (length x)) rs ∙ sym b.connections in
+      let connections : n.connections ≡ m.connections = a.connections ∙ ap (λ (x : _). connections_below f lists w x (length x)) rs ∙ sym b.connections in
       let change : n.change ≡ m.change = a.change_of_places ∙ ap (λ (g : ℕ → ℕ). list_below g (length f.stop_ids)) (fun_ext changes) ∙ sym b.change_of_places in
       let linked : n.links ≡ m.links = a.links_of_places ∙ ap (λ (g : ℕ → List Way). list_below g (length f.stop_ids)) (fun_ext links) ∙ sym b.links_of_places in
       let named : names.runs ≡ more.runs = one_names f (window_runs f s w) (length (window_runs f s w)) names.runs more.runs a.runs

@@ -4,7 +4,7 @@ use Rattle.stop_times.specs.declared.rows.StopRow.{StopRow}
 use Rattle.gtfs_tables.specs.Timed.{rows_of}
 use Rattle.connections.specs.declared.origins.ServiceDay.{ServiceDay}
 use Rattle.connections.specs.declared.window.Window.{Window}
-use Rattle.connections.specs.Rides.{is_active_trip}
+use Rattle.connections.specs.Steps.{is_active_trip}
 use Rattle.connections.specs.TripRuns.{frequencies_of}
 use Rattle.connections.specs.Counts.{each_of, runs_sum}
 use Rattle.connections.proofs.SumLemmas.{active-sum}

@@ -3,7 +3,7 @@ use Rattle.csv_rows.specs.Lists.{list_below}
 use Rattle.csv_rows.proofs.ListLemmas.{length-list_below}
 use Rattle.plan_model.specs.Network.{AreLinksInto}
 use Rattle.change_times.specs.Changes.{place_seconds, links_of}
-use Rattle.connections.proofs.CountLemmas.{rides_counted}
+use Rattle.connections.proofs.CountLemmas.{connections_counted}
 use Rattle.connections.proofs.LinkLemmas.{links_fit, names_fit}
 use Rattle.connections.proofs.RunLemmas.{runs_are}
 use Rattle.connections.proofs.cuts.network_of.Goals as goal
@@ -13,14 +13,14 @@ network_of_runs-requires-clause-runs c =
     (runs_are c.args.trips.now.feed.now c.args.trips.now.days.now.services c.args.trips.now.window c.args.trips.now.repeating c.args.trips.now.bounds c.as_slice.result.now
     (c.as_slice.ensures.value ∙ c.in_ok-runs.ensures)).0
 
-pub network_of_runs-requires-clause-rides : goal.network_of_runs-requires-clause-rides
-network_of_runs-requires-clause-rides c =
+pub network_of_runs-requires-clause-some : goal.network_of_runs-requires-clause-some
+network_of_runs-requires-clause-some c =
     (runs_are c.args.trips.now.feed.now c.args.trips.now.days.now.services c.args.trips.now.window c.args.trips.now.repeating c.args.trips.now.bounds c.as_slice.result.now
     (c.as_slice.ensures.value ∙ c.in_ok-runs.ensures)).1
 
 pub network_of_runs-requires-clause-few : goal.network_of_runs-requires-clause-few
 network_of_runs-requires-clause-few c =
-    let size = rides_counted c.args.trips.now.feed.now c.args.trips.now.days.now.services c.args.delays.now c.args.trips.now.window c.as_slice.result.now (c.as_slice.ensures.value ∙ c.in_ok-runs.ensures) in
+    let size = connections_counted c.args.trips.now.feed.now c.args.trips.now.days.now.services c.args.delays.now c.args.trips.now.window c.as_slice.result.now (c.as_slice.ensures.value ∙ c.in_ok-runs.ensures) in
     omega (arith, size, c.requires.few)
 
 pub with_links-requires-clause-each : goal.with_links-requires-clause-each
@@ -35,7 +35,7 @@ with_links-requires-clause-each c =
 pub returns-clause-count : goal.returns-clause-count
 returns-clause-count c =
     ap length (c.with_links.ensures.connections ∙ c.in_ok-network.ensures.connections)
-    ∙ rides_counted c.args.trips.now.feed.now c.args.trips.now.days.now.services c.args.delays.now c.args.trips.now.window c.as_slice.result.now (c.as_slice.ensures.value ∙ c.in_ok-runs.ensures)
+    ∙ connections_counted c.args.trips.now.feed.now c.args.trips.now.days.now.services c.args.delays.now c.args.trips.now.window c.as_slice.result.now (c.as_slice.ensures.value ∙ c.in_ok-runs.ensures)
 
 pub returns-clause-fit : goal.returns-clause-fit
 returns-clause-fit c =

@@ -3,7 +3,7 @@ use Rattle.std.proofs.lemmas.Bool.Decides.{nat_tests}
 use Rattle.std.proofs.lemmas.List.{nil_from_length}
 use Rattle.stop_times.specs.declared.rows.StopRow.{StopRow}
 use Rattle.gtfs_tables.specs.Timed.{rows_of, kept_at}
-use Rattle.connections.specs.Rides.{AreDepartures}
+use Rattle.connections.specs.Steps.{AreDepartures}
 use Rattle.connections.proofs.ReachLemmas.{departures_are, over-next}
 use Rattle.connections.proofs.reach.latest_of.Goals as goal
 

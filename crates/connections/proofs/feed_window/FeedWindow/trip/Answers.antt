@@ -1,7 +1,7 @@
 use Rattle.std.proofs.Common.{length, sym, subst}
 use Rattle.gtfs_tables.specs.Timed.{rows_of}
 use Rattle.gtfs_tables.specs.TripRepeats.{AreRepeats}
-use Rattle.connections.specs.Rides.{AreDepartures}
+use Rattle.connections.specs.Steps.{AreDepartures}
 use Rattle.connections.proofs.ReachLemmas.{departures_are}
 use Rattle.connections.proofs.feed_window.FeedWindow.trip.Goals as goal
 

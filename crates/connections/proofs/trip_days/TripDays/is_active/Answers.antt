@@ -3,7 +3,7 @@ use Rattle.std.proofs.lemmas.Int.{to_z-of_z}
 use Rattle.csv_rows.specs.Tables.{number_in}
 use Rattle.csv_rows.proofs.ListLemmas.{length-list_below, get-list_below}
 use Rattle.service_days.specs.Services.{runs_at}
-use Rattle.connections.specs.Rides.{is_active_trip}
+use Rattle.connections.specs.Steps.{is_active_trip}
 use Rattle.connections.specs.TripDays.{FeedDays}
 use Rattle.connections.proofs.trip_days.TripDays.is_active.Goals as goal
 

@@ -29,12 +29,13 @@ pub record AreDepartures (rows : List StopRow) : Type 0 where
 unfoldable pub steps_below : Window → List StopRow → Origin → ℕ → List ℕ
 steps_below w rows o n = join_below (λ k. only_if (holds w (departs rows o k)) k) n
 
--- the same of all rows from which a trip rides to its next one
+-- the same of all rows but the last
 abbrev pub steps_of : Window → List StopRow → Origin → List ℕ
 steps_of w rows o = steps_below w rows o (length rows - 1)
 
-abbrev pub rides : Window → List StopRow → Origin → Bool
-rides w rows o = nat_lt 0 (length (steps_of w rows o))
+-- whether it has a connection in the window
+abbrev pub has_connection : Window → List StopRow → Origin → Bool
+has_connection w rows o = nat_lt 0 (length (steps_of w rows o))
 
 -- whether the service of a trip is active on a day
 abbrev pub is_active_trip : FeedParts → ServiceParts → ServiceDay → ℕ → Bool

@@ -5,7 +5,7 @@ use Rattle.connections.specs.Joins.{only_if}
 use Rattle.connections.specs.RepeatedRuns.{repeat_of}
 use Rattle.connections.proofs.JoinLemmas.{join-zero}
 use Rattle.connections.proofs.RepeatLemmas.{AreTaken, AreLeaving, taken_runs, more, none_taken, step_taken, step_list, all_taken}
-use Rattle.connections.proofs.repeats.add_riding.Goals as goal
+use Rattle.connections.proofs.repeats.add_row_repeats.Goals as goal
 
 pub loop-step-init : goal.loop-step-init
 loop-step-init c =

@@ -1,10 +1,10 @@
 //! The connections of a window.
 ghost use Rattle.std.specs.Prelude.{◌≡◌, ◌+◌, ◌≤◌, ◌<◌, ◌++◌, ℕ, length, map, unsigned_abs, OnOk, IfOk, IfSome};
 ghost use Rattle.plan_model.specs.Bounds.{end_of_steps, most_connections};
-ghost use Rattle.connections.specs.Rides.{steps_of};
+ghost use Rattle.connections.specs.Steps.{steps_of};
 ghost use Rattle.connections.specs.FeedRuns.{AreRunsOf};
 ghost use Rattle.connections.specs.RouteNumbers.{route_numbers, IsRouteOf, IsClassOfHour};
-ghost use Rattle.connections.specs.FeedNetworks.{arrives, class_of_trip, ride, rides_below};
+ghost use Rattle.connections.specs.FeedNetworks.{arrives, class_of_trip, connection_from, connections_below};
 
 use crate::feed_window::FeedWindow;
 use crate::origins::Origin;
@@ -86,7 +86,7 @@ fn class_in_hour(
     HourClass { hour, class }
 }
 
-/// When the ride from one kept row to the next arrives, where it departs in a window, whose moments are not before 1970.
+/// When the connection from one kept row to the next arrives, where it departs in a window, whose moments are not before 1970.
 fn arrival_of(rows: &[StopRow], step: usize, origin: Origin) -> u64
     requires { step + 1 < length rows.now }
     ensures { result ≡ unsigned_abs (arrives rows.now origin step) }
@@ -94,12 +94,13 @@ fn arrival_of(rows: &[StopRow], step: usize, origin: Origin) -> u64
     origin.plus(rows[step + 1].arrival).unsigned_abs()
 }
 
-/// The ride from one kept row to the next, where it departs in a window, whose moments are not before 1970, with its class.
-fn ride(rows: &[StopRow], step: usize, run: &Numbered, class: u16) -> Connection
+/// The connection from one kept row to the next, with its class, where it departs in a window, whose moments are not before
+/// 1970.
+fn connection_from(rows: &[StopRow], step: usize, run: &Numbered, class: u16) -> Connection
     requires inside { step + 1 < length rows.now }
     requires few { step ≤ end_of_steps }
     ensures { (class_by : ℕ → ℕ) → class ≡ class_by (unsigned_abs (arrives rows.now run.now.origin step))
-        → result ≡ ride rows.now run.now.origin run.now.number class_by step }
+        → result ≡ connection_from rows.now run.now.origin run.now.number class_by step }
 {
     let from = rows[step];
     let to = rows[step + 1];
@@ -116,9 +117,9 @@ fn ride(rows: &[StopRow], step: usize, run: &Numbered, class: u16) -> Connection
     }
 }
 
-/// Adds the rides of a run that depart in the window.
+/// Adds the connections of a run that depart in the window.
 #[tactic(auto, using(crate::proofs::StepLemmas::map_steps))]
-fn add_rides(
+fn add_connections(
     connections: &mut Vec<Connection>,
     feed: &Feed,
     delays: &DelayTable,
@@ -130,7 +131,7 @@ fn add_rides(
     requires route { IsRouteOf feed.now delays.now run.now.trip run.now.route }
     requires few { length rows.now ≤ end_of_steps }
     ensures { OnOk result (connections.new.items
-        ≡ connections.old.items ++ map (ride rows.now run.now.origin run.now.number
+        ≡ connections.old.items ++ map (connection_from rows.now run.now.origin run.now.number
         (class_of_trip feed.now delays.now run.now.trip)) (steps_of window rows.now run.now.origin)) }
 {
     let mut known: Option<HourClass> = None;
@@ -138,7 +139,7 @@ fn add_rides(
         if leaves(rows, k, run.origin, window) {
             let arrival = arrival_of(rows, k, run.origin);
             let class = class_in_hour(feed, delays, run, arrival, known);
-            connections.push(ride(rows, k, run, class.class))?;
+            connections.push(connection_from(rows, k, run, class.class))?;
             known = Some(class);
         }
     }
@@ -146,7 +147,7 @@ fn add_rides(
 }
 
 /// The connections of these runs, by run and step. Room for `room` of them is taken at once.
-#[tactic(auto, using(crate::proofs::JoinLemmas::join_steps), unfolding(crate::specs::FeedNetworks::rides_below, crate::specs::FeedNetworks::run_rides))]
+#[tactic(auto, using(crate::proofs::JoinLemmas::join_steps), unfolding(crate::specs::FeedNetworks::connections_below, crate::specs::FeedNetworks::run_connections))]
 pub(crate) fn connections_of(
     alloc: Global,
     trips: &FeedWindow<'_>,
@@ -157,7 +158,7 @@ pub(crate) fn connections_of(
     requires few { length runs.now ≤ most_connections }
     requires runs { AreRunsOf trips.now.feed.now runs.now }
     ensures { IfOk result (λ connections. connections
-        ≡ rides_below trips.now.feed.now delays.now trips.now.window runs.now (length runs.now)) }
+        ≡ connections_below trips.now.feed.now delays.now trips.now.window runs.now (length runs.now)) }
 {
     let feed = trips.feed;
     let routes = route_numbers(alloc, feed, delays)?;
@@ -170,7 +171,7 @@ pub(crate) fn connections_of(
             trip: run.trip,
             route: routes[feed.route(run.trip) as usize],
         };
-        add_rides(
+        add_connections(
             &mut connections,
             feed,
             delays,

@@ -1,23 +1,23 @@
 use Rattle.std.proofs.Common.{Option, IfSome, sym, ap, ◌∙◌, subst}
-use Rattle.connections.specs.declared.rides.HourClass.{HourClass}
-use Rattle.connections.specs.FeedNetworks.{class_of_trip, ride}
+use Rattle.connections.specs.declared.window_connections.HourClass.{HourClass}
+use Rattle.connections.specs.FeedNetworks.{class_of_trip, connection_from}
 use Rattle.connections.specs.RouteNumbers.{IsClassOfHour}
-use Rattle.connections.proofs.RideLemmas.{map-kept, map-dropped}
-use Rattle.connections.proofs.rides.add_rides.Goals as goal
-use Rattle.connections.proofs.rides.add_rides.Goals.{then-leaves+in_ok-push, else-leaves}
+use Rattle.connections.proofs.MapLemmas.{map-kept, map-dropped}
+use Rattle.connections.proofs.window_connections.add_connections.Goals as goal
+use Rattle.connections.proofs.window_connections.add_connections.Goals.{then-leaves+in_ok-push, else-leaves}
 
 pub loop-k-preserved : goal.loop-k-preserved
 loop-k-preserved c =
     let feed = c.args.feed.now in let delays = c.args.delays.now in let rows = c.args.rows.now in let run = c.args.run.now in
     let class = class_of_trip feed delays run.trip in
-    let made = ride rows run.origin run.number class in
+    let made = connection_from rows run.origin run.number class in
     let P : Option HourClass → Type 0 = λ o. IfSome o (IsClassOfHour feed delays run.trip) in
     elim c.if-leaves.branch [
       | then-leaves+in_ok-push w ↦
           record {
             connections = map-kept made c.args.window rows run.origin c.loop-k.k c.args.connections.now.items c.loop-k.connections.items c.if-leaves.connections.items
-                c.loop-k.invariant.connections w.ride.result (sym c.leaves.ensures ∙ w.if-leaves.true)
-                (w.ride.ensures class (w.class_in_hour-class.ensures.class ∙ ap class w.arrival_of-arrival.ensures))
+                c.loop-k.invariant.connections w.connection_from.result (sym c.leaves.ensures ∙ w.if-leaves.true)
+                (w.connection_from.ensures class (w.class_in_hour-class.ensures.class ∙ ap class w.arrival_of-arrival.ensures))
                 (ap (λ v. v.items) w.connections-is ∙ w.in_ok-push.ensures.items);
             known = subst P (sym w.known-is) w.class_in_hour-class.ensures.hour;
           }

@@ -1,7 +1,7 @@
 use Rattle.std.proofs.Common.{◌≡◌, [], slice_index_or}
 use Rattle.csv_rows.specs.Lists.{list_below}
 use Rattle.connections.specs.RouteNumbers.{route_number}
-use Rattle.connections.proofs.rides.route_numbers.Given as goal
+use Rattle.connections.proofs.window_connections.route_numbers.Given as goal
 
 abbrev pub invariant-loop-route : goal.invariant-loop-route
 invariant-loop-route l = l.numbers.items ≡ list_below (λ k. route_number l.delays (slice_index_or l.feed.route_ids k [])) l.route

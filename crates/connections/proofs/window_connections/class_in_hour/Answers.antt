@@ -1,7 +1,7 @@
 use Rattle.std.proofs.Common.{Some, slice_index, sym, ◌∙◌}
 use Rattle.delay_table.proofs.RouteFacts.{same-hour}
 use Rattle.connections.specs.FeedNetworks.{route_of}
-use Rattle.connections.proofs.rides.class_in_hour.Goals as goal
+use Rattle.connections.proofs.window_connections.class_in_hour.Goals as goal
 
 pub returns-clause-hour : goal.returns-clause-hour
 returns-clause-hour c = λ arr same.

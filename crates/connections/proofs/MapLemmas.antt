@@ -6,7 +6,7 @@ use Rattle.connections.specs.declared.origins.Origin.{Origin}
 use Rattle.connections.specs.declared.window.Window.{Window}
 use Rattle.connections.specs.Joins.{only_if}
 use Rattle.connections.specs.Window.{holds}
-use Rattle.connections.specs.Rides.{steps_below, departs}
+use Rattle.connections.specs.Steps.{steps_below, departs}
 use Rattle.connections.proofs.StepLemmas.{steps-next}
 
 module _ {A : Type 0} (f : ℕ → A) (w : Window) (rows : List StopRow) (o : Origin) (k : ℕ) (first old new : List A) (e : old ≡ first ++ map f (steps_below w rows o k)) where

@@ -3,7 +3,7 @@ use Rattle.std.proofs.lemmas.Option.{get_or_from_slice_get}
 use Rattle.csv_rows.specs.Tables.{number_in}
 use Rattle.csv_rows.proofs.ListLemmas.{list_below-next}
 use Rattle.connections.specs.RouteNumbers.{route_number}
-use Rattle.connections.proofs.rides.route_numbers.Goals as goal
+use Rattle.connections.proofs.window_connections.route_numbers.Goals as goal
 
 pub loop-route-preserved : goal.loop-route-preserved
 loop-route-preserved c =

@@ -1,12 +1,12 @@
 use Rattle.std.proofs.Common.{◌≡◌, ◌++◌, map, IfSome}
-use Rattle.connections.specs.Rides.{steps_below}
-use Rattle.connections.specs.FeedNetworks.{class_of_trip, ride}
+use Rattle.connections.specs.Steps.{steps_below}
+use Rattle.connections.specs.FeedNetworks.{class_of_trip, connection_from}
 use Rattle.connections.specs.RouteNumbers.{IsClassOfHour}
-use Rattle.connections.proofs.rides.add_rides.Given as goal
+use Rattle.connections.proofs.window_connections.add_connections.Given as goal
 
 abbrev pub invariant-loop-k : goal.invariant-loop-k
 invariant-loop-k l = record {
   connections : l.connections.items ≡ l.initial.connections.items ++ map
-      (ride l.rows l.run.origin l.run.number (class_of_trip l.feed l.delays l.run.trip)) (steps_below l.window l.rows l.run.origin l.k);
+      (connection_from l.rows l.run.origin l.run.number (class_of_trip l.feed l.delays l.run.trip)) (steps_below l.window l.rows l.run.origin l.k);
   known : IfSome l.known (IsClassOfHour l.feed l.delays l.run.trip);
 }

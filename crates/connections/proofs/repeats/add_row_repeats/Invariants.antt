@@ -1,6 +1,6 @@
 use Rattle.std.proofs.Common.{◌≡◌, ℕ, Bool, ◌++◌}
 use Rattle.connections.proofs.RepeatLemmas.{AreTaken, taken_runs}
-use Rattle.connections.proofs.repeats.add_riding.Given as goal
+use Rattle.connections.proofs.repeats.add_row_repeats.Given as goal
 
 abbrev pub invariant-loop-step : goal.invariant-loop-step
 invariant-loop-step l =

@@ -3,7 +3,7 @@ use Rattle.delay_table.specs.DelayLists.{class_for}
 use Rattle.delay_table.specs.Groups.{routes_of}
 use Rattle.connections.specs.FeedNetworks.{route_of}
 use Rattle.connections.proofs.RouteLemmas.{route_inside, class_is}
-use Rattle.connections.proofs.rides.class_of.Goals as goal
+use Rattle.connections.proofs.window_connections.class_of.Goals as goal
 
 pub class_at-requires : goal.class_at-requires
 class_at-requires c = route_inside (route_of c.args.feed.now c.args.run.now.trip) (routes_of c.args.delays.now.others) c.args.run.now.route c.requires.route

@@ -1,6 +1,6 @@
 use Rattle.std.proofs.Common.{◌≡◌, []}
-use Rattle.connections.specs.Rides.{steps_below}
-use Rattle.connections.proofs.runs.rides.Given as goal
+use Rattle.connections.specs.Steps.{steps_below}
+use Rattle.connections.proofs.runs.has_connection.Given as goal
 
 abbrev pub invariant-loop-k : goal.invariant-loop-k
 invariant-loop-k l = steps_below l.window l.rows l.origin l.k ≡ []

@@ -1,6 +1,0 @@
-use Rattle.std.proofs.Common.{◌≡◌}
-use Rattle.connections.specs.FeedNetworks.{rides_below}
-use Rattle.connections.proofs.rides.connections_of.Given as goal
-
-abbrev pub invariant-loop-r : goal.invariant-loop-r
-invariant-loop-r l = l.connections.items ≡ rides_below l.trips.feed.now l.delays l.trips.window l.runs l.r

@@ -1,0 +1,11 @@
+use Rattle.std.proofs.Common.{sym, ap, ◌∙◌, arith}
+use Rattle.connections.specs.Steps.{steps_below}
+use Rattle.connections.proofs.ReachLemmas.{has_connection_true, has_connection_false}
+use Rattle.connections.proofs.runs.has_connection.Goals as goal
+
+pub returns-then-leaves : goal.returns-then-leaves
+returns-then-leaves c = has_connection_true c.args.window c.args.rows.now c.args.origin c.loop-k.k (omega (arith, c.saturating_sub-k-end.ensures)) (sym c.leaves.ensures ∙ c.if-leaves.true)
+
+pub returns : goal.returns
+returns c = has_connection_false c.args.window c.args.rows.now c.args.origin
+    (ap (λ (n : _). steps_below c.args.window c.args.rows.now c.args.origin n) (omega (arith, c.saturating_sub-k-end.ensures)) ∙ c.loop-k.invariant)

@@ -1,0 +1,6 @@
+use Rattle.std.proofs.Common.{◌≡◌}
+use Rattle.connections.specs.FeedNetworks.{connections_below}
+use Rattle.connections.proofs.window_connections.connections_of.Given as goal
+
+abbrev pub invariant-loop-r : goal.invariant-loop-r
+invariant-loop-r l = l.connections.items ≡ connections_below l.trips.feed.now l.delays l.trips.window l.runs l.r
