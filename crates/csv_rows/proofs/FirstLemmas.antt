@@ -44,7 +44,7 @@ none-each f (suc n) h k l =
     (λ (less : k < n). none-each f n both.0 k less)
     (eq-or-lt_of_le (omega arith))
 
--- f holds at some place, and nowhere before
+-- f holds at some index, and at none before
 pub record IsFirst {F : Type 0} (f : ℕ → Option F) (n : ℕ) (e : F) : Type 0 where
   pub place : ℕ
   pub inside : place < n
@@ -79,7 +79,7 @@ any-true p n k l h = (any-decides p n).1 (k, l, h)
 pub any-false : (p : ℕ → Bool) (n : ℕ) → ((k : ℕ) → k < n → p k ≡ true → ⊥) → any_below p n ≡ false
 any-false p n h = false_from_ne_true (any_below p n) (λ t. let w = (any-decides p n).0 t in h w.0 w.1 w.2)
 
--- where p holds at one place alone, q is asked there alone
+-- where p holds at one index alone, q is asked there alone
 pub any-one : (p q : ℕ → Bool) (n b : ℕ) → b < n → p b ≡ true → ((j : ℕ) → j < n → p j ≡ true → j ≡ b) → any_below (λ j. p j && q j) n ≡ q b
 any-one p q n b l here one =
     ⊎_elim (λ (t : q b ≡ true). any-true (λ j. p j && q j) n b l (and_from (p b) (q b) here t) ∙ sym t)
@@ -111,7 +111,7 @@ reported-if fault true i None = refl
 reported-if fault false i None = refl
 reported-if fault b i (Some k) = refl
 
--- the fault of the first place at which it holds
+-- the fault of the first index at which it holds
 pub first-reported : {F : Type 0} (fault : ℕ → F) (p : ℕ → Bool) (n : ℕ)
     → first_below (λ i. if p i then Some (fault i) else None) n ≡ option_map fault (first_below (λ i. if p i then Some i else None) n)
 first-reported fault p zero = first-zero (λ i. if p i then Some (fault i) else None) ∙ sym (ap (option_map fault) (first-zero (λ i. if p i then Some i else None)))
@@ -121,7 +121,7 @@ first-reported fault p (suc n) =
     ∙ reported-if fault (p n) n (first_below (λ i. if p i then Some i else None) n)
     ∙ sym (ap (option_map fault) (first-suc (λ i. if p i then Some i else None) n))
 
--- the first place at which a test holds
+-- the first index at which a test holds
 abbrev pub place_by : (ℕ → Bool) → ℕ → Option ℕ
 place_by p n = first_below (λ k. if p k then Some k else None) n
 

@@ -24,7 +24,7 @@ use Rattle.csv_rows.specs.RowFaults.{repeated_id}
 use Rattle.csv_rows.specs.Lists.{list_below}
 use Rattle.csv_rows.proofs.ListLemmas.{length-list_below, get-list_below}
 
--- what is at a place where something is
+-- what is at an index where something is
 pub got : {A : Type 0} (xs : List A) (i : ℕ) (x d : A) → slice_get xs i ≡ Some x → (i < length xs) × (slice_index_or xs i d ≡ x)
 got xs i x d h = grind (arith, common_steps, get_or_default, none-some, slice_get_cases)
 
@@ -89,7 +89,7 @@ one_of table id n none i j a b same =
     (λ (ge : j ≤ i). ⊎_elim (λ (less : j < i). absurd (ids_differ table id n none j i less a (sym same))) (λ (le : i ≤ j). omega arith) (cases_lt j i))
     (cases_lt i j)
 
--- what is at the place of a name
+-- what is at the number of a name
 pub place-here : (name : List ℕ) (names : List (List ℕ)) (k : ℕ) → number_in name names ≡ Some k → (k < length names) × (slice_index_or names k [] ≡ name)
 unfolding number_in
 place-here name names k h =
@@ -99,12 +99,12 @@ place-here name names k h =
           (slice_index_or names k []) name).0 w.1,
     )
 
--- a name that has no place is nowhere
+-- a name that has no number is nowhere
 pub place-none : (name : List ℕ) (names : List (List ℕ)) → number_in name names ≡ None → (k : ℕ) → k < length names → bytes_eq (slice_index_or names k []) name ≡ false
 unfolding number_in
 place-none name names h = place_by-none (λ k. bytes_eq (slice_index_or names k []) name) (length names) h
 
--- a name that is there has a place
+-- a name that is there has a number
 pub place-contained : (name : List ℕ) (names : List (List ℕ)) → Contains names name → number_in name names ≡ None → ⊥
 place-contained name names c none =
     both_ways _ (place-none name names none c.0 c.1) ((bytes_eq-Decides (slice_index_or names c.0 []) name).1 (get_or_default names c.0 [] name c.1 ∙ c.2))
@@ -148,7 +148,7 @@ no_row id n name q h =
     let f = place-none name (list_below id n) h j (omega (arith, length-list_below id n, less)) in
     let g : bytes_eq (id j) name ≡ false = ap (λ (y : List ℕ). bytes_eq y name) (sym (get-list_below id n j [] less)) ∙ f in cc)
 
--- two places are one where the names are
+-- two numbers are one where the names are
 pub place-same : (x y : List ℕ) (names : List (List ℕ)) (m k : ℕ) → number_in x names ≡ Some m → number_in y names ≡ Some k → (m == k) ≡ bytes_eq x y
 place-same x y names m k h g =
     let a = place-here x names m h in

@@ -11,7 +11,7 @@ use Rattle.csv_rows.proofs.FirstLemmas.{any-true, any-false, any-one, any-none, 
 pub less_group : (a b : Key) → IsAtMost a b → a.group ≤ b.group
 less_group a b h = ⊎_elim (λ x. omega arith) (λ x. omega (arith, x.0)) h
 
--- of one group the orders rise, and of one order the places
+-- of one group the orders rise, and of one order the rows
 less_orders : (a b : Key) → IsAtMost a b → a.group ≡ b.group → a.order ≤ b.order
 less_orders a b h group = ⊎_elim (λ x. absurd (omega (arith, group, x))) (λ x. ⊎_elim (λ y. omega (arith, y)) (λ y. omega (arith, y.0)) x.1) h
 

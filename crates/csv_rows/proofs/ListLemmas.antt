@@ -36,7 +36,7 @@ get-list_below f (suc n) i d h =
 pub same_length : {A B : Type 0} (f : ℕ → A) (g : ℕ → B) (n : ℕ) (xs : List A) (ys : List B) → xs ≡ list_below f n → ys ≡ list_below g n → length xs ≡ length ys
 same_length f g n xs ys e h = ap length e ∙ length-list_below f n ∙ sym (ap length h ∙ length-list_below g n)
 
--- all that comes after a place
+-- all that comes after an index
 pub take-rest : {A : Type 0} (n : ℕ) (xs : List A) → take (length xs - n) (drop n xs) ≡ drop n xs
 take-rest n xs = take_all (length xs - n) (drop n xs) (omega (arith, length-drop n xs))
 
@@ -58,6 +58,6 @@ drop-next xs n x rest d e =
       omega (arith, length-drop n xs, ap length e),
     )
 
--- nothing is left
+-- nothing remains
 pub drop-none : {A : Type 0} (xs : List A) (n : ℕ) → drop n xs ≡ [] → length xs ≤ n
 drop-none xs n e = omega (arith, length-drop n xs, ap length e)

@@ -1,4 +1,4 @@
--- The place of a name in a header.
+-- The index of a name in a header.
 use Rattle.std.proofs.Common.{◌≡◌, ℕ, ◌<◌, false, List, [], length, slice_index_or, Option, Some, None, IfSome, IfNone, sym, bytes_eq}
 use Rattle.std.proofs.lemmas.Slice.Eq.{bytes_eq-Decides}
 use Rattle.std.proofs.lemmas.Bool.{false_from_ne_true}

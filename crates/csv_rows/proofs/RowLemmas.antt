@@ -35,7 +35,7 @@ pub optional-each : {A : Type 0} (P : A → Type 0) (none : Bool) (o : Option A)
     → (if none then Some None else option_map Some o) ≡ Some r → IfSome r P
 optional-each P none o h r e = grind (arith, cases_Bool none, same_Some, mapped-each)
 
--- the place of a name is inside
+-- the index of a name is inside
 pub place_inside : (name : List ℕ) (names : List (List ℕ)) (k : ℕ) → number_in name names ≡ Some k → k < length names
 unfolding number_in
 place_inside name names k h = (place_by-some (λ i. bytes_eq (slice_index_or names i []) name) (length names) k h).0

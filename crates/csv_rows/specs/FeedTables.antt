@@ -20,7 +20,7 @@ file_name Transfers = codes "transfers.txt"
 abbrev pub path_of : List ℕ → Table → List ℕ
 path_of folder table = folder ++ 47 ∷ file_name table
 
--- the place of a table in the order in which they are read
+-- the position of a table in the order in which they are read
 abbrev pub rank_of : Table → ℕ
 rank_of Stops = 0
 rank_of Routes = 1

@@ -1,4 +1,4 @@
--- The rows of a table by group, order and place in the file.
+-- The rows of a table by group, order and position in the file.
 use Rattle.std.specs.Prelude.{◌≡◌, ◌≢◌, ℕ, ◌-◌, ◌<◌, ◌≤◌, ◌==◌, nat_lt, ◌⊎◌, Bool, true, not, ◌&&◌, List, length, slice_index_or, Option, Some, None, if◌then◌else◌}
 use Rattle.csv_rows.specs.First.{any_below}
 use Rattle.csv_rows.specs.declared.keys.Key.{Key}
@@ -9,7 +9,7 @@ no_key = record { group = 0; order = 0; row = 0 }
 abbrev pub key_at : List Key → ℕ → Key
 key_at keys k = slice_index_or keys k no_key
 
--- by group, then by order, then by place in the file
+-- by group, then by order, then by position in the file
 abbrev pub IsAtMost : Key → Key → Type 0
 IsAtMost a b = (a.group < b.group) ⊎ ((a.group ≡ b.group) × ((a.order < b.order) ⊎ ((a.order ≡ b.order) × (a.row ≤ b.row))))
 

@@ -20,11 +20,11 @@ header t = slice_index_or t 0 []
 abbrev pub row_count : List (List (List ℕ)) → ℕ
 row_count t = length t - 1
 
--- the place of the first of these names that is this one
+-- the index of the first of these names that is this one
 unfoldable pub number_in : List ℕ → List (List ℕ) → Option ℕ
 number_in name names = first_below (λ k. if bytes_eq (slice_index_or names k []) name then Some k else None) (length names)
 
--- the place of a column in the header
+-- the index of a column in the header
 abbrev pub index_of : Column → List (List (List ℕ)) → Option ℕ
 index_of column t = number_in (name_of column) (header t)
 

@@ -35,7 +35,7 @@ module _ (t : List (List (List ℕ))) (cut : Cut) (delays : DelayLists) (n : Net
         exit = c.exit ∙ a.exit;
       }
 
-  -- numbers stand for names
+  -- numbers are those of names
   largest_is : (p : ℕ) (place : List ℕ) → slice_get cut.places p ≡ Some place → (m : ℕ) → m ≤ row_count t → longest cut.rows m p ≡ largest t place m
   unfolding largest
   largest_is p place h zero l = longest-zero cut.rows p

@@ -10,7 +10,7 @@ use Rattle.late_chance.specs.Chances.{promised, chance_scoring}
 use Rattle.late_chance.specs.LaterGraphs.{later_graph}
 use Rattle.late_chance.specs.Punctual.{IsPunctual, shift_for, seen_for, asked_for}
 
--- the graph has the least chance to arrive after the moment that stands for a promise; it and its chance are those that the rules of the
+-- the graph has the least chance to arrive after the moment that represents a promise; it and its chance are those that the rules of the
 -- scan keep, or, if source and target are one place, the chance is that of having arrived
 pub record IsLeastChance (network : NetworkModel) (query : Query) (graph : PlanGraph) (chance : Interval) : Type 0 where
   pub punctual : IsPunctual network query promised graph chance

@@ -43,7 +43,7 @@ pub struct PromisedQuery<'a> {
     pub ghost soon: { moment.0 ≤ query.start.0 + seconds_per_week },
 }
 
-/// The decision graph of a query with the least chance of an arrival after the moment that stands for a
+/// The decision graph of a query with the least chance of an arrival after the moment that represents a
 /// promise; `None` if no strategy is safe for the query.
 #[tactic(auto, using(crate::proofs::LeastChances::least_chance))]
 fn least_chance_of(

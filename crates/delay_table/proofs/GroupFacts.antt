@@ -62,7 +62,7 @@ pub none-index : (group : Group) (groups : List Group) → ((k : ℕ) → k < le
 unfolding group_index
 none-index group groups h = absent_by (λ k. same_group (group_in groups k) group) (length groups) (λ k l. same-false (group_in groups k) group (h k l))
 
--- the first index at which it stands
+-- the first index at which it is
 pub index-first : (group : Group) (groups : List Group) (k : ℕ) → k < length groups → group_in groups k ≡ group → ((j : ℕ) → j < k → group_in groups j ≡ group → ⊥) → group_index group groups ≡ Some k
 unfolding group_index
 index-first group groups k l e first =

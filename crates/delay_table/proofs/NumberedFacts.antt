@@ -61,7 +61,7 @@ module _ (routes : List (List ℕ)) (keys : List NumberedGroup) (distinct : AreD
   at k l = get_or-map (named_group routes) keys k no_group (of_class None) l
 
   module _ (key : NumberedGroup) (group : Group) (number : IfSome key.route (λ n. n < length routes)) (is : named_group routes key ≡ group) where
-    -- a key that stands for the group is this one
+    -- a key that represents the group is this one
     back : (k : ℕ) → k < length keys → group_in groups k ≡ group → key ≡ key_at k
     back k l e =
         let same : named_group routes key ≡ named_group routes (key_at k) = is ∙ sym e ∙ at k l in

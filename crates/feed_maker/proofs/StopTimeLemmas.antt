@@ -1,4 +1,4 @@
--- What is left of stop times that are made as they are read.
+-- What remains of stop times that are made as they are read.
 use Rattle.std.proofs.Common.{◌≡◌, ℕ, ◌+◌, ◌-◌, ◌<◌, ◌≤◌, suc, List, [], ◌++◌, length, take, drop, ap, sym, ◌∙◌, arith, append_assoc, take-append-drop, codes}
 use Rattle.std.proofs.lemmas.Grind.{common_steps}
 use Rattle.std.proofs.lemmas.List.{take_rest, drop-drop}

@@ -1,4 +1,4 @@
--- The first entry with a path, by its place.
+-- The first entry with a path, by its index.
 use Rattle.std.proofs.Common.{◌≡◌, ◌<◌, ◌≤◌, ℕ, ◌+◌, List, [], ◌∷◌, ◌++◌, Bool, true, false, get_or, set, length, refl, ap, sym, ◌∙◌, subst, arith}
 use Rattle.std.proofs.Common.{length-append, Option, None, Some, if◌then◌else◌, bytes_eq, string_bytes, position, get_or-set_same, get_or-set_other, length-set}
 use Rattle.std.proofs.lemmas.Bool.{cond_both}
@@ -57,7 +57,7 @@ module _ {T : Type 0} where
       cond_both (bytes_eq q r) (Some v) (value_at old r) (λ (o : Option T). value_at new r ≡ o) (λ e. subst (λ z. value_at new z ≡ Some v)
       (same_path q r e) here) others
 
-  -- a new value at the first place with this path
+  -- a new value at the first index with this path
   pub set_gives : (es : List (Named T)) (q r : List ℕ) (i : ℕ) (w : Named T) → position (at_path q) es ≡ Some i → string_bytes w.path ≡ q
       → value_at (set es i w) r ≡ if◌then◌else◌ (bytes_eq q r) (Some w.value) (value_at es r)
   set_gives es q r i w h same =

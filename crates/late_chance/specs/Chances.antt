@@ -11,7 +11,7 @@ use Rattle.value_laws.specs.SpanLaws.{span_laws}
 abbrev pub seconds_per_week : ℕ
 seconds_per_week = SECONDS_PER_WEEK
 
--- the moment that stands for the promised one: a week after the first of all time
+-- the moment that represents the promised one: a week after the first of all time
 abbrev pub promised : ℕ
 promised = seconds_per_week
 

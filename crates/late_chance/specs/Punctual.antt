@@ -36,7 +36,7 @@ pub record PunctualAlike (n m : NetworkModel) (shift : ℕ) (query : Query) : Ty
       → IsPunctual m (later_query shift query) (promise + shift) (later_graph shift graph) chance
   pub none : ((tree : Tree) → IsSafeFor n query tree → ⊥) → (tree : Tree) → IsSafeFor m (later_query shift query) tree → ⊥
 
--- by how much the network is shifted, so that the promise is the moment that stands for it
+-- by how much the network is shifted, so that the promise is the moment that represents it
 abbrev pub shift_for : (promise : ℕ) → ℕ
 shift_for promise = promise - promised
 

@@ -9,7 +9,7 @@ use plan_model::{Moment, Outcome};
 use std::marker::Model;
 use value_laws::Score;
 
-/// The moment that stands for the promised one: a week after the first of all time.
+/// The moment that represents the promised one: a week after the first of all time.
 const PROMISED: u64 = SECONDS_PER_WEEK;
 
 /// Certainty, in units of 10 to the -18.

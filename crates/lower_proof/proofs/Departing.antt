@@ -84,7 +84,7 @@ departures_in_order n last departures are =
           inl (omega (arith, one.1, one.2));
     }
 
--- the connections that are left, before those that were taken
+-- the connections that remain, before those that were taken
 abbrev pub IsRest : NetworkModel → ℕ → List Departure → List ConnectionId → Type 0
 IsRest n last rest taken = IsOrderBut n (Late n last) (ids_of rest ++ taken)
 

@@ -61,7 +61,7 @@ module _ (n : NetworkModel) (q : Query) (values : List (Option ℕ)) (last : ℕ
 
 -- ---- what is known while connections are scanned
 
--- those that are left, and of the others the least value of leaving each run
+-- those that remain, and of the others the least value of leaving each run
 pub record IsScanned (n : NetworkModel) (q : Query) (values : List (Option ℕ)) (last : ℕ) (taken : List ConnectionId) (left : List Departure) (exits : List (Option ℕ)) : Type 0 where
   pub rest : IsRest n last left taken
   pub runs : (c : ℕ) → c < count n → run_of n c < length exits

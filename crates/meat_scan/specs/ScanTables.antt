@@ -10,7 +10,7 @@ use Rattle.stop_profile.specs.declared.Row.{Row}
 use Rattle.stop_profile.specs.Shown.{ShownProfile}
 use Rattle.trip_exit.specs.Offers.{Exit}
 
--- what stands for the profile of a place that is not there
+-- what is used as the profile of a place that is not there
 abbrev pub no_profile : {V : Type 0} → ShownProfile V
 no_profile = record { spare = 0; rows = [] }
 
@@ -50,7 +50,7 @@ boardable network place ids = count_by (λ id. has_way network place (from_of ne
 abbrev pub HasRoomFor : {V : Type 0} → NetworkModel → ℕ → List (ShownProfile V) → Type 0
 HasRoomFor network id profiles = (place : ℕ) → place < length network.change → ways_between network place (from_of network id) ≤ spare_at profiles place
 
--- the tables have room for the connections that are left
+-- the tables have room for the connections that remain
 pub record HasRoom {V : Type 0} (network : NetworkModel) (rest : List ConnectionId) (profiles : List (ShownProfile V)) (exits : List (Option (Exit V))) : Type 0 where
   pub places : length profiles ≡ length network.change
   pub runs : (i : ℕ) → i < count network → run_of network i < length exits

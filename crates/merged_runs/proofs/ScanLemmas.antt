@@ -1,4 +1,4 @@
--- The scan order of a network, and what is left of it.
+-- The scan order of a network, and what remains of it.
 use Rattle.std.proofs.Common.{◌≡◌, ℕ, zero, suc, ◌<◌, ◌≤◌, ltb, List, [], ◌∷◌, ◌++◌, All, AllPairs, arith, sym, subst, IsPermutation, ltb-true, ltb-false}
 use Rattle.std.proofs.lemmas.Grind.{common_steps}
 use Rattle.std.proofs.lemmas.Bool.{cond_both}

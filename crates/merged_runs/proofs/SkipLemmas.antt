@@ -1,4 +1,4 @@
--- What is left of the runs of a network up to a moment.
+-- What remains of the runs of a network up to a moment.
 use Rattle.std.proofs.Common.{◌≡◌, ℕ, suc, ◌+◌, ◌-◌, ◌<◌, ◌≤◌, inl, inr, ⊎_elim, Bool, true, false, cond, ltb, List, [], ◌∷◌, ◌++◌, length, get_or, set, All}
 use Rattle.std.proofs.Common.{AllPairs, arith, refl, sym, ap, ◌∙◌, filter, lt-ltb, ltb-true}
 use Rattle.std.proofs.lemmas.Grind.{common_steps}
@@ -97,7 +97,7 @@ module _ (n : NetworkModel) (last : ℕ) (starts remaining new : List ℕ) (run 
       (get_or remaining (run_of n id.0) 0) × (get_or starts (run_of n id.0) 0 ≤ id.0)
   own id h = grind (arith, common_steps)
 
-  -- what is left now is what was left and departs in time
+  -- what remains now is what remained and departs in time
   kept_soon : (id : ConnectionId) → ltb id.0 (get_or new (run_of n id.0) 0) ≡ cond (ltb last (dep_of n id.0)) false (ltb id.0 (get_or remaining (run_of n id.0) 0))
   kept_soon id = grind (arith, common_steps)
 

@@ -1,4 +1,4 @@
--- What is left of the runs of a network.
+-- What remains of the runs of a network.
 use Rattle.std.proofs.Common.{◌≡◌, ℕ, zero, suc, ◌+◌, ◌-◌, ◌<◌, ◌≤◌, ⊎_elim, Bool, true, false, cond, ltb, List, [], ◌∷◌, ◌++◌, length, get_or, set, take, drop}
 use Rattle.std.proofs.Common.{add-one, All, AllPairs, arith, refl, sym, ap, ◌∙◌, subst, Contains, filter, lt-ltb, le-ltb, ltb-true, get_or-set_same}
 use Rattle.std.proofs.Common.{get_or-set_other, length-set, take_all}
@@ -29,7 +29,7 @@ of_run n starts s i h = grind (arith, common_steps)
 pub run_between : (n : NetworkModel) (starts : List ℕ) → AreStarts n starts → (r i : ℕ) → r + 1 < length starts → get_or starts r 0 ≤ i → i < get_or starts (r + 1) 0 → (i < count n) × (run_of n i ≡ r)
 run_between n starts s r i h from to = grind (arith, common_steps)
 
--- what is left of a run ends within the network
+-- what remains of a run ends within the network
 pub within_count : (n : NetworkModel) (starts remaining : List ℕ) → AreStretches n starts remaining → (r : ℕ) → r < length remaining → get_or remaining r 0 ≤ most_connections
 within_count n starts remaining s r h = grind (arith, common_steps)
 
@@ -114,7 +114,7 @@ same_test i end other = grind (arith, common_steps, nat_tests)
 pub waiting : (n : NetworkModel) (remaining : List ℕ) (i : ℕ) → i < get_or remaining (run_of n i) 0 → run_of n i < length remaining
 waiting n remaining i h = ⊎_elim (λ less. less) (λ ge. absurd (omega (arith, h, get_or_past remaining (run_of n i) 0 ge))) (cases_lt (run_of n i) (length remaining))
 
--- no connection that is left ranks above what its run shows
+-- no connection that remains ranks above what its run shows
 rank_at_most_key : (n : NetworkModel) → IsValid n → (starts remaining : List ℕ) → AreStretches n starts remaining → (i : ℕ) → i < get_or remaining (run_of n i) 0 → rank n i < key_of n starts remaining (run_of n i)
 rank_at_most_key n v starts remaining s i h =
     let r : ℕ = run_of n i in
@@ -151,7 +151,7 @@ rest_of-last n v starts remaining s run h some most =
     ids (AllPairs-in_order n (count n) v.few_connections)
     ((has_each_id n ids (IsScanOrder-in_order n v)).all (end - 1) own.0)
 
--- all connections of each run are left
+-- all connections of each run remain
 pub record IsWhole (starts remaining : List ℕ) : Type 0 where
   pub size : length starts ≡ length remaining + 1
   pub each : (r : ℕ) → r < length remaining → get_or remaining r 0 ≡ get_or starts (r + 1) 0

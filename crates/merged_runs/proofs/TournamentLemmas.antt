@@ -133,7 +133,7 @@ module _ (n : NetworkModel) (starts remaining keys : List ℕ) where
   pub best_of_all : IsTournament n starts remaining keys → (r : ℕ) → r < length remaining → key_of n starts remaining r ≤ get_or keys 1 0
   best_of_all t r h = (t.each 1 (omega arith) (omega arith)).best r h (IsOver-final (length remaining + r) (omega arith))
 
--- a node that is not above a run keeps its key, whatever is left of the run
+-- a node that is not above a run keeps its key, whatever remains of the run
 IsWinner-apart : (n : NetworkModel) (starts remaining : List ℕ) (run end k key : ℕ) → (IsOver k (length remaining + run) → ⊥) → IsWinner n starts remaining k key → IsWinner n starts (set remaining run end) k key
 IsWinner-apart n starts remaining run end k key never won =
     let len : length (set remaining run end) ≡ length remaining = length-set remaining run end in
@@ -204,7 +204,7 @@ pub record HasWon (n : NetworkModel) (starts remaining : List ℕ) (key : ℕ) :
   pub id : (key - 1) % most_connections ≡ get_or remaining run 0 - 1
 
 module _ (n : NetworkModel) (starts remaining keys : List ℕ) (m : IsMerge n starts remaining keys) (key : ℕ) (final : key ≡ get_or keys 1 0) where
-  -- where the final has no key nothing is left at all
+  -- where the final has no key nothing remains at all
   pub rest_of-exhausted : key ≡ 0 → rest_of n remaining ≡ []
   rest_of-exhausted none =
       rest_of-none n starts remaining m.stretches (λ r h. ⊎_elim
@@ -230,7 +230,7 @@ module _ (n : NetworkModel) (starts remaining keys : List ℕ) (m : IsMerge n st
         id = omega (arith, last, few, some);
       }
 
-  -- the last connection that is left of the run that won is the last one of all
+  -- the last connection that remains of the run that won is the last one of all
   pub rest_of-given : (h : HasWon n starts remaining key) → rest_of n remaining ≡ rest_of n (set remaining h.run (get_or remaining h.run 0 - 1)) ++ record { 0 = get_or remaining h.run 0 - 1 } ∷ []
   rest_of-given h =
       rest_of-last n m.stretches.begin.valid starts remaining m.stretches h.run h.within h.some

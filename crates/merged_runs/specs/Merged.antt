@@ -9,7 +9,7 @@ use Rattle.plan_model.specs.Network.{IsValid, count, dep_of, run_of}
 abbrev pub rank : NetworkModel → ℕ → ℕ
 rank network i = dep_of network i * most_connections + i
 
--- a connection at its place among others that are in the scan order
+-- a connection at its position among others that are in the scan order
 abbrev pub with_connection : NetworkModel → ℕ → List ConnectionId → List ConnectionId
 with_connection network i [] = record { 0 = i } ∷ []
 with_connection network i (id ∷ ids) = if nat_lt (rank network i) (rank network id.0) then record { 0 = i } ∷ id ∷ ids else id ∷ with_connection network i ids
@@ -37,13 +37,13 @@ pub record AreStarts (network : NetworkModel) (starts : List ℕ) : Type 0 where
   pub few : length starts ≤ most_connections + 1
   pub whole : slice_index starts (length starts - 1) ≡ count network
 
--- where each run starts, and up to where its connections are left
+-- where each run starts, and up to where its connections remain
 pub record AreStretches (network : NetworkModel) (starts remaining : List ℕ) : Type 0 where
   pub begin : AreStarts network starts
   pub size : length starts ≡ length remaining + 1
   pub within : (r : ℕ) → r < length remaining → (slice_index starts r ≤ slice_index remaining r) × (slice_index remaining r ≤ slice_index starts (r + 1))
 
--- one above the rank of the last connection that is left of a run, and 0 where none is left
+-- one above the rank of the last connection that remains of a run, and 0 where none remains
 unfoldable pub key_of : NetworkModel → List ℕ → List ℕ → ℕ → ℕ
 key_of network starts remaining r = if nat_lt (slice_index starts r) (slice_index remaining r) then rank network (slice_index remaining r - 1) + 1 else 0
 
@@ -69,7 +69,7 @@ pub record IsTournament (network : NetworkModel) (starts remaining keys : List �
   pub size : length keys ≡ 2 * length remaining
   pub each : (k : ℕ) → 0 < k → k < 2 * length remaining → IsWinner network starts remaining k (slice_index keys k)
 
--- what is left of the runs, and the tournament over it
+-- what remains of the runs, and the tournament over it
 pub record IsMerge (network : NetworkModel) (starts remaining keys : List ℕ) : Type 0 where
   pub stretches : AreStretches network starts remaining
   pub tournament : IsTournament network starts remaining keys

@@ -117,7 +117,7 @@ module _ (n : NetworkModel) (target : ℕ) (by : Option ℕ) (choice : Leg → �
     pub popped_there : (todo : List Leg) (seen : List Leg) (leg : Leg) → IsReaching n target by choice whole start (todo ++ leg ∷ []) seen → leg.exit.0 < count n
     popped_there todo seen leg at = (at.placed leg (inl (Contains-push todo leg))).is_leg.exit
 
-    -- when nothing is left to do
+    -- when nothing remains to do
     pub all_seen : (todo : List Leg) (seen : List Leg) → length todo ≡ 0 → (leg : Leg) → Known todo seen leg → Contains seen leg
     all_seen (other ∷ todo) seen done leg known = absurd (omega (arith, done))
     all_seen [] seen done leg (inl has) = absurd (Contains-nil leg has)

@@ -13,7 +13,7 @@ use Rattle.plan_model.proofs.Searches.{connection_is}
 use Rattle.text_index.proofs.Numbers.{place_found, place_none, false_if}
 use Rattle.printed_rows.specs.Fields.{connection_of}
 
--- where a place was found, the test holds
+-- where an index was found, the test holds
 found_holds : {X : Type 0} (t : X → Bool) (xs : List X) (from k : ℕ) (d : X) → position_from t from xs ≡ Some k → (j : ℕ) × (k ≡ from + j) × (j < length xs) × (t (slice_index_or xs j d) ≡ true)
 found_holds t [] from k d is = absurd (cc)
 found_holds t (x ∷ xs) from k d is = elim (cases_Bool (t x)) [
@@ -26,7 +26,7 @@ found_holds t (x ∷ xs) from k d is = elim (cases_Bool (t x)) [
       (suc rest.0, omega (arith, rest.1), omega (arith, rest.2), rest.3)
 ]
 
--- connections rise, so a run and step are at one place
+-- connections rise, so a run and step are at one index
 abbrev is_at : ℕ → ℕ → Connection → Bool
 is_at run step c = (c.run.0 == run) && (c.step == step)
 

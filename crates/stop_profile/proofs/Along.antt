@@ -4,8 +4,8 @@ use Rattle.value_laws.specs.ScoreLaws.{Scoring}
 use Rattle.stop_profile.specs.declared.Row.{Row}
 use Rattle.stop_profile.specs.Inserts.{lower_row}
 
--- A row before the place is lowered to the new one where it is better, and else taken out, and the new row lowered to it.
--- The first row from the place on keeps the new row out where that is not better.
+-- A row before the position is lowered to the new one where it is better, and else taken out, and the new row lowered to it.
+-- The first row from the position on keeps the new row out where that is not better.
 abbrev pub inserted_along : {V : Type 0} → Scoring V → Row V → List (Row V) → List (Row V)
 inserted_along scoring new [] = new ∷ []
 inserted_along scoring new (row ∷ rows) =

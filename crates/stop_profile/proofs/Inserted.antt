@@ -33,7 +33,7 @@ cond-cons false x xs ys = refl
 
 module _ {V : Type 0} (scoring : Scoring V) where
   module _ (new row : Row V) (rows : List (Row V)) where
-    -- a row before the place
+    -- a row before the position
     module _ (before : row.by.0 < new.by.0) where
       by_before : ltb row.by.0 new.by.0 ≡ true
       by_before = lt-ltb row.by.0 new.by.0 before
@@ -69,7 +69,7 @@ module _ {V : Type 0} (scoring : Scoring V) where
                 rw (by_before, not_behind, not_better, as_good, same_rank new.value row.value, wins, none) refl
           ] is
 
-    -- a row from the place on
+    -- a row from the position on
     module _ (later : new.by.0 ≤ row.by.0) (after : AllAfter scoring.rank row rows) where
       in_time : leb new.by.0 row.by.0 ≡ true
       in_time = le-leb new.by.0 row.by.0 later

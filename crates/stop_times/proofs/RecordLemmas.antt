@@ -1,4 +1,4 @@
--- The records that are left are the first one and those after it.
+-- The records that remain are the first one and those after it.
 use Rattle.std.proofs.Common.{Bor, ◌≡◌, ℕ, zero, suc, ◌+◌, ◌<◌, List, [], ◌∷◌, map, length, slice_index_or, Option, Some, None, true, false, refl, sym, ap, ◌∙◌, inl, arith}
 use Rattle.std.proofs.lemmas.Grind.{common_steps}
 use Rattle.csv.specs.Records.{field_at}

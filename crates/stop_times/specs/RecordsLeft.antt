@@ -1,4 +1,4 @@
--- The records that a reader has left.
+-- The records that a reader has yet to read.
 use Rattle.std.specs.Prelude.{◌≡◌, ℕ, ◌+◌, false, List, [], map, length, Option, Some, None, if◌then◌else◌}
 use Rattle.std.specs.Borrow.{Bor}
 use Rattle.csv.specs.Machine.{ends_at_end}
@@ -9,7 +9,7 @@ use Rattle.csv.specs.declared.reader.Trim.TheVariants as trim
 use Rattle.csv_rows.specs.Spaces.{trimmed_text}
 use Rattle.stop_times.specs.declared.records.Records.TheInside.{Inside}
 
--- the bytes that a reader of a slice has left
+-- the bytes that a reader of a slice has yet to read
 abbrev pub source : Reader (Bor (List ℕ)) → Option (List ℕ)
 source reader = source_of (λ (s : Bor (List ℕ)). Some s.now) reader
 

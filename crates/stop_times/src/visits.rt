@@ -15,7 +15,7 @@ use csv_rows::Key;
 use plan_model::NoMemory;
 use std::alloc::Global;
 
-/// The end of the keys of a trip, which begin at a place.
+/// The end of the keys of a trip, which begin at an index.
 fn end_of(keys: &[Key], start: usize, trip: u32) -> usize
     requires start { start ≤ length keys.now }
     ensures order { start ≤ result }

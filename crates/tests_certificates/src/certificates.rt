@@ -1,4 +1,4 @@
-//! Certificates by hand, and certificates that fail or do not read, through the top call.
+//! Certificates worked by hand, and certificates that fail or do not read, through the top call.
 use std::alloc::Global;
 use std::test::Fail;
 use test_runs::{CHANGE, CHANGE_PLAN, answers, is_output, output_of, refuses};

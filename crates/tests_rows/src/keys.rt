@@ -12,7 +12,7 @@ fn sorted(rt: HostRuntime, rows: &[(u32, u32, u32)]) -> Result<Vec<Key>, Fail> {
     Ok(in_order(keys))
 }
 
-/// The places of the rows of these keys.
+/// The rows of these keys.
 fn places_of(alloc: Global, keys: &[Key]) -> Result<Vec<u32>, Fail> {
     let mut places = Vec::new(alloc);
     for key in keys {
@@ -29,7 +29,7 @@ fn row_before(keys: &[Key], k: usize) -> Option<u32> {
     before_at(keys, k).map(|key| key.row)
 }
 
-/// The place of the first row that repeats another.
+/// The first row that repeats another.
 fn repeat_in(rt: HostRuntime, rows: &[(u32, u32, u32)]) -> Result<Option<u32>, Fail> {
     let keys = sorted(rt, rows)?;
     Ok(first_repeat(keys.as_slice()))

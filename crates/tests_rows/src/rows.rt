@@ -59,7 +59,7 @@ fn named_columns(alloc: Global) -> Result<Rows, Fail> {
     }
 }
 
-/// The places of these columns in it.
+/// The indexes of these columns in it.
 fn places_in_it(
     alloc: Global,
     columns: [Column; 3],

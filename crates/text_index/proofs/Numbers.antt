@@ -9,7 +9,7 @@ use Rattle.std.proofs.lemmas.List.{get_or_default}
 use Rattle.plan_model.specs.NameLists.{AreDistinct}
 use Rattle.text_index.specs.Numbers.{number_of}
 
--- the first place where a test holds
+-- the first index where a test holds
 pub place_found : {X : Type 0} (t : X → Bool) (xs : List X) (from j : ℕ) (d : X) → ((k : ℕ) → k < j → t (slice_index_or xs k d) ≡ false)
     → j < length xs → t (slice_index_or xs j d) ≡ true → position_from t from xs ≡ Some (from + j)
 place_found t [] from j d before within holds = absurd (omega (arith, within))

@@ -3,7 +3,7 @@ use Rattle.std.specs.Prelude.{◌≡◌, ℕ, ◌==◌, ◌<◌, ◌≤◌, List
 use Rattle.csv_rows.specs.Lists.{list_below}
 use Rattle.trip_frequencies.specs.declared.frequencies.FrequencyRow.{FrequencyRow}
 
--- the trips from one place to another are this one, those before are earlier ones, and those after later ones
+-- the trips from one index to another are this one, those before are earlier ones, and those after later ones
 pub record IsTripSpan (trips : List ℕ) (trip low high : ℕ) : Type 0 where
   pub order : low ≤ high
   pub inside : high ≤ length trips

@@ -16,7 +16,7 @@ ArePossible network late = (j : ℕ) → j < count network → has_delay (outcom
 abbrev pub IsLateBy : (ℕ → ℕ) → Ridden → Type 0
 IsLateBy late r = r.delay ≡ late r.leg.exit.0
 
--- there are delays by which the walk down the tree comes to its end, and that by the deadline; each is that of the connection that is left
+-- there are delays by which the walk down the tree comes to its end, and that by the deadline; each is that of the connection at whose end the traveller alights
 pub record Arrives (network : NetworkModel) (deadline : ℕ) (tree : Tree) (late : ℕ → ℕ) : Type 0 where
   pub delays : List ℕ
   pub trace : Trace

@@ -3,7 +3,7 @@ use Rattle.lower_proof.specs.Minima.{AreBoards, AllLate}
 use Rattle.lower_proof.proofs.Vias.{Weighed}
 use Rattle.lower_proof.proofs.via.Given as goal
 
--- the sum so far, and room for what is left at the greatest values
+-- the sum so far, and room for what remains at the greatest values
 abbrev pub invariant-loop-outcome : goal.invariant-loop-outcome
 invariant-loop-outcome l = record {
   weighed : Weighed l.network l.scope.query l.values l.connection.to.0 l.connection.arr.0 (take l.outcome-index l.outcome-items) l.sum;

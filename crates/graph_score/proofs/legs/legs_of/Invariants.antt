@@ -2,7 +2,7 @@ use Rattle.std.proofs.Common.{◌≡◌, ◌++◌, drop, flat_map}
 use Rattle.graph_score.specs.Legs.{legs_in, legs_of}
 use Rattle.graph_score.proofs.legs.legs_of.Given as goal
 
--- the legs so far, and those that are left
+-- the legs so far, and those that remain
 abbrev pub invariant-loop-table : goal.invariant-loop-table
 invariant-loop-table l = record {
   tables : l.table-items ≡ l.graph.tables;

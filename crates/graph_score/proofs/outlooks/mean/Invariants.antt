@@ -3,7 +3,7 @@ use Rattle.arrayvec.specs.ArrayVec.{array_vec_len}
 use Rattle.graph_score.specs.Steps.{spans_in}
 use Rattle.graph_score.proofs.outlooks.mean.Given as goal
 
--- the bounds so far, and those that are left
+-- the bounds so far, and those that remain
 abbrev pub invariant-loop-child : goal.invariant-loop-child
 invariant-loop-child l = record {
   copied : l.spans.items ++ spans_in (drop l.child-index l.children) ≡ spans_in l.children;

@@ -2,7 +2,7 @@ use Rattle.std.proofs.Common.{◌≡◌, ◌++◌, drop}
 use Rattle.journey_report.specs.DepartureTexts.{rows_text, departures_text}
 use Rattle.journey_report.proofs.departure_texts.departures_text.Given as goal
 
--- the text so far, and that of the rows that are left
+-- the text so far, and that of the rows that remain
 abbrev pub invariant-loop-departure : goal.invariant-loop-departure
 invariant-loop-departure l =
     l.text.items ++ rows_text l.timetable.network l.timetable.names (drop l.departure-index l.departures) ≡ departures_text l.timetable.network l.timetable.names l.query l.fn.last.0 l.departures

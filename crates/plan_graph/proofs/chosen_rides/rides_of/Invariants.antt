@@ -4,7 +4,7 @@ use Rattle.plan_model.specs.Network.{count}
 use Rattle.plan_graph.specs.WalkTables.{ride_of_leg}
 use Rattle.plan_graph.proofs.chosen_rides.rides_of.Given as goal
 
--- the rides so far, and those of the legs that are left
+-- the rides so far, and those of the legs that remain
 abbrev pub invariant-loop-leg : goal.invariant-loop-leg
 invariant-loop-leg g l =
     let ride = ride_of_leg l.network l.query.target.0 (g.C.LegChoice.chosen l.choice l.network) in

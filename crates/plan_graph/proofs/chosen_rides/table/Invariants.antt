@@ -2,7 +2,7 @@ use Rattle.std.proofs.Common.{◌≡◌, ◌++◌, drop}
 use Rattle.plan_graph.specs.WalkTables.{rows_for}
 use Rattle.plan_graph.proofs.chosen_rides.table.Given as goal
 
--- the rows so far, and those of the outcomes that are left
+-- the rows so far, and those of the outcomes that remain
 abbrev pub invariant-loop-outcome : goal.invariant-loop-outcome
 invariant-loop-outcome g l =
     let rows = rows_for (g.C.LegChoice.chosen l.choice l.network l.leg) l.exit.arr.0 in
