@@ -11,7 +11,7 @@ use Rattle.csv_rows.specs.declared.feed_tables.FeedFault.{FeedFault}
 use Rattle.csv_rows.specs.declared.feed_tables.FeedFault.TheVariants.{BadField, UnknownKey}
 use Rattle.csv_rows.specs.First.{first_below}
 use Rattle.csv_rows.specs.Names.{name_in}
-use Rattle.csv_rows.specs.RowFaults.{first_lack}
+use Rattle.csv_rows.specs.RowFaults.{first_missing}
 use Rattle.csv_rows.specs.Tables.{row_count, number_in, index_of, field_at}
 use Rattle.gtfs_tables.specs.Feeds.{FeedParts}
 use Rattle.change_times.specs.declared.transfers.Transfer.{Transfer}
@@ -87,4 +87,4 @@ transfer_reported_by feed t i = value_or None (transfer_at feed t i)
 
 -- the first fault of the transfers
 unfoldable pub transfers_fault : FeedParts → List (List (List ℕ)) → Option FeedFault
-transfers_fault feed t = option_or (first_lack Transfers t (FromStopId ∷ ToStopId ∷ TransferType ∷ [])) (first_below (bad_transfer feed t) (row_count t))
+transfers_fault feed t = option_or (first_missing Transfers t (FromStopId ∷ ToStopId ∷ TransferType ∷ [])) (first_below (bad_transfer feed t) (row_count t))

@@ -51,29 +51,29 @@ none_is None is = refl
 none_is (Some v) is = absurd (false≢true is)
 
 -- no setting has the option
-abbrev Lacks : List Setting → OptionName → Type 0
-Lacks given option = All (λ s. option ≢ s.option) given
+abbrev IsWithout : List Setting → OptionName → Type 0
+IsWithout given option = All (λ s. option ≢ s.option) given
 
-lacks : (given : List Setting) (option : OptionName) → Lacks given option → value_in given option ≡ None
+without : (given : List Setting) (option : OptionName) → IsWithout given option → value_in given option ≡ None
 unfolding value_in
-lacks given option none =
+without given option none =
     let d : Setting = record { option = option; value = [] } in
     found_nowhere (λ (given : List Setting). value_in given option) (λ s. bytes_eq (option_name s.option) (option_name option)) (λ s. Some s.value) None refl (λ _ _. refl) given d (λ k l.
     false_from_ne_true _ (λ e. none k d l (same_option option _ (sym ((bytes_eq-Decides _ (option_name option)).0 e)))))
 
-lacking_at : (s : Setting) (given : List Setting) (option : OptionName) (b : Bool) → bytes_eq (option_name s.option) (option_name option) ≡ b
-    → value_in (s ∷ given) option ≡ None → (value_in given option ≡ None → Lacks given option) → Lacks (s ∷ given) option
+is_without_at : (s : Setting) (given : List Setting) (option : OptionName) (b : Bool) → bytes_eq (option_name s.option) (option_name option) ≡ b
+    → value_in (s ∷ given) option ≡ None → (value_in given option ≡ None → IsWithout given option) → IsWithout (s ∷ given) option
 unfolding value_in
-lacking_at s given option true e none rest = let some = sym (ap (λ (c : Bool). if c then Some s.value else value_in given option) e) ∙ none in absurd (cc)
-lacking_at s given option false e none rest =
+is_without_at s given option true e none rest = let some = sym (ap (λ (c : Bool). if c then Some s.value else value_in given option) e) ∙ none in absurd (cc)
+is_without_at s given option false e none rest =
     let away : option ≢ s.option = λ same. false≢true (sym e ∙ (bytes_eq-Decides (option_name s.option) (option_name option)).1 (ap option_name (sym same))) in
     let others = rest (sym (ap (λ (c : Bool). if c then Some s.value else value_in given option) e) ∙ none) in
     All-cons (λ (t : Setting). option ≢ t.option) s given away others
 
-lacking : (given : List Setting) (option : OptionName) → value_in given option ≡ None → Lacks given option
+is_without : (given : List Setting) (option : OptionName) → value_in given option ≡ None → IsWithout given option
 unfolding value_in
-lacking [] option none = All-nil _
-lacking (s ∷ given) option none = lacking_at s given option (bytes_eq (option_name s.option) (option_name option)) refl none (lacking given option)
+is_without [] option none = All-nil _
+is_without (s ∷ given) option none = is_without_at s given option (bytes_eq (option_name s.option) (option_name option)) refl none (is_without given option)
 
 -- the words of settings in which no option comes twice
 pub settings_hold : (given : List Setting) → AllPairs (λ a b. a.option ≢ b.option) given →
@@ -82,9 +82,9 @@ unfolding are_settings value_of value_in
 settings_hold [] once = (refl, λ option. refl)
 settings_hold (s ∷ given) once =
     let rest = settings_hold given (λ i j d before within. once (suc i) (suc j) d (omega arith) (omega arith)) in
-    let none : Lacks given s.option = λ k d within. once 0 (suc k) d (omega arith) (omega arith) in
+    let none : IsWithout given s.option = λ k d within. once 0 (suc k) d (omega arith) (omega arith) in
     let fresh : is_new (option_named (option_name s.option)) (flat_map spelled given) ≡ true =
-    ap (λ (o : Option OptionName). is_new o (flat_map spelled given)) (named s.option) ∙ ap is_none (rest.1 s.option ∙ lacks given s.option none) in
+    ap (λ (o : Option OptionName). is_new o (flat_map spelled given)) (named s.option) ∙ ap is_none (rest.1 s.option ∙ without given s.option none) in
     (rw (fresh, rest.0) refl, λ option. ap (λ (o : Option (List ℕ)). if bytes_eq (option_name s.option) (option_name option) then Some s.value else o) (rest.1 option))
 
 -- the settings of words
@@ -101,7 +101,7 @@ read_pair name value others (Some option) e fresh given read =
     let word = word_is name option e in
     let s : Setting = record { option = option; value = value } in
     let absent : value_of others option ≡ None = none_is (value_of others option) fresh in
-    let none : Lacks given option = lacking given option (sym (read.values option) ∙ absent) in (
+    let none : IsWithout given option = is_without given option (sym (read.values option) ∙ absent) in (
       s ∷ given,
       record {
         words_are = ap (λ (w : List ℕ). w ∷ value ∷ others) word ∙ ap (λ (rest : List (List ℕ)). option_name option ∷ value ∷ rest) read.words_are;

@@ -11,13 +11,13 @@ use Rattle.run_repeat.specs.Runs.{departure}
 use Rattle.connections.specs.declared.origins.ServiceDay.{ServiceDay}
 use Rattle.connections.specs.declared.window.Window.{Window}
 use Rattle.connections.specs.Window.{holds}
-use Rattle.connections.specs.Steps.{AreDepartures, departs}
+use Rattle.connections.specs.Steps.{DepartOnDay, departs}
 use Rattle.connections.specs.RepeatedRuns.{origin_at}
 use Rattle.connections.specs.Counts.{leaving_sum}
 use Rattle.connections.proofs.RepeatLemmas.{AreLeaving, between, inside, to_few}
 use Rattle.connections.proofs.SumLemmas.{between-sum}
 
-pub leaving_sum-is : (each : PlaceId → ℕ) (w : Window) (rows : List StopRow) (deps : AreDepartures rows) (day : ServiceDay) (row : FrequencyRow) (is : IsFrequency row) (k from to : ℕ)
+pub leaving_sum-is : (each : PlaceId → ℕ) (w : Window) (rows : List StopRow) (deps : DepartOnDay rows) (day : ServiceDay) (row : FrequencyRow) (is : IsFrequency row) (k from to : ℕ)
     → AreLeaving w rows day row k from to → leaving_sum each w rows day row k ≡ (to - from) * each (kept_at rows k).place
 unfolding leaving_sum
 leaving_sum-is each w rows deps day row is k from to l =

@@ -15,7 +15,7 @@ use Rattle.connections.specs.declared.origins.ServiceDay.{ServiceDay}
 use Rattle.connections.specs.Joins.{only_if}
 use Rattle.connections.specs.Origins.{moment_of, origin_of_day}
 use Rattle.connections.specs.Window.{holds}
-use Rattle.connections.specs.Steps.{DepartInOrder, AreDepartures, departs, has_connection, steps_of, is_active_trip}
+use Rattle.connections.specs.Steps.{DepartInOrder, DepartOnDay, departs, has_connection, steps_of, is_active_trip}
 use Rattle.connections.specs.TripRuns.{frequencies_of, own_run, runs_of_trip, trip_runs, day_runs}
 use Rattle.connections.specs.Reach.{AreOverBy, NoneRuns}
 use Rattle.connections.proofs.JoinLemmas.{join-none}
@@ -38,7 +38,7 @@ onward_to rows places t p (suc m) h =
     )
 
 -- the departures of a trip
-pub departures_are : (rows : List StopRow) (places : ℕ) → AreTimed rows places → AreDepartures rows
+pub departures_are : (rows : List StopRow) (places : ℕ) → AreTimed rows places → DepartOnDay rows
 departures_are rows places timed = record {
   ordered = λ i j ordered within. elim (cases_eq i j) [
     | inl same ↦ omega (arith, ap (λ k. (kept_at rows k).departure) same)

@@ -17,7 +17,7 @@ use Rattle.connections.specs.declared.repeats.Repeat.{Repeat}
 use Rattle.connections.specs.declared.window.Window.{Window}
 use Rattle.connections.specs.Joins.{join_below, only_if}
 use Rattle.connections.specs.Window.{holds}
-use Rattle.connections.specs.Steps.{AreDepartures, departs, has_connection}
+use Rattle.connections.specs.Steps.{DepartOnDay, departs, has_connection}
 use Rattle.connections.specs.RepeatedRuns.{repeat_of, origin_at, is_repeat, row_repeats, rows_repeats, in_order}
 use Rattle.connections.proofs.JoinLemmas.{join-same, join-rest, join-on, All-join, AllPairs-join, All-only_if, AllPairs-only_if}
 use Rattle.connections.proofs.OrderLemmas.{Differ, All-in_order}
@@ -71,7 +71,7 @@ module _ (w : Window) (rows : List StopRow) (day : ServiceDay) (row : FrequencyR
     late = λ m h t. absurd (omega arith);
   }
 
-  module _ (deps : AreDepartures rows) (is : IsFrequency row) where
+  module _ (deps : DepartOnDay rows) (is : IsFrequency row) where
     run_few : (m : ℕ) → IsRunOf row m → m < end_of_times
     run_few m h = let a : m ≤ m * row.headway = le-mul_of_pos_right {m = row.headway} m (omega (arith, is.some)) in omega (arith, a, h, is.end)
 

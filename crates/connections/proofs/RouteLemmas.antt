@@ -1,20 +1,20 @@
 -- The class of a connection by the number of its route among those that the delays name.
 use Rattle.std.proofs.Common.{◌≡◌, ℕ, ◌<◌, List, length, Option, Some, None, IfSome, IfNone, Contains, sym, ap, ◌∙◌}
 use Rattle.csv_rows.specs.Tables.{number_in}
-use Rattle.csv_rows.proofs.IdLemmas.{place-here, place-contained}
+use Rattle.csv_rows.proofs.IdLemmas.{number-here, number-contained}
 use Rattle.delay_table.specs.DelayLists.{DelayLists, class_for}
 use Rattle.delay_table.specs.Groups.{routes_of, numbered_route}
 
 -- a route that has a number is one of them
 pub route_inside : (route : List ℕ) (routes : List (List ℕ)) (o : Option ℕ) → o ≡ number_in route routes → IfSome o (λ n. n < length routes)
 route_inside route routes None e = tt
-route_inside route routes (Some n) e = (place-here route routes n (sym e)).0
+route_inside route routes (Some n) e = (number-here route routes n (sym e)).0
 
 -- the class by the number is that by the route
 pub class_is : (d : DelayLists) (class : Option ℕ) (route : List ℕ) (arr : ℕ) (o : Option ℕ) (found : ℕ) → o ≡ number_in route (routes_of d.others)
     → found ≡ class_for d class (numbered_route (routes_of d.others) o) arr
     → IfNone o ((id : List ℕ) → ¬ Contains (routes_of d.others) id → found ≡ class_for d class (Some id) arr)
     → found ≡ class_for d class (Some route) arr
-class_is d class route arr None found e is other = other route (λ there. place-contained route (routes_of d.others) there (sym e))
+class_is d class route arr None found e is other = other route (λ there. number-contained route (routes_of d.others) there (sym e))
 class_is d class route arr (Some n) found e is other =
-    is ∙ ap (λ (id : List ℕ). class_for d class (Some id) arr) (place-here route (routes_of d.others) n (sym e)).1
+    is ∙ ap (λ (id : List ℕ). class_for d class (Some id) arr) (number-here route (routes_of d.others) n (sym e)).1

@@ -21,7 +21,7 @@ abbrev pub DepartInOrder : List StopRow → Type 0
 DepartInOrder rows = (i j : ℕ) → i ≤ j → j < length rows → (kept_at rows i).departure ≤ (kept_at rows j).departure
 
 -- and each on its service day, which ends at the end of times
-pub record AreDepartures (rows : List StopRow) : Type 0 where
+pub record DepartOnDay (rows : List StopRow) : Type 0 where
   pub ordered : DepartInOrder rows
   pub early : (k : ℕ) → k < length rows → (kept_at rows k).departure < end_of_times
 

@@ -8,7 +8,7 @@ ghost use Rattle.change_times.specs.Changes.{links_of};
 ghost use Rattle.gtfs_tables.specs.TripRepeats.{AreRepeats, AreRepeating, IsSmall};
 ghost use Rattle.gtfs_tables.specs.Timed.{IsTimed, rows_of};
 ghost use Rattle.connections.specs.Window.{IsWindow};
-ghost use Rattle.connections.specs.Steps.{AreDepartures, is_active_trip};
+ghost use Rattle.connections.specs.Steps.{DepartOnDay, is_active_trip};
 ghost use Rattle.connections.specs.TripRuns.{frequencies_of};
 ghost use Rattle.connections.specs.Reach.{AreOverBy};
 
@@ -64,7 +64,7 @@ pub(crate) struct TripWindow<'a> {
     /// The window.
     pub(crate) window: Window,
     pub(crate) ghost bounds: { IsWindow window },
-    pub(crate) ghost departures: { AreDepartures rows.now },
+    pub(crate) ghost departures: { DepartOnDay rows.now },
     pub(crate) ghost repeats: { AreRepeats frequencies.now },
 }
 

@@ -1,7 +1,7 @@
 //! The service days on which trips may run in a window.
 ghost use Rattle.std.specs.Prelude.{◌≡◌, ℕ, ◌<◌, ◌≤◌, length, false, IfSome};
 ghost use Rattle.gtfs_tables.specs.Timed.{kept_at};
-ghost use Rattle.connections.specs.Steps.{AreDepartures};
+ghost use Rattle.connections.specs.Steps.{DepartOnDay};
 ghost use Rattle.connections.specs.Reach.{AreOverBy, NoneRuns};
 
 use crate::feed_window::FeedWindow;
@@ -10,7 +10,7 @@ use gtfs_tables::{Feed, StopRow};
 
 /// The last departure of a trip with these kept rows, in seconds of the service day; 0 if it has none.
 fn last_departure(rows: &[StopRow]) -> u32
-    requires { AreDepartures rows.now }
+    requires { DepartOnDay rows.now }
     ensures { (k : ℕ) → k < length rows.now → (kept_at rows.now k).departure ≤ result }
 {
     let count = rows.len();

@@ -46,10 +46,10 @@ none-each f (suc n) h k l =
 
 -- f holds at some index, and at none before
 pub record IsFirst {F : Type 0} (f : ℕ → Option F) (n : ℕ) (e : F) : Type 0 where
-  pub place : ℕ
-  pub inside : place < n
-  pub here : f place ≡ Some e
-  pub none : (j : ℕ) → j < place → f j ≡ None
+  pub index : ℕ
+  pub inside : index < n
+  pub here : f index ≡ Some e
+  pub none : (j : ℕ) → j < index → f j ≡ None
 
 some_one : {F : Type 0} (a b : Option F) (e : F) → option_or a b ≡ Some e → (a ≡ Some e) ⊎ ((a ≡ None) × (b ≡ Some e))
 some_one None b e h = inr (refl, h)
@@ -60,8 +60,8 @@ pub first-is : {F : Type 0} (f : ℕ → Option F) (n : ℕ) (e : F) → first_b
 first-is f zero e h = let w : ⊥ = none-some e (sym (first-zero f) ∙ h) in absurd w
 first-is f (suc n) e h =
     ⊎_elim (λ (w : first_below f n ≡ Some e).
-    let r = first-is f n e w in record { place = r.place; inside = omega (arith, r.inside); here = r.here; none = r.none })
-    (λ (w : (first_below f n ≡ None) × (f n ≡ Some e)). record { place = n; inside = omega arith; here = w.1; none = none-each f n w.0 })
+    let r = first-is f n e w in record { index = r.index; inside = omega (arith, r.inside); here = r.here; none = r.none })
+    (λ (w : (first_below f n ≡ None) × (f n ≡ Some e)). record { index = n; inside = omega arith; here = w.1; none = none-each f n w.0 })
     (some_one (first_below f n) (f n) e (sym (first-suc f n) ∙ h))
 
 any-decides : (p : ℕ → Bool) (n : ℕ) → Decides (any_below p n) ((k : ℕ) × (k < n) × (p k ≡ true))
@@ -122,19 +122,19 @@ first-reported fault p (suc n) =
     ∙ sym (ap (option_map fault) (first-suc (λ i. if p i then Some i else None) n))
 
 -- the first index at which a test holds
-abbrev pub place_by : (ℕ → Bool) → ℕ → Option ℕ
-place_by p n = first_below (λ k. if p k then Some k else None) n
+abbrev pub index_by : (ℕ → Bool) → ℕ → Option ℕ
+index_by p n = first_below (λ k. if p k then Some k else None) n
 
-pub place_by-some : (p : ℕ → Bool) (n k : ℕ) → place_by p n ≡ Some k → (k < n) × (p k ≡ true)
-place_by-some p n k h =
+pub index_by-some : (p : ℕ → Bool) (n k : ℕ) → index_by p n ≡ Some k → (k < n) × (p k ≡ true)
+index_by-some p n k h =
     let w = first-is (λ k. if p k then Some k else None) n k h in
-    let t = cond_some (p w.place) w.place k w.here in subst (λ i. (i < n) × (p i ≡ true)) t.1 (w.inside, t.0)
+    let t = cond_some (p w.index) w.index k w.here in subst (λ i. (i < n) × (p i ≡ true)) t.1 (w.inside, t.0)
 
-pub place_by-none : (p : ℕ → Bool) (n : ℕ) → place_by p n ≡ None → (k : ℕ) → k < n → p k ≡ false
-place_by-none p n h k l = let here = none-each (λ k. if p k then Some k else None) n h k l in false_from_ne_true (p k) (λ t. none-some k (sym (rw t at here)))
+pub index_by-none : (p : ℕ → Bool) (n : ℕ) → index_by p n ≡ None → (k : ℕ) → k < n → p k ≡ false
+index_by-none p n h k l = let here = none-each (λ k. if p k then Some k else None) n h k l in false_from_ne_true (p k) (λ t. none-some k (sym (rw t at here)))
 
-pub absent_by : (p : ℕ → Bool) (n : ℕ) → ((k : ℕ) → k < n → p k ≡ false) → place_by p n ≡ None
+pub absent_by : (p : ℕ → Bool) (n : ℕ) → ((k : ℕ) → k < n → p k ≡ false) → index_by p n ≡ None
 absent_by p n h = first-none (λ k. if p k then Some k else None) n (λ k l. ap (λ b. if b then Some k else None) (h k l))
 
-pub found_by : (p : ℕ → Bool) (n k : ℕ) → k < n → p k ≡ true → ((j : ℕ) → j < k → p j ≡ false) → place_by p n ≡ Some k
+pub found_by : (p : ℕ → Bool) (n k : ℕ) → k < n → p k ≡ true → ((j : ℕ) → j < k → p j ≡ false) → index_by p n ≡ Some k
 found_by p n k l here none = first-at (λ k. if p k then Some k else None) k n k l (absent_by p k none) (ap (λ b. if b then Some k else None) here)

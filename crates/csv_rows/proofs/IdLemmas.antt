@@ -13,8 +13,8 @@ use Rattle.csv_rows.specs.declared.feed_tables.FeedFault.{FeedFault}
 use Rattle.csv_rows.specs.declared.feed_tables.FeedFault.TheVariants.{DuplicateKey}
 use Rattle.csv_rows.specs.First.{first_below, any_below}
 use Rattle.csv_rows.specs.Tables.{number_in}
-use Rattle.csv_rows.proofs.FirstLemmas.{any-true, any-false, any-one, any-none, first-suc, place_by-some, place_by-none, first-same, none-each}
-use Rattle.csv_rows.proofs.PlaceLemmas.{place_is}
+use Rattle.csv_rows.proofs.FirstLemmas.{any-true, any-false, any-one, any-none, first-suc, index_by-some, index_by-none, first-same, none-each}
+use Rattle.csv_rows.proofs.HeaderLemmas.{index_is}
 use Rattle.std.proofs.lemmas.List.Elements.{All-push, Contains-push}
 use Rattle.plan_model.specs.declared.list.NoMemory.{NoMemory}
 use Rattle.plan_model.specs.NameLists.{Adds, AreDistinct, IsTrimmed}
@@ -32,10 +32,10 @@ got xs i x d h = grind (arith, common_steps, get_or_default, none-some, slice_ge
 pub number_is : (o : Option ℕ) (name : List ℕ) (names : List (List ℕ)) → AreDistinct names → IfSome o (λ i. slice_get names i ≡ Some name)
     → IfNone o (Contains names name → ⊥) → o ≡ number_in name names
 number_is None name names distinct found absent =
-    place_is None name names tt tt (λ k inside same. absent (k, inside, get_or_default names k name [] inside ∙ same))
+    index_is None name names tt tt (λ k inside same. absent (k, inside, get_or_default names k name [] inside ∙ same))
 number_is (Some i) name names distinct found absent =
     let here = got names i name [] found in
-    place_is (Some i) name names here (λ k less same. distinct k i less here.0 (same ∙ sym here.1)) tt
+    index_is (Some i) name names here (λ k less same. distinct k i less here.0 (same ∙ sym here.1)) tt
 
 pub found : (keys names : List (List ℕ)) (name : List ℕ) (i : ℕ) → AreDistinct keys → keys ≡ names → slice_get keys i ≡ Some name → Some i ≡ number_in name names
 found keys names name i distinct same here = number_is (Some i) name keys distinct here tt ∙ ap (number_in name) same
@@ -90,37 +90,37 @@ one_of table id n none i j a b same =
     (cases_lt i j)
 
 -- what is at the number of a name
-pub place-here : (name : List ℕ) (names : List (List ℕ)) (k : ℕ) → number_in name names ≡ Some k → (k < length names) × (slice_index_or names k [] ≡ name)
+pub number-here : (name : List ℕ) (names : List (List ℕ)) (k : ℕ) → number_in name names ≡ Some k → (k < length names) × (slice_index_or names k [] ≡ name)
 unfolding number_in
-place-here name names k h =
-    let w = place_by-some (λ k. bytes_eq (slice_index_or names k []) name) (length names) k h in (
+number-here name names k h =
+    let w = index_by-some (λ k. bytes_eq (slice_index_or names k []) name) (length names) k h in (
       w.0,
       (bytes_eq-Decides
           (slice_index_or names k []) name).0 w.1,
     )
 
 -- a name that has no number is nowhere
-pub place-none : (name : List ℕ) (names : List (List ℕ)) → number_in name names ≡ None → (k : ℕ) → k < length names → bytes_eq (slice_index_or names k []) name ≡ false
+pub number-none : (name : List ℕ) (names : List (List ℕ)) → number_in name names ≡ None → (k : ℕ) → k < length names → bytes_eq (slice_index_or names k []) name ≡ false
 unfolding number_in
-place-none name names h = place_by-none (λ k. bytes_eq (slice_index_or names k []) name) (length names) h
+number-none name names h = index_by-none (λ k. bytes_eq (slice_index_or names k []) name) (length names) h
 
 -- a name that is there has a number
-pub place-contained : (name : List ℕ) (names : List (List ℕ)) → Contains names name → number_in name names ≡ None → ⊥
-place-contained name names c none =
-    both_ways _ (place-none name names none c.0 c.1) ((bytes_eq-Decides (slice_index_or names c.0 []) name).1 (get_or_default names c.0 [] name c.1 ∙ c.2))
+pub number-contained : (name : List ℕ) (names : List (List ℕ)) → Contains names name → number_in name names ≡ None → ⊥
+number-contained name names c none =
+    both_ways _ (number-none name names none c.0 c.1) ((bytes_eq-Decides (slice_index_or names c.0 []) name).1 (get_or_default names c.0 [] name c.1 ∙ c.2))
 
 -- a name that was added is there
 pub adds_there : (old new : List (List ℕ)) (name : List ℕ) (added : Bool) → Adds old new name added → Contains new name
 adds_there old new name true h = subst (λ (names : List (List ℕ)). Contains names name) (sym h.0) (Contains-push old name)
 adds_there old new name false h = subst (λ (names : List (List ℕ)). Contains names name) (sym h.0) h.1
 
-pub place-adds : (old new : List (List ℕ)) (name : List ℕ) (added : Bool) → Adds old new name added → number_in name new ≡ None → ⊥
-place-adds old new name added a = place-contained name new (adds_there old new name added a)
+pub number-adds : (old new : List (List ℕ)) (name : List ℕ) (added : Bool) → Adds old new name added → number_in name new ≡ None → ⊥
+number-adds old new name added a = number-contained name new (adds_there old new name added a)
 
 -- one more name
-pub place-push : (name : List ℕ) (names : List (List ℕ)) (x : List ℕ) → number_in name (names ++ x ∷ []) ≡ option_or (number_in name names) (if bytes_eq x name then Some (length names) else None)
+pub number-push : (name : List ℕ) (names : List (List ℕ)) (x : List ℕ) → number_in name (names ++ x ∷ []) ≡ option_or (number_in name names) (if bytes_eq x name then Some (length names) else None)
 unfolding number_in
-place-push name names x =
+number-push name names x =
     let n = length names in
     let size : length (names ++ x ∷ []) ≡ n + 1 = length-append names (x ∷ []) in
     let f : ℕ → Option ℕ = λ k. if bytes_eq (slice_index_or (names ++ x ∷ []) k []) name then Some k else None in
@@ -135,7 +135,7 @@ place-push name names x =
 pub one_row : (table : Table) (id : ℕ → List ℕ) (n : ℕ) (name : List ℕ) (q : ℕ → Bool) → first_below (repeated_id table id) n ≡ None → (k : ℕ) → number_in name (list_below id n) ≡ Some k
     → any_below (λ i. bytes_eq (id i) name && q i) n ≡ q k
 one_row table id n name q none k h =
-    let w = place-here name (list_below id n) k h in
+    let w = number-here name (list_below id n) k h in
     let inside : k < n = omega (arith, w.0, length-list_below id n) in
     let here : id k ≡ name = sym (get-list_below id n k [] inside) ∙ w.1 in
     any-one (λ i. bytes_eq (id i) name) q n k inside ((bytes_eq-Decides (id k) name).1 here)
@@ -145,14 +145,14 @@ one_row table id n name q none k h =
 pub no_row : (id : ℕ → List ℕ) (n : ℕ) (name : List ℕ) (q : ℕ → Bool) → number_in name (list_below id n) ≡ None → any_below (λ i. bytes_eq (id i) name && q i) n ≡ false
 no_row id n name q h =
     any-none (λ i. bytes_eq (id i) name) q n (λ j less t.
-    let f = place-none name (list_below id n) h j (omega (arith, length-list_below id n, less)) in
+    let f = number-none name (list_below id n) h j (omega (arith, length-list_below id n, less)) in
     let g : bytes_eq (id j) name ≡ false = ap (λ (y : List ℕ). bytes_eq y name) (sym (get-list_below id n j [] less)) ∙ f in cc)
 
 -- two numbers are one where the names are
-pub place-same : (x y : List ℕ) (names : List (List ℕ)) (m k : ℕ) → number_in x names ≡ Some m → number_in y names ≡ Some k → (m == k) ≡ bytes_eq x y
-place-same x y names m k h g =
-    let a = place-here x names m h in
-    let b = place-here y names k g in
+pub number-same : (x y : List ℕ) (names : List (List ℕ)) (m k : ℕ) → number_in x names ≡ Some m → number_in y names ≡ Some k → (m == k) ≡ bytes_eq x y
+number-same x y names m k h g =
+    let a = number-here x names m h in
+    let b = number-here y names k g in
     ⊎_elim (λ (t : bytes_eq x y ≡ true).
     let e : x ≡ y = (bytes_eq-Decides x y).0 t in
     let s : Some m ≡ Some k = sym h ∙ ap (λ z. number_in z names) e ∙ g in

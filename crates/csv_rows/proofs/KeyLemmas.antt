@@ -15,8 +15,8 @@ less_group a b h = ⊎_elim (λ x. omega arith) (λ x. omega (arith, x.0)) h
 less_orders : (a b : Key) → IsAtMost a b → a.group ≡ b.group → a.order ≤ b.order
 less_orders a b h group = ⊎_elim (λ x. absurd (omega (arith, group, x))) (λ x. ⊎_elim (λ y. omega (arith, y)) (λ y. omega (arith, y.0)) x.1) h
 
-less_places : (a b : Key) → IsAtMost a b → a.group ≡ b.group → a.order ≡ b.order → a.row ≤ b.row
-less_places a b h group order = ⊎_elim (λ x. absurd (omega (arith, group, x))) (λ x. ⊎_elim (λ y. absurd (omega (arith, y, order))) (λ y. y.1) x.1) h
+less_rows : (a b : Key) → IsAtMost a b → a.group ≡ b.group → a.order ≡ b.order → a.row ≤ b.row
+less_rows a b h group order = ⊎_elim (λ x. absurd (omega (arith, group, x))) (λ x. ⊎_elim (λ y. absurd (omega (arith, y, order))) (λ y. y.1) x.1) h
 
 twin : (ℕ → ℕ) → (ℕ → ℕ) → ℕ → ℕ → Bool
 twin group order i j = (group j == group i) && (order j == order i)
@@ -39,9 +39,9 @@ asked q None = false
 asked q (Some before) = q before.row
 
 module _ (test : ℕ → Bool) (group order : ℕ → ℕ) (n : ℕ) (keys : List Key) (s : AreSorted test group order n keys) where
-  earlier_place : (k m : ℕ) → k < m → m < length keys → (key_at keys k).group ≡ (key_at keys m).group → (key_at keys k).order ≡ (key_at keys m).order
+  earlier_row : (k m : ℕ) → k < m → m < length keys → (key_at keys k).group ≡ (key_at keys m).group → (key_at keys k).order ≡ (key_at keys m).order
       → (key_at keys k).row < (key_at keys m).row
-  earlier_place k m less h same same' = grind (arith, common_steps, less_places)
+  earlier_row k m less h same same' = grind (arith, common_steps, less_rows)
 
   -- an earlier key of the group is the one before, or comes before that
   earlier_key : (m k : ℕ) → m < k → k < length keys → (key_at keys m).group ≡ (key_at keys k).group
@@ -56,7 +56,7 @@ module _ (test : ℕ → Bool) (group order : ℕ → ℕ) (n : ℕ) (keys : Lis
   pub rises : AreApart group order n → (k m : ℕ) → k < m → m < length keys → (key_at keys k).group ≡ (key_at keys m).group → (key_at keys k).order < (key_at keys m).order
   rises apart k m less h same =
       ⊎_elim (λ (e : (key_at keys k).order ≡ (key_at keys m).order).
-      absurd (apart (key_at keys k).row (key_at keys m).row (earlier_place k m less h same e) (s.inside m h)
+      absurd (apart (key_at keys k).row (key_at keys m).row (earlier_row k m less h same e) (s.inside m h)
       (sym (s.groups k (omega arith)) ∙ same ∙ s.groups m h) (sym (s.orders k (omega arith)) ∙ e ∙ s.orders m h)))
       (λ (lower : (key_at keys k).order < (key_at keys m).order). lower)
       (eq-or-lt_of_le (less_orders (key_at keys k) (key_at keys m) (s.rising k m less h) same))
@@ -65,35 +65,35 @@ module _ (test : ℕ → Bool) (group order : ℕ → ℕ) (n : ℕ) (keys : Lis
   lower : AreApart group order n → (m k : ℕ) → m < length keys → k < length keys → (key_at keys m).group ≡ (key_at keys k).group → (key_at keys m).order < (key_at keys k).order → m < k
   lower apart m k g h same less = search (rules, rises)
 
-  stands : ℕ → ℕ → Bool
-  stands j i = precedes test group order j i
+  ahead : ℕ → ℕ → Bool
+  ahead j i = precedes test group order j i
 
-  stands_from : (m k : ℕ) → m < length keys → k < length keys → stands (key_at keys m).row (key_at keys k).row ≡ true
+  ahead_from : (m k : ℕ) → m < length keys → k < length keys → ahead (key_at keys m).row (key_at keys k).row ≡ true
       → ((key_at keys m).group ≡ (key_at keys k).group) × ((key_at keys m).order < (key_at keys k).order)
-  unfolding stands
-  stands_from m k g h b = grind (arith, common_steps, and_parts, eqb-true, ltb-true)
+  unfolding ahead
+  ahead_from m k g h b = grind (arith, common_steps, and_parts, eqb-true, ltb-true)
 
-  stands_to : (m k : ℕ) → m < length keys → k < length keys → (key_at keys m).group ≡ (key_at keys k).group → (key_at keys m).order < (key_at keys k).order
-      → stands (key_at keys m).row (key_at keys k).row ≡ true
-  unfolding stands
-  stands_to m k g h same less = grind (arith, common_steps, and_from, eq-eqb, lt-ltb)
+  ahead_to : (m k : ℕ) → m < length keys → k < length keys → (key_at keys m).group ≡ (key_at keys k).group → (key_at keys m).order < (key_at keys k).order
+      → ahead (key_at keys m).row (key_at keys k).row ≡ true
+  unfolding ahead
+  ahead_to m k g h same less = grind (arith, common_steps, and_from, eq-eqb, lt-ltb)
 
   -- the test holds of a row that comes before, and so it has a key
-  key_of_first : (x i : ℕ) → x < n → stands x i ≡ true → (k : ℕ) × (k < length keys) × ((key_at keys k).row ≡ x)
-  unfolding stands
+  key_of_first : (x i : ℕ) → x < n → ahead x i ≡ true → (k : ℕ) × (k < length keys) × ((key_at keys k).row ≡ x)
+  unfolding ahead
   key_of_first x i less b = s.all x less (and_parts (test x) (test i) (and_parts (test x && test i) ((group x == group i) && nat_lt (order x) (order i)) b).0).0
 
   between : ℕ → ℕ → ℕ → Bool
-  between j i x = stands j x && stands x i
+  between j i x = ahead j x && ahead x i
 
   just : ℕ → ℕ → Bool
-  just j i = stands j i && not (any_below (between j i) n)
+  just j i = ahead j i && not (any_below (between j i) n)
 
   -- the row of the key before comes just before
   just_to : AreApart group order n → (k : ℕ) → 0 < k → k < length keys → (key_at keys (k - 1)).group ≡ (key_at keys k).group → just (key_at keys (k - 1)).row (key_at keys k).row ≡ true
   unfolding just between
   just_to apart k some h same =
-      grind (arith, common_steps, and_from, stands_to, rises, not_from_false, any-false, between, and_parts, stands, key_of_first, stands_from, lower)
+      grind (arith, common_steps, and_from, ahead_to, rises, not_from_false, any-false, between, and_parts, ahead, key_of_first, ahead_from, lower)
 
   -- and no other does
   just_from : AreApart group order n → (k : ℕ) → k < length keys → (x : ℕ) → x < n → just x (key_at keys k).row ≡ true
@@ -101,19 +101,19 @@ module _ (test : ℕ → Bool) (group order : ℕ → ℕ) (n : ℕ) (keys : Lis
   unfolding just between
   just_from apart k h x inside b =
       let i = (key_at keys k).row in
-      let p = and_parts (stands x i) (not (any_below (between x i) n)) b in
+      let p = and_parts (ahead x i) (not (any_below (between x i) n)) b in
       let w = key_of_first x i inside p.0 in
       let m = w.0 in
-      let q = stands_from m k w.1 h (subst (λ (y : ℕ). stands y i ≡ true) (sym w.2) p.0) in
+      let q = ahead_from m k w.1 h (subst (λ (y : ℕ). ahead y i ≡ true) (sym w.2) p.0) in
       let less = lower apart m k w.1 h q.0 q.1 in
       let e = earlier_key m k less h q.0 in (
         omega arith,
         sym w.2 ∙ ap (λ y. (key_at keys y).row)
             (⊎_elim (λ (last : m ≡ k - 1). last) (λ (early : m < k - 1).
             let c = (key_at keys (k - 1)).row in
-            let first = stands_to m (k - 1) w.1 (omega arith) (q.0 ∙ sym e.0) (rises apart m (k - 1) early (omega arith) (q.0 ∙ sym e.0)) in
-            let second = stands_to (k - 1) k (omega arith) h e.0 (rises apart (k - 1) k (omega arith) h e.0) in
-            let there = and_from (stands x c) (stands c i) (subst (λ (y : ℕ). stands y c ≡ true) w.2 first) second in
+            let first = ahead_to m (k - 1) w.1 (omega arith) (q.0 ∙ sym e.0) (rises apart m (k - 1) early (omega arith) (q.0 ∙ sym e.0)) in
+            let second = ahead_to (k - 1) k (omega arith) h e.0 (rises apart (k - 1) k (omega arith) h e.0) in
+            let there = and_from (ahead x c) (ahead c i) (subst (λ (y : ℕ). ahead y c ≡ true) w.2 first) second in
             absurd (true≢false (sym (any-true (between x i) n c (s.inside (k - 1) (omega arith)) there) ∙ not-true (any_below (between x i) n) p.1))) e.2),
         e.0,
       )
@@ -121,7 +121,7 @@ module _ (test : ℕ → Bool) (group order : ℕ → ℕ) (n : ℕ) (keys : Lis
   -- what is asked of the rows just before a row is asked of the row of the key before
   pub asked_before : AreApart group order n → (k : ℕ) → k < length keys → (o : Option Key) → IsBefore keys k o → (q : ℕ → Bool)
       → any_below (λ j. just_precedes test group order n j (key_at keys k).row && q j) n ≡ asked q o
-  unfolding just between stands
+  unfolding just between ahead
   asked_before apart k h None b q = any-none (λ j. just j (key_at keys k).row) q n (λ x less t. let w = just_from apart k h x less t in b w.0 w.2)
   asked_before apart k h (Some before) b q =
       let j = (key_at keys (k - 1)).row in
@@ -146,7 +146,7 @@ module _ (group order : ℕ → ℕ) (n : ℕ) (keys : List Key) (s : AreSorted 
       (omega arith, e.0, omega (arith, e.1, same', less_orders (key_at keys (k - 1)) (key_at keys k) (s.rising (k - 1) k (omega arith) h) e.0)))
       (λ (ge : k ≤ m).
       ⊎_elim (λ (e : k ≡ m). absurd (omega (arith, less, w.2, ap (λ i. (key_at keys i).row) e)))
-      (λ (up : k < m). absurd (omega (arith, w.2, less, earlier_place (λ i. true) group order n keys s k m up w.1 (sym same) (sym same')))) (eq-or-lt_of_le ge))
+      (λ (up : k < m). absurd (omega (arith, w.2, less, earlier_row (λ i. true) group order n keys s k m up w.1 (sym same) (sym same')))) (eq-or-lt_of_le ge))
       (cases_lt m k)
 
   reported : Bool → ℕ → Option ℕ
@@ -164,7 +164,7 @@ module _ (group order : ℕ → ℕ) (n : ℕ) (keys : List Key) (s : AreSorted 
       (⊎_elim (λ (t : (x.order == (key_at keys k).order) ≡ true).
       let same' : (key_at keys (k - 1)).order ≡ (key_at keys k).order = sym e ∙ eqb-true x.order (key_at keys k).order t in
       let g : k - 1 < length keys = omega arith in
-      any-true (twin group order i) i j (earlier_place (λ i. true) group order n keys s (k - 1) k (omega (arith, b.0)) h same same')
+      any-true (twin group order i) i j (earlier_row (λ i. true) group order n keys s (k - 1) k (omega (arith, b.0)) h same same')
       (and_from (group j == group i) (order j == order i) (eq-eqb _ _ (sym (s.groups (k - 1) g) ∙ same ∙ s.groups k h)) (eq-eqb _ _ (sym (s.orders (k - 1) g) ∙ same' ∙ s.orders k h)))
       ∙ sym t)
       (λ (f : (x.order == (key_at keys k).order) ≡ false).

@@ -41,10 +41,10 @@ key_absent bs (x ∷ xs) h c =
     false≢true (sym h ∙ found)
 
 -- where a text is found
-pub key_place : (bs : List ℕ) (ks : List (Bor (List ℕ))) (i : ℕ) → position (λ k. bytes_eq bs k.now) ks ≡ Some i → slice_get (key_texts ks) i ≡ Some bs
+pub key_position : (bs : List ℕ) (ks : List (Bor (List ℕ))) (i : ℕ) → position (λ k. bytes_eq bs k.now) ks ≡ Some i → slice_get (key_texts ks) i ≡ Some bs
 unfolding bytes
-key_place bs [] i h = absurd (cc)
-key_place bs (x ∷ xs) i h =
+key_position bs [] i h = absurd (cc)
+key_position bs (x ∷ xs) i h =
     let w = position-Some (λ (k : Bor (List ℕ)). bytes_eq bs (bytes k)) (x ∷ xs) i x h in
     let inside : i < length (key_texts (x ∷ xs)) = omega (arith, w.0, length-map (x ∷ xs) bytes) in
     let e : bs ≡ bytes (get_or (x ∷ xs) i x) = (bytes_eq-Decides bs (bytes (get_or (x ∷ xs) i x))).0 w.1 in

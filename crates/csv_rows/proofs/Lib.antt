@@ -6,7 +6,7 @@ pub mod KeyTexts
 pub mod ListLemmas
 pub mod NameLemmas
 pub mod PartsLemmas
-pub mod PlaceLemmas
+pub mod HeaderLemmas
 pub mod ReachedRecords
 pub mod RowLemmas
 pub mod SoonestLemmas

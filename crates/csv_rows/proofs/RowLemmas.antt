@@ -7,7 +7,7 @@ use Rattle.std.specs.Str.{is_utf8}
 use Rattle.std.specs.Option.{option_or}
 use Rattle.csv_rows.specs.Names.{name_in}
 use Rattle.csv_rows.specs.Tables.{number_in}
-use Rattle.csv_rows.proofs.FirstLemmas.{place_by-some}
+use Rattle.csv_rows.proofs.FirstLemmas.{index_by-some}
 
 -- the first of two faults
 pub or_first : {F : Type 0} (a b : Option F) (f : F) → a ≡ Some f → option_or a b ≡ Some f
@@ -36,6 +36,6 @@ pub optional-each : {A : Type 0} (P : A → Type 0) (none : Bool) (o : Option A)
 optional-each P none o h r e = grind (arith, cases_Bool none, same_Some, mapped-each)
 
 -- the index of a name is inside
-pub place_inside : (name : List ℕ) (names : List (List ℕ)) (k : ℕ) → number_in name names ≡ Some k → k < length names
+pub number_inside : (name : List ℕ) (names : List (List ℕ)) (k : ℕ) → number_in name names ≡ Some k → k < length names
 unfolding number_in
-place_inside name names k h = (place_by-some (λ i. bytes_eq (slice_index_or names i []) name) (length names) k h).0
+number_inside name names k h = (index_by-some (λ i. bytes_eq (slice_index_or names i []) name) (length names) k h).0

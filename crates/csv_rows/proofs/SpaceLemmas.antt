@@ -77,6 +77,6 @@ AreTrimmed-map (row ∷ rows) zero k = trimmed_field row k
 AreTrimmed-map (row ∷ rows) (suc i) k = AreTrimmed-map rows i k
 
 -- and so is a field under a column
-pub IsTrimmed-field : (t : List (List (List ℕ))) (place : Option ℕ) (i : ℕ) → AreTrimmed t → IsTrimmed (field_at t place i)
+pub IsTrimmed-field : (t : List (List (List ℕ))) (column : Option ℕ) (i : ℕ) → AreTrimmed t → IsTrimmed (field_at t column i)
 IsTrimmed-field t None i h = IsTrimmed-nil
 IsTrimmed-field t (Some k) i h = h (i + 1) k

@@ -12,12 +12,12 @@ use Rattle.csv_rows.specs.Tables.{index_of}
 
 -- a required column is not in the header
 abbrev pub lack : Table → Column → Option ℕ → Option FeedFault
-lack table column place = if is_none place then Some (MissingColumn table column) else None
+lack table column index = if is_none index then Some (MissingColumn table column) else None
 
 -- the first of these columns that is not in a table's header
-abbrev pub first_lack : Table → List (List (List ℕ)) → List Column → Option FeedFault
-first_lack table t [] = None
-first_lack table t (column ∷ columns) = option_or (lack table column (index_of column t)) (first_lack table t columns)
+abbrev pub first_missing : Table → List (List (List ℕ)) → List Column → Option FeedFault
+first_missing table t [] = None
+first_missing table t (column ∷ columns) = option_or (lack table column (index_of column t)) (first_missing table t columns)
 
 -- an earlier row has the id of row i
 unfoldable pub repeated_id : Table → (ℕ → List ℕ) → ℕ → Option FeedFault

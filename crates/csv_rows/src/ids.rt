@@ -98,7 +98,7 @@ impl Ids {
 
     /// The number of an id; `None` if it is not among them. Each id is looked at in turn.
     pub fn number(&self, id: &str) -> Option<u32>
-        ensures place { result ≡ number_in id.now self.now }
+        ensures number { result ≡ number_in id.now self.now }
         ensures inside { IfSome result (λ number. number < length self.now) }
     {
         self.ids.number(id)

@@ -1,7 +1,7 @@
 //! The faults that tables have alike.
 ghost use Rattle.std.specs.Prelude.{◌≡◌, None, IfSome};
 ghost use Rattle.csv_rows.specs.FeedTables.{unread_table, IsFaultOf};
-ghost use Rattle.csv_rows.specs.RowFaults.{lack, first_lack, ReportsFirst};
+ghost use Rattle.csv_rows.specs.RowFaults.{lack, first_missing, ReportsFirst};
 
 use crate::columns::Column;
 use crate::feed_tables::{FeedFault, Table};
@@ -21,7 +21,7 @@ pub fn lack(table: Table, column: Column, index: Option<usize>) -> Option<FeedFa
 
 /// That the header has all of these columns; or `MissingColumn` of the first that is absent.
 pub fn check_columns(rows: &Rows, table: Table, required: &[Column]) -> Result<(), FeedFault>
-    ensures { ReportsFirst table (first_lack table rows.now required.now) result }
+    ensures { ReportsFirst table (first_missing table rows.now required.now) result }
 {
     for i in 0..required.len() {
         if let Some(fault) = lack(table, required[i], rows.index_of(required[i])) {

@@ -10,14 +10,14 @@ use Rattle.csv_rows.specs.declared.keys.Key.{Key}
 use Rattle.cut_file.specs.declared.faults.CutFault.{CutFault}
 use Rattle.cut_file.specs.declared.faults.CutFault.TheVariants.{TooManyRows}
 use Rattle.cut_file.specs.Faults.{missing_column, too_many_rows, bad_field, repeated_step, run_fault, first_cut_fault, row}
-use Rattle.cut_file.specs.NumberedRows.{AreColumns, missing_in, lack, run_names, place_names, IsNumbered}
-use Rattle.cut_file.specs.CutKeys.{AreKeysOf, no_row}
+use Rattle.cut_file.specs.NumberedRows.{AreCutColumns, missing_in, index_fault, run_names, place_names, IsNumbered}
+use Rattle.cut_file.specs.CutKeys.{AreCutKeys, no_row}
 use Rattle.cut_file.specs.Read.{IsCutRead}
 
-pub missing_is : (t : List (List (List ℕ))) (c : Columns) → AreColumns t c → missing_column t ≡ missing_in c
+pub missing_is : (t : List (List (List ℕ))) (c : Columns) → AreCutColumns t c → missing_column t ≡ missing_in c
 missing_is t c h =
-    sym (λ m. option_or (lack (h.run m) Run) (option_or (lack (h.step m) Step) (option_or (lack (h.from m) From)
-    (option_or (lack (h.to m) To) (option_or (lack (h.dep m) Dep) (lack (h.arr m) Arr))))))
+    sym (λ m. option_or (index_fault (h.run m) Run) (option_or (index_fault (h.step m) Step) (option_or (index_fault (h.from m) From)
+    (option_or (index_fault (h.to m) To) (option_or (index_fault (h.dep m) Dep) (index_fault (h.arr m) Arr))))))
 
 abbrev all_faults : Option CutFault → Option CutFault → Option CutFault → Option CutFault → Option CutFault
 all_faults a b c d = option_or a (option_or b (option_or c d))
@@ -29,17 +29,17 @@ first_is : (t : List (List (List ℕ))) (limit : ℕ) → first_cut_fault t limi
 unfolding first_cut_fault
 first_is t limit = refl
 
-pub column_first : (t : List (List (List ℕ))) (limit : ℕ) (c : Columns) (f : CutFault) → AreColumns t c → Some f ≡ missing_in c → first_cut_fault t limit ≡ Some f
+pub column_first : (t : List (List (List ℕ))) (limit : ℕ) (c : Columns) (f : CutFault) → AreCutColumns t c → Some f ≡ missing_in c → first_cut_fault t limit ≡ Some f
 column_first t limit c f h e =
     first_is t limit ∙ ap (λ a. all_faults a (too_many_rows t limit) (first_below (bad_field t) (row_count t)) (runs_of t)) (missing_is t c h ∙ sym e)
 
-pub count_first : (t : List (List (List ℕ))) (limit : ℕ) (c : Columns) → AreColumns t c → None ≡ missing_in c → limit < row_count t → first_cut_fault t limit ≡ Some (TooManyRows (row_count t))
+pub count_first : (t : List (List (List ℕ))) (limit : ℕ) (c : Columns) → AreCutColumns t c → None ≡ missing_in c → limit < row_count t → first_cut_fault t limit ≡ Some (TooManyRows (row_count t))
 count_first t limit c h e l =
     first_is t limit ∙ ap (λ a. all_faults a (too_many_rows t limit) (first_below (bad_field t) (row_count t)) (runs_of t)) (missing_is t c h ∙ sym e)
     ∙ ap (λ b. option_or (if b then Some (TooManyRows (row_count t)) else None) (option_or (first_below (bad_field t) (row_count t)) (runs_of t))) (lt-ltb limit (row_count t) l)
 
 -- with its columns, and few enough rows
-pub rows_first : (t : List (List (List ℕ))) (limit : ℕ) (c : Columns) → AreColumns t c → None ≡ missing_in c → row_count t ≤ limit
+pub rows_first : (t : List (List (List ℕ))) (limit : ℕ) (c : Columns) → AreCutColumns t c → None ≡ missing_in c → row_count t ≤ limit
     → first_cut_fault t limit ≡ option_or (first_below (bad_field t) (row_count t)) (runs_of t)
 rows_first t limit c h e l =
     first_is t limit ∙ ap (λ a. all_faults a (too_many_rows t limit) (first_below (bad_field t) (row_count t)) (runs_of t)) (missing_is t c h ∙ sym e)
@@ -59,7 +59,7 @@ runs_here t runs places rows rows' keys keys' o e f h none reported =
 
 pub read_here : (t : List (List (List ℕ))) (runs places : List (List ℕ)) (rows rows' : List CutRow) (keys : List Key) → runs ≡ run_names t (row_count t) → places ≡ place_names t (row_count t)
     → length rows ≡ row_count t → ((k : ℕ) (d : CutRow) → k < row_count t → IsNumbered runs places (row t k) (slice_index_or rows k d)) → rows' ≡ rows
-    → length keys ≡ length rows' → AreKeysOf rows' keys
+    → length keys ≡ length rows' → AreCutKeys rows' keys
     → IsCutRead t runs places rows keys
 read_here t runs places rows rows' keys a b size each e count s =
     record {
@@ -68,5 +68,5 @@ read_here t runs places rows rows' keys a b size each e count s =
       size = size;
       each = λ k l. each k no_row l;
       key_count = count ∙ ap length e;
-      sorted = subst (λ (x : List CutRow). AreKeysOf x keys) e s;
+      sorted = subst (λ (x : List CutRow). AreCutKeys x keys) e s;
     }

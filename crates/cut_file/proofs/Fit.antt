@@ -57,8 +57,8 @@ module _ (cut : Cut) (delays : DelayLists) (n : NetworkModel) (s : IsFaultless c
         omega (arith, a.run, run_inside cut delays n s f net i a.key);
     each = λ r l.
         let w = key_of_run cut delays n s f net r l in
-        let l' : w.place < count n = omega (arith, net.connections.size, w.inside) in
-        ∣ (w.place, l', (is_at cut delays n s f net w.place l').run ∙ w.run) ∣₁;
+        let l' : w.index < count n = omega (arith, net.connections.size, w.inside) in
+        ∣ (w.index, l', (is_at cut delays n s f net w.index l').run ∙ w.run) ∣₁;
     place_names = trimmed_places;
     run_names = trimmed_runs;
   }

@@ -28,28 +28,28 @@ with_last a q r line = grind (arith, cases_Bool a, cases_Bool q, cases_Bool r)
 
 module _ (t : List (List (List ℕ))) (runs places : List (List ℕ)) (rows : List CutRow) (keys : List Key) (r : IsCutRead t runs places rows keys)
     (none : first_below (repeated_step t) (row_count t) ≡ None) where
-  stands : ℕ → ℕ → Bool
-  stands j i = (run_of rows j == run_of rows i) && nat_lt (step_of rows j) (step_of rows i)
+  ahead : ℕ → ℕ → Bool
+  ahead j i = (run_of rows j == run_of rows i) && nat_lt (step_of rows j) (step_of rows i)
 
-  stands_is : (j i : ℕ) → j < row_count t → i < row_count t → cut_precedes t j i ≡ stands j i
-  unfolding stands
-  stands_is j i l h = ap₂ (λ x y. x && y) (run_is t runs places rows keys r j i l h) (ap₂ nat_lt (step_is t runs places rows keys r j l) (step_is t runs places rows keys r i h))
+  ahead_is : (j i : ℕ) → j < row_count t → i < row_count t → cut_precedes t j i ≡ ahead j i
+  unfolding ahead
+  ahead_is j i l h = ap₂ (λ x y. x && y) (run_is t runs places rows keys r j i l h) (ap₂ nat_lt (step_is t runs places rows keys r j l) (step_is t runs places rows keys r i h))
 
   just : ℕ → ℕ → ℕ → Bool
-  just m j i = stands j i && not (any_below (λ k. stands j k && stands k i) m)
+  just m j i = ahead j i && not (any_below (λ k. ahead j k && ahead k i) m)
 
   just_is : (j i : ℕ) → j < row_count t → i < row_count t → cut_just_precedes t j i ≡ just (row_count t) j i
   unfolding just
   just_is j i l h =
-      ap₂ (λ x y. x && not y) (stands_is j i l h)
-      (any-same (λ k. cut_precedes t j k && cut_precedes t k i) (λ k. stands j k && stands k i) (row_count t) (λ k m. ap₂ (λ x y. x && y) (stands_is j k l m) (stands_is k i m h)))
+      ap₂ (λ x y. x && not y) (ahead_is j i l h)
+      (any-same (λ k. cut_precedes t j k && cut_precedes t k i) (λ k. ahead j k && ahead k i) (row_count t) (λ k m. ap₂ (λ x y. x && y) (ahead_is j k l m) (ahead_is k i m h)))
 
   inside : (k : ℕ) → k < length keys → (key_at keys k).row < row_count t
   inside k h = omega (arith, r.sorted.inside k h, r.size)
 
   -- what is asked of the rows just before a row is asked of the row of the key before
   asked_is : (k : ℕ) → k < length keys → (o : Option Key) → IsBefore keys k o → (q : ℕ → Bool) → any_below (λ j. cut_just_precedes t j (key_at keys k).row && q j) (row_count t) ≡ asked q o
-  unfolding just stands
+  unfolding just ahead
   asked_is k h o b q =
       let i = (key_at keys k).row in
       let P : ℕ → Type 0 = λ m. any_below (λ j. just m j i && q j) m ≡ asked q o in

@@ -8,8 +8,8 @@ use Rattle.plan_model.specs.NameLists.{Adds, AreDistinct}
 use Rattle.text_index.proofs.KeyLemmas.{new_after_those_before}
 use Rattle.csv_rows.specs.Tables.{number_in}
 use Rattle.csv_rows.proofs.FirstLemmas.{absent_by}
-use Rattle.csv_rows.proofs.IdLemmas.{got, place-contained}
-use Rattle.csv_rows.proofs.PlaceLemmas.{bytes_ne}
+use Rattle.csv_rows.proofs.IdLemmas.{got, number-contained}
+use Rattle.csv_rows.proofs.HeaderLemmas.{bytes_ne}
 use Rattle.cut_file.specs.declared.rows.CutRow.{CutRow}
 use Rattle.cut_file.specs.CutRows.{Row}
 use Rattle.cut_file.specs.NumberedRows.{add_new, IsNumbered}
@@ -40,7 +40,7 @@ some_from None h = absurd (h refl)
 some_from (Some k) h = refl
 
 pub there_place : (names : List (List ℕ)) (name : List ℕ) → Contains names name → is_some (number_in name names) ≡ true
-there_place names name c = some_from (number_in name names) (place-contained name names c)
+there_place names name c = some_from (number_in name names) (number-contained name names c)
 
 -- what adding a name does
 pub add_new-from_adds : (old new : List (List ℕ)) (name : List ℕ) (added : Bool) → Adds old new name added → new ≡ add_new old name

@@ -124,9 +124,9 @@ module _ (cut : Cut) (delays : DelayLists) (n : NetworkModel) (s : IsFaultless c
 
   -- a key of each run
   pub record HasKey (r : ℕ) : Type 0 where
-    pub place : ℕ
-    pub inside : place < length cut.keys
-    pub run : (key_at cut.keys place).group ≡ r
+    pub index : ℕ
+    pub inside : index < length cut.keys
+    pub run : (key_at cut.keys index).group ≡ r
 
   pub key_of_run : (r : ℕ) → r < length cut.runs → HasKey r
   key_of_run r l =
@@ -136,7 +136,7 @@ module _ (cut : Cut) (delays : DelayLists) (n : NetworkModel) (s : IsFaultless c
       let a = s.read.each w.at w.inside in
       let P : List (List ℕ) → Type 0 = λ xs. slice_get xs r ≡ Some (row t w.at).run in
       let same = one_number cut.runs (one_run s.table cut.runs cut.places cut.rows cut.keys s.read) (cut_row cut.rows w.at).run r (row t w.at).run a.run (subst P (sym s.read.run_names) w.is) in
-      record { place = k.0; inside = k.1; run = s.read.sorted.groups k.0 k.1 ∙ ap (λ i. (cut_row cut.rows i).run) k.2 ∙ same }
+      record { index = k.0; inside = k.1; run = s.read.sorted.groups k.0 k.1 ∙ ap (λ i. (cut_row cut.rows i).run) k.2 ∙ same }
 
   pub run_inside : (i : ℕ) → i < length cut.keys → (key_at cut.keys i).group < length cut.runs
   run_inside i h =
@@ -151,8 +151,8 @@ module _ (cut : Cut) (delays : DelayLists) (n : NetworkModel) (s : IsFaultless c
       ⊎_elim (λ (less : (key_at cut.keys i).group < (key_at cut.keys (i + 1)).group).
       ⊎_elim (λ (gap : (key_at cut.keys i).group + 1 < (key_at cut.keys (i + 1)).group).
       let w = key_of_run ((key_at cut.keys i).group + 1) (omega (arith, run_inside (i + 1) b.key)) in
-      ⊎_elim (λ (before : w.place < i + 1). absurd (omega (arith, w.run, run_rises w.place i (omega arith) a.key)))
-      (λ (after : i + 1 ≤ w.place). absurd (omega (arith, w.run, run_rises (i + 1) w.place after w.inside))) (cases_lt w.place (i + 1)))
+      ⊎_elim (λ (before : w.index < i + 1). absurd (omega (arith, w.run, run_rises w.index i (omega arith) a.key)))
+      (λ (after : i + 1 ≤ w.index). absurd (omega (arith, w.run, run_rises (i + 1) w.index after w.inside))) (cases_lt w.index (i + 1)))
       (λ (end : (key_at cut.keys (i + 1)).group ≤ (key_at cut.keys i).group + 1). inr (omega (arith, a.run, b.run))) (cases_lt ((key_at cut.keys i).group + 1) (key_at cut.keys (i + 1)).group))
       (λ x.
       let steps = steps_rise s.table cut.runs cut.places cut.rows cut.keys s.read none_of.steps i (i + 1) (omega arith) b.key x.0 in
@@ -166,7 +166,7 @@ module _ (cut : Cut) (delays : DelayLists) (n : NetworkModel) (s : IsFaultless c
   first l =
       let a = is_at 0 l in
       let w = key_of_run 0 (omega (arith, run_inside 0 a.key)) in
-      omega (arith, a.run, w.run, run_rises 0 w.place (omega arith) w.inside)
+      omega (arith, a.run, w.run, run_rises 0 w.index (omega arith) w.inside)
 
   valid_connection : (i : ℕ) → i < count n → IsValidConnection n i
   valid_connection i l =

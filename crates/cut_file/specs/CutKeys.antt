@@ -19,8 +19,8 @@ abbrev pub step_of : List CutRow → ℕ → ℕ
 step_of rows i = (cut_row rows i).step
 
 -- the keys of all rows, in the order of run, step and place in the file
-abbrev pub AreKeysOf : List CutRow → List Key → Type 0
-AreKeysOf rows keys = AreSorted (λ i. true) (run_of rows) (step_of rows) (length rows) keys
+abbrev pub AreCutKeys : List CutRow → List Key → Type 0
+AreCutKeys rows keys = AreSorted (λ i. true) (run_of rows) (step_of rows) (length rows) keys
 
 -- the fault of a row beside the row before it in its run
 abbrev pub misfit : CutRow → CutRow → ℕ → Option CutFault

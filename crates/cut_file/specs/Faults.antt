@@ -10,12 +10,12 @@ use Rattle.cut_file.specs.declared.faults.CutFault.{CutFault}
 use Rattle.cut_file.specs.declared.faults.CutFault.TheVariants.{MissingColumn, TooManyRows, BadField, DuplicateStep, Backward, Broken}
 use Rattle.cut_file.specs.CutRows.{Row, row_at}
 
-abbrev pub lacks : List (List (List ℕ)) → Column → Option CutFault
-lacks t column = if is_none (index_of column t) then Some (MissingColumn column) else None
+abbrev pub column_fault : List (List (List ℕ)) → Column → Option CutFault
+column_fault t column = if is_none (index_of column t) then Some (MissingColumn column) else None
 
 -- the first required column that is not there
 abbrev pub missing_column : List (List (List ℕ)) → Option CutFault
-missing_column t = option_or (lacks t Run) (option_or (lacks t Step) (option_or (lacks t From) (option_or (lacks t To) (option_or (lacks t Dep) (lacks t Arr)))))
+missing_column t = option_or (column_fault t Run) (option_or (column_fault t Step) (option_or (column_fault t From) (option_or (column_fault t To) (option_or (column_fault t Dep) (column_fault t Arr)))))
 
 abbrev pub too_many_rows : List (List (List ℕ)) → ℕ → Option CutFault
 too_many_rows t limit = if nat_lt limit (row_count t) then Some (TooManyRows (row_count t)) else None

@@ -39,7 +39,7 @@ pub record IsNumbered (runs places : List (List ℕ)) (r : Row) (c : CutRow) : T
   pub change : c.change ≡ r.change
 
 -- the places of the columns
-pub record AreColumns (t : List (List (List ℕ))) (c : Columns) : Type 0 where
+pub record AreCutColumns (t : List (List (List ℕ))) (c : Columns) : Type 0 where
   pub run : c.run ≡ index_of Run t
   pub step : c.step ≡ index_of Step t
   pub from : c.from ≡ index_of From t
@@ -51,8 +51,8 @@ pub record AreColumns (t : List (List (List ℕ))) (c : Columns) : Type 0 where
   pub exit : c.exit ≡ index_of Exit t
   pub change : c.change ≡ index_of Change t
 
-abbrev pub lack : Option ℕ → Column → Option CutFault
-lack place column = if is_none place then Some (MissingColumn column) else None
+abbrev pub index_fault : Option ℕ → Column → Option CutFault
+index_fault index column = if is_none index then Some (MissingColumn column) else None
 
 abbrev pub missing_in : Columns → Option CutFault
-missing_in c = option_or (lack c.run Run) (option_or (lack c.step Step) (option_or (lack c.from From) (option_or (lack c.to To) (option_or (lack c.dep Dep) (lack c.arr Arr)))))
+missing_in c = option_or (index_fault c.run Run) (option_or (index_fault c.step Step) (option_or (index_fault c.from From) (option_or (index_fault c.to To) (option_or (index_fault c.dep Dep) (index_fault c.arr Arr)))))

@@ -5,7 +5,7 @@ use Rattle.cut_file.specs.declared.rows.CutRow.{CutRow}
 use Rattle.csv_rows.specs.declared.keys.Key.{Key}
 use Rattle.cut_file.specs.Faults.{row}
 use Rattle.cut_file.specs.NumberedRows.{run_names, place_names, IsNumbered}
-use Rattle.cut_file.specs.CutKeys.{cut_row, AreKeysOf}
+use Rattle.cut_file.specs.CutKeys.{cut_row, AreCutKeys}
 
 -- its names in the order in which they first occur, its rows with their numbers, and the order of the rows by run and step
 pub record IsCutRead (t : List (List (List ℕ))) (runs places : List (List ℕ)) (rows : List CutRow) (keys : List Key) : Type 0 where
@@ -14,7 +14,7 @@ pub record IsCutRead (t : List (List (List ℕ))) (runs places : List (List ℕ)
   pub size : length rows ≡ row_count t
   pub each : (k : ℕ) → k < row_count t → IsNumbered runs places (row t k) (cut_row rows k)
   pub key_count : length keys ≡ length rows
-  pub sorted : AreKeysOf rows keys
+  pub sorted : AreCutKeys rows keys
 
 -- the parts of a cut file
 pub record Cut : Type 0 where

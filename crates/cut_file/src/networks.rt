@@ -1,7 +1,7 @@
 //! The parts of the network of a cut file.
 ghost use Rattle.std.specs.Prelude.{◌≡◌, ℕ, ◌<◌, length, slice_index, IfOk, None};
 ghost use Rattle.delay_table.specs.DelayLists.{class_for};
-ghost use Rattle.cut_file.specs.CutKeys.{AreKeysOf, cut_row};
+ghost use Rattle.cut_file.specs.CutKeys.{AreCutKeys, cut_row};
 ghost use Rattle.cut_file.specs.CutNetworks.{IsConnection, AreConnections, longest, change_from, change_seconds_of};
 
 use crate::rows::CutRow;
@@ -44,7 +44,7 @@ pub(crate) fn connections_of(
     keys: &[Key],
     delays: &DelayTable,
 ) -> Result<List<Connection>, NoMemory>
-    requires { AreKeysOf rows.now keys.now }
+    requires { AreCutKeys rows.now keys.now }
     ensures { IfOk result (λ connections.
         AreConnections delays.now rows.now keys.now (length keys.now) connections) }
 {

@@ -6,7 +6,7 @@ ghost use Rattle.csv_rows.specs.Tables.{row_count, field};
 ghost use Rattle.cut_file.specs.declared.rows.CutRow.{CutRow};
 ghost use Rattle.cut_file.specs.CutRows.{as_read, named, row_at};
 ghost use Rattle.cut_file.specs.Faults.{bad_field, row};
-ghost use Rattle.cut_file.specs.NumberedRows.{add_new, run_names, place_names, IsNumbered, AreColumns};
+ghost use Rattle.cut_file.specs.NumberedRows.{add_new, run_names, place_names, IsNumbered, AreCutColumns};
 
 use crate::faults::CutFault;
 use crate::lines::{Fields, NamedRow, read_fields};
@@ -55,7 +55,7 @@ pub(crate) struct Columns {
 
 /// The indexes of the columns in this table.
 pub(crate) fn columns_of(rows: &Rows) -> Columns
-    ensures { AreColumns rows.now result }
+    ensures { AreCutColumns rows.now result }
 {
     Columns {
         run: rows.index_of(Column::Run),
@@ -76,7 +76,7 @@ pub(crate) fn columns_of(rows: &Rows) -> Columns
 pub(crate) struct CutRows<'a> {
     pub(crate) rows: &'a Rows,
     pub(crate) columns: Columns,
-    ghost are: { AreColumns rows.now columns },
+    ghost are: { AreCutColumns rows.now columns },
     ghost few: { row_count rows.now ≤ 8_388_608 },
 }
 

@@ -1,7 +1,7 @@
 -- The class of a connection is one of those of the table.
 use Rattle.std.proofs.Common.{◌≡◌, ℕ, ◌+◌, ◌<◌, ◌==◌, List, length, slice_index, Option, Some, None, IfSome, option_map, refl, arith, unwrap_or}
 use Rattle.std.specs.Option.{option_or}
-use Rattle.csv_rows.proofs.FirstLemmas.{place_by-some}
+use Rattle.csv_rows.proofs.FirstLemmas.{index_by-some}
 use Rattle.delay_table.specs.DelayLists.{DelayLists, class_for, hour_class, hour_of, other_class, route_class, type_class, type_index}
 use Rattle.delay_table.specs.Groups.{Group, group_index}
 use Rattle.delay_table.specs.Slots.{AreDelays}
@@ -22,7 +22,7 @@ module _ (n : ℕ) where
 
 type-inside : (types : List ℕ) (route k : ℕ) → type_index types route ≡ Some k → k < length types
 unfolding type_index
-type-inside types route k h = (place_by-some (λ i. slice_index types i == route) (length types) k h).0
+type-inside types route k h = (index_by-some (λ i. slice_index types i == route) (length types) k h).0
 
 shifted : (o : Option ℕ) (by n : ℕ) → ((k : ℕ) → o ≡ Some k → by + k < n) → IfSome (option_map (λ k. by + k) o) (λ k. k < n)
 shifted None by n h = tt

@@ -14,7 +14,7 @@ use Rattle.delay_table.specs.declared.faults.DelayFault.{DelayFault}
 use Rattle.delay_table.specs.declared.faults.DelayFault.TheVariants.{MissingColumn, TooManyRows, GroupRows, NotRising, TooManyClasses, WeightSum, GroupSum}
 use Rattle.delay_table.specs.DelayBounds.{end_of_types, most_groups, most_rows}
 use Rattle.delay_table.specs.Groups.{Group, is_plain, group_in}
-use Rattle.delay_table.specs.Delays.{Line, class_name, class_rows, class_sum, fault_of, group_sum_at, groups_fault, lacks, line_at, line_fault, missing_column, route_types_below}
+use Rattle.delay_table.specs.Delays.{Line, class_name, class_rows, class_sum, fault_of, group_sum_at, groups_fault, column_fault, line_at, line_fault, missing_column, route_types_below}
 use Rattle.delay_table.specs.Delays.{no_default_of, other_sum, group_outcomes, type_sum_at, delay_rises}
 
 -- a fault that has no number of groups, or none
@@ -30,7 +30,7 @@ mapped f None h n e = absurd (cc)
 mapped f (Some s) h n e = h s n e
 
 first : (f : ℕ → Option DelayFault) (count : ℕ) → ((k : ℕ) → IsOther (f k)) → IsOther (first_below f count)
-first f count h n e = let w = first-is f count (TooManyClasses n) e in h w.place n w.here
+first f count h n e = let w = first-is f count (TooManyClasses n) e in h w.index n w.here
 
 class-other : (rows : Group → List Outcome) (class : Option ℕ) → IsOther (class_sum rows class)
 class-other rows class = mapped (WeightSum (class_name class)) (other_sum (class_rows rows class)) (λ s n e. absurd (cc))
@@ -67,8 +67,8 @@ column_if b column n e = grind (arith, cases_Bool b)
 
 pub column-other : (t : List (List (List ℕ))) → IsOther (missing_column t)
 column-other t =
-    either (lacks t Class) (option_or (lacks t Delay) (lacks t Weight)) (column_if (is_none (index_of Class t)) Class)
-    (either (lacks t Delay) (lacks t Weight) (column_if (is_none (index_of Delay t)) Delay) (column_if (is_none (index_of Weight t)) Weight))
+    either (column_fault t Class) (option_or (column_fault t Delay) (column_fault t Weight)) (column_if (is_none (index_of Class t)) Class)
+    (either (column_fault t Delay) (column_fault t Weight) (column_if (is_none (index_of Delay t)) Delay) (column_if (is_none (index_of Weight t)) Weight))
 
 row_if : (many rising plain : Bool) (a b c : DelayFault) → IsOther (Some a) → IsOther (Some b) → IsOther (Some c)
     → IsOther (if many then Some (if plain then a else b) else if rising then None else Some c)

@@ -6,7 +6,7 @@ use Rattle.std.proofs.lemmas.List.{get_or_append_left, get_or_push}
 use Rattle.std.proofs.lemmas.Slice.Eq.{bytes_eq-Decides}
 use Rattle.std.specs.Option.{option_or}
 use Rattle.csv_rows.specs.First.{first_below}
-use Rattle.csv_rows.proofs.FirstLemmas.{absent_by, first-same, first-suc, found_by, place_by-none, place_by-some}
+use Rattle.csv_rows.proofs.FirstLemmas.{absent_by, first-same, first-suc, found_by, index_by-none, index_by-some}
 use Rattle.delay_table.specs.Groups.{Group, same_if, same_number, same_group, of_class, group_in, group_index}
 use Rattle.delay_table.specs.Read.{AreApart}
 
@@ -51,12 +51,12 @@ false-same a b f e = let t = same-true a b e in absurd (cc)
 pub group-here : (group : Group) (groups : List Group) (k : ℕ) → group_index group groups ≡ Some k → (k < length groups) × (group_in groups k ≡ group)
 unfolding group_index
 group-here group groups k h =
-    let w = place_by-some (λ k. same_group (group_in groups k) group) (length groups) k h in (w.0, same-equal (group_in groups k) group w.1)
+    let w = index_by-some (λ k. same_group (group_in groups k) group) (length groups) k h in (w.0, same-equal (group_in groups k) group w.1)
 
 -- a group that has no index is nowhere
 pub nowhere : (group : Group) (groups : List Group) → group_index group groups ≡ None → (k : ℕ) → k < length groups → group_in groups k ≡ group → ⊥
 unfolding group_index
-nowhere group groups h k l = false-same (group_in groups k) group (place_by-none (λ k. same_group (group_in groups k) group) (length groups) h k l)
+nowhere group groups h k l = false-same (group_in groups k) group (index_by-none (λ k. same_group (group_in groups k) group) (length groups) h k l)
 
 pub none-index : (group : Group) (groups : List Group) → ((k : ℕ) → k < length groups → group_in groups k ≡ group → ⊥) → group_index group groups ≡ None
 unfolding group_index
@@ -83,10 +83,10 @@ index-at groups apart k l =
     index-first (group_in groups k) groups k l refl (λ j less. false-same (group_in groups j) (group_in groups k) (apart j k less l))
 
 -- one more group
-pub place-push : (group : Group) (groups : List Group) (x : Group) → group_index group (groups ++ x ∷ []) ≡ option_or (group_index group groups)
+pub group_index-push : (group : Group) (groups : List Group) (x : Group) → group_index group (groups ++ x ∷ []) ≡ option_or (group_index group groups)
     (if same_group x group then Some (length groups) else None)
 unfolding group_index
-place-push group groups x =
+group_index-push group groups x =
     let n = length groups in
     let size : length (groups ++ x ∷ []) ≡ n + 1 = length-append groups (x ∷ []) in
     let f : ℕ → Option ℕ = λ k. if same_group (group_in (groups ++ x ∷ []) k) group then Some k else None in

@@ -9,7 +9,7 @@ use Rattle.std.proofs.lemmas.List.Folds.{Any-from_list_any, list_any_at}
 use Rattle.std.proofs.lemmas.List.Quantifiers.{position-Some}
 use Rattle.plan_model.specs.NameLists.{AreDistinct}
 use Rattle.csv_rows.specs.Tables.{number_in}
-use Rattle.csv_rows.proofs.IdLemmas.{place-here}
+use Rattle.csv_rows.proofs.IdLemmas.{number-here}
 use Rattle.delay_table.specs.declared.numbered.NumberedGroup.{NumberedGroup}
 use Rattle.delay_table.specs.Groups.{Group, same_if, same_number, of_class, group_in, group_index, numbered_route, routes_of, with_route}
 use Rattle.delay_table.specs.Numbered.{no_group, named_group, same_numbered, AreNumbers, IsNumber, IsNumbering}
@@ -149,7 +149,7 @@ index-is routes keys distinct numbers all class number hour route view inside is
 
 -- the number of a route is that of its id
 pub number-is : (routes : List (List ℕ)) (id : List ℕ) (n : ℕ) → number_in id routes ≡ Some n → IsNumber routes (Some n) (Some id)
-number-is routes id n h = let w = place-here id routes n h in record { inside = w.0; is = ap Some w.1 }
+number-is routes id n h = let w = number-here id routes n h in record { inside = w.0; is = ap Some w.1 }
 
 module _ (routes : List (List ℕ)) (keys : List NumberedGroup) (distinct : AreDistinct routes) (numbers : AreNumbers routes keys) (all : List Group)
     (class number hour : Option ℕ) (route : Option (List ℕ)) (view : map (named_group routes) keys ≡ all) (is : IsNumber routes number route) where

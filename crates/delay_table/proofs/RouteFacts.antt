@@ -9,20 +9,20 @@ use Rattle.std.proofs.lemmas.List.Elements.{Contains-push, Contains-append_left}
 use Rattle.plan_model.specs.NameLists.{Adds, AreDistinct}
 use Rattle.plan_model.proofs.Texts.{AreDistinct-push}
 use Rattle.csv_rows.specs.Tables.{number_in}
-use Rattle.csv_rows.proofs.IdLemmas.{got, place-contained, place-here}
+use Rattle.csv_rows.proofs.IdLemmas.{got, number-contained, number-here}
 use Rattle.delay_table.specs.DelayLists.{DelayLists, class_at, class_for, hour_class, hour_of, route_class, type_class}
 use Rattle.delay_table.specs.Groups.{Group, group_in, group_index, numbered_route, routes_of, with_route}
 use Rattle.delay_table.proofs.GroupFacts.{none-index}
 
 -- whether a route has a index
-stands : (id : List ℕ) (routes : List (List ℕ)) (o : Option ℕ) → number_in id routes ≡ o → (is_some o ≡ true → Contains routes id) × (is_some o ≡ false → ¬ Contains routes id)
-stands id routes None e = (λ t. absurd (cc), λ f c. place-contained id routes c e)
-stands id routes (Some k) e = let w = place-here id routes k e in (λ t. (k, w.0, sym (get_or_default routes k [] id w.0) ∙ w.1), λ f. absurd (cc))
+contained : (id : List ℕ) (routes : List (List ℕ)) (o : Option ℕ) → number_in id routes ≡ o → (is_some o ≡ true → Contains routes id) × (is_some o ≡ false → ¬ Contains routes id)
+contained id routes None e = (λ t. absurd (cc), λ f c. number-contained id routes c e)
+contained id routes (Some k) e = let w = number-here id routes k e in (λ t. (k, w.0, sym (get_or_default routes k [] id w.0) ∙ w.1), λ f. absurd (cc))
 
 either : (P : List (List ℕ) → Type 0) (routes : List (List ℕ)) (id : List ℕ) (b : Bool) → is_some (number_in id routes) ≡ b → (Contains routes id → P routes)
     → ((Contains routes id → ⊥) → P (routes ++ id ∷ [])) → P (if b then routes else routes ++ id ∷ [])
-either P routes id true e old new = old ((stands id routes (number_in id routes) (λ i. number_in id routes)).0 e)
-either P routes id false e old new = new ((stands id routes (number_in id routes) (λ i. number_in id routes)).1 e)
+either P routes id true e old new = old ((contained id routes (number_in id routes) (λ i. number_in id routes)).0 e)
+either P routes id false e old new = new ((contained id routes (number_in id routes) (λ i. number_in id routes)).1 e)
 
 -- the two cases of a route that is given: it is there, or it goes last
 pub with_route-cases : (P : List (List ℕ) → Type 0) (routes : List (List ℕ)) (id : List ℕ) → (Contains routes id → P routes)

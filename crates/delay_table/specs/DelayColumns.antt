@@ -4,7 +4,7 @@ use Rattle.csv_rows.specs.declared.columns.Column.TheVariants.{Class, Delay, Wei
 use Rattle.csv_rows.specs.Tables.{index_of}
 use Rattle.delay_table.specs.declared.lines.Columns.{Columns}
 
-pub record AreColumns (t : List (List (List ℕ))) (c : Columns) : Type 0 where
+pub record AreDelayColumns (t : List (List (List ℕ))) (c : Columns) : Type 0 where
   pub class : c.class ≡ index_of Class t
   pub delay : c.delay ≡ index_of Delay t
   pub weight : c.weight ≡ index_of Weight t

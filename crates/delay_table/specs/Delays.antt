@@ -87,11 +87,11 @@ group_outcomes t zero group = []
 group_outcomes t (suc n) group = group_outcomes t n group ++ of_group group (line_at t n)
 
 -- the first column that is not there
-abbrev pub lacks : List (List (List ℕ)) → Column → Option DelayFault
-lacks t column = if is_none (index_of column t) then Some (MissingColumn column) else None
+abbrev pub column_fault : List (List (List ℕ)) → Column → Option DelayFault
+column_fault t column = if is_none (index_of column t) then Some (MissingColumn column) else None
 
 abbrev pub missing_column : List (List (List ℕ)) → Option DelayFault
-missing_column t = option_or (lacks t Class) (option_or (lacks t Delay) (lacks t Weight))
+missing_column t = option_or (column_fault t Class) (option_or (column_fault t Delay) (column_fault t Weight))
 
 -- a delay is greater than that of the group's row before
 abbrev pub delay_rises : Option Outcome → ℕ → Bool

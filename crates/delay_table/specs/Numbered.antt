@@ -50,8 +50,8 @@ pub record IsNumbering (routes : List (List ℕ)) (keys : List NumberedGroup) (g
   pub numbers : AreNumbers routes keys
   pub are : map (named_group routes) keys ≡ groups
 
-abbrev pub AreNumbered : Inside → Type 0
-AreNumbered s = IsNumbering s.routes s.groups (groups_of s)
+abbrev pub AreNumberedGroups : Inside → Type 0
+AreNumberedGroups s = IsNumbering s.routes s.groups (groups_of s)
 
 -- this is the number of a route, if there is one
 pub record IsNumber (routes : List (List ℕ)) (number : Option ℕ) (route : Option (List ℕ)) : Type 0 where

@@ -4,8 +4,8 @@ ghost use Rattle.csv_rows.specs.Tables.{row_count};
 ghost use Rattle.clock_text.specs.Digits.{whole_of};
 ghost use Rattle.plan_model.specs.Bounds.{seconds_per_day};
 ghost use Rattle.delay_table.specs.DelayBounds.{whole_weight};
-ghost use Rattle.delay_table.specs.Delays.{delay_class_in, hour_in, not_zero, route_in, class_name, lacks, line_from, line_at, missing_column};
-ghost use Rattle.delay_table.specs.DelayColumns.{AreColumns};
+ghost use Rattle.delay_table.specs.Delays.{delay_class_in, hour_in, not_zero, route_in, class_name, column_fault, line_from, line_at, missing_column};
+ghost use Rattle.delay_table.specs.DelayColumns.{AreDelayColumns};
 
 use crate::faults::{ClassName, DelayFault};
 use clock_text::read_whole;
@@ -39,7 +39,7 @@ pub(crate) struct Columns {
 
 /// The indexes of the columns in this table.
 pub(crate) fn columns_of(rows: &Rows) -> Columns
-    ensures { AreColumns rows.now result }
+    ensures { AreDelayColumns rows.now result }
 {
     Columns {
         class: rows.index_of(Column::Class),
@@ -55,12 +55,12 @@ pub(crate) fn columns_of(rows: &Rows) -> Columns
 pub(crate) struct DelayRows<'a> {
     pub(crate) rows: &'a Rows,
     pub(crate) columns: Columns,
-    ghost are: { AreColumns rows.now columns },
+    ghost are: { AreDelayColumns rows.now columns },
 }
 
 /// `MissingColumn` of a column that is not in the header; `None` if it is.
-fn lacks(rows: &Rows, column: Column) -> Option<DelayFault>
-    ensures { result ≡ lacks rows.now column }
+fn column_fault(rows: &Rows, column: Column) -> Option<DelayFault>
+    ensures { result ≡ column_fault rows.now column }
 {
     if rows.index_of(column).is_none() {
         return Some(DelayFault::MissingColumn(column));
@@ -72,13 +72,13 @@ fn lacks(rows: &Rows, column: Column) -> Option<DelayFault>
 pub(crate) fn missing_column(rows: &Rows) -> Option<DelayFault>
     ensures { result ≡ missing_column rows.now }
 {
-    if let Some(fault) = lacks(rows, Column::Class) {
+    if let Some(fault) = column_fault(rows, Column::Class) {
         return Some(fault);
     }
-    if let Some(fault) = lacks(rows, Column::Delay) {
+    if let Some(fault) = column_fault(rows, Column::Delay) {
         return Some(fault);
     }
-    lacks(rows, Column::Weight)
+    column_fault(rows, Column::Weight)
 }
 
 /// A route type, and none for `*`.

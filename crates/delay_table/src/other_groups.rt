@@ -98,11 +98,11 @@ impl Model for OtherGroups {
 
     ghost Value = { List Group };
 
-    ghost use Rattle.delay_table.specs.Numbered.{AreNumbered, groups_of};
+    ghost use Rattle.delay_table.specs.Numbered.{AreNumberedGroups, groups_of};
 
     ghost view = { groups_of };
 
-    ghost invariant = { AreNumbered };
+    ghost invariant = { AreNumberedGroups };
 }
 
 impl OtherGroups {

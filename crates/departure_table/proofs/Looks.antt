@@ -39,10 +39,10 @@ module _ (n : NetworkModel) (q : Query) (found : ScanResult MeanSpan) (solves : 
   none_ahead next none moment ahead tree safe = none tree (earlier tree (next - 1) (moment - 1) (omega arith) safe)
 
   module _ (x : ℕ) (choice : MeanSpan × Leg) (is : choice_of found here x ≡ Some choice) where
-    abbrev chosen_kids : Kids
-    chosen_kids = kids_after (unfold_after n q.target.0 (by_place n (leg_choice found)) (count n - 1) choice.1) (arr_of n choice.1.exit.0) (outcomes_of n choice.1)
+    abbrev chosen_children : Kids
+    chosen_children = kids_after (unfold_after n q.target.0 (by_place n (leg_choice found)) (count n - 1) choice.1) (arr_of n choice.1.exit.0) (outcomes_of n choice.1)
 
-    begins : chosen_at n q found here x ≡ Ride choice.1.enter.0 choice.1.exit.0 chosen_kids
+    begins : chosen_at n q found here x ≡ Ride choice.1.enter.0 choice.1.exit.0 chosen_children
     begins =
         let differ = solves.differ in
         let test : (here == q.target.0) ≡ false = grind (arith, nat_tests) in
@@ -53,10 +53,10 @@ module _ (n : NetworkModel) (q : Query) (found : ScanResult MeanSpan) (solves : 
       abbrev enter : ℕ
       enter = choice.1.enter.0
 
-      safe_ride : IsSafeAt n q here x (Ride enter choice.1.exit.0 chosen_kids)
+      safe_ride : IsSafeAt n q here x (Ride enter choice.1.exit.0 chosen_children)
       safe_ride = subst (λ (t : Tree). IsSafeAt n q here x t) begins answer.safe
 
-      covers_ride : mean_scoring.covers choice.0 (Ride enter choice.1.exit.0 chosen_kids)
+      covers_ride : mean_scoring.covers choice.0 (Ride enter choice.1.exit.0 chosen_children)
       covers_ride = subst (λ (t : Tree). mean_scoring.covers choice.0 t) begins answer.covers_chosen
 
       pub looks_ahead : IsValid n → (row : DepartureRow) → row.leg ≡ choice.1 → row.bounds ≡ choice.0.0 → row.by.0 ≡ dep_of n enter
@@ -65,8 +65,8 @@ module _ (n : NetworkModel) (q : Query) (found : ScanResult MeanSpan) (solves : 
       looks_ahead valid row leg bounds by =
           let one = second enter safe_ride.2.seconds safe_ride.1.enter safe_ride.2.way in
           let v = valid.connections enter safe_ride.1.enter in
-          let tree = Ride enter choice.1.exit.0 chosen_kids in
-          let begin : BeginsWith row.leg tree = rw leg (chosen_kids, refl) in
+          let tree = Ride enter choice.1.exit.0 chosen_children in
+          let begin : BeginsWith row.leg tree = rw leg (chosen_children, refl) in
           let same : IsLeg n row.leg.enter.0 row.leg.exit.0 = rw leg safe_ride.1 in (
             omega (arith, one, safe_ride.2.in_time, by),
             omega (arith, v.forward, v.early, by),
@@ -76,7 +76,7 @@ module _ (n : NetworkModel) (q : Query) (found : ScanResult MeanSpan) (solves : 
               least = λ other safe. rw bounds (answer.below_safe other (earlier other x (moment - 1) (omega arith) safe)).1;
               covers_one = (
                 tree,
-                until enter choice.1.exit.0 chosen_kids x (moment - 1) (omega (arith, ahead, within, by)) safe_ride,
+                until enter choice.1.exit.0 chosen_children x (moment - 1) (omega (arith, ahead, within, by)) safe_ride,
                 begin,
                 rw bounds covers_ride.0,
                 rw bounds covers_ride.1,

@@ -12,7 +12,7 @@ use Rattle.csv_rows.specs.First.{first_below}
 use Rattle.csv_rows.specs.Names.{name_in}
 use Rattle.csv_rows.specs.Tables.{row_count, index_of, field_at, field}
 use Rattle.feed_lists.specs.declared.routes.RouteColumns.{RouteColumns}
-use Rattle.csv_rows.specs.RowFaults.{first_lack, repeated_id}
+use Rattle.csv_rows.specs.RowFaults.{first_missing, repeated_id}
 use Rattle.csv_rows.specs.Lists.{list_below}
 
 -- a route by its id and its type
@@ -56,6 +56,6 @@ route_types t = list_below (λ i. (route_or_none (route_at t i)).kind) (row_coun
 -- the first fault of the routes
 unfoldable pub routes_fault : List (List (List ℕ)) → Option FeedFault
 routes_fault t =
-    option_or (first_lack Routes t (RouteId ∷ RouteType ∷ []))
+    option_or (first_missing Routes t (RouteId ∷ RouteType ∷ []))
     (option_or (first_below (bad_route t) (row_count t))
     (first_below (repeated_id Routes (field t RouteId)) (row_count t)))

@@ -11,7 +11,7 @@ use Rattle.csv_rows.specs.First.{first_below}
 use Rattle.csv_rows.specs.Names.{name_in}
 use Rattle.csv_rows.specs.Tables.{row_count, number_in, index_of, field_at, field}
 use Rattle.feed_lists.specs.declared.stops.StopColumns.{StopColumns}
-use Rattle.csv_rows.specs.RowFaults.{first_lack, repeated_id}
+use Rattle.csv_rows.specs.RowFaults.{first_missing, repeated_id}
 use Rattle.feed_lists.specs.StopForms.{is_stop_in, parent_in}
 use Rattle.csv_rows.specs.Lists.{list_below}
 
@@ -77,7 +77,7 @@ stop_places t = list_below (λ i. place_from (stop_ids t) (parent_of t i) i) (ro
 -- the first fault of the stops
 unfoldable pub stops_fault : List (List (List ℕ)) → Option FeedFault
 stops_fault t =
-    option_or (first_lack Stops t (StopId ∷ []))
+    option_or (first_missing Stops t (StopId ∷ []))
     (option_or (first_below (bad_stop t) (row_count t))
     (option_or (first_below (repeated_id Stops (field t StopId)) (row_count t))
     (first_below (unknown_parent t) (row_count t))))

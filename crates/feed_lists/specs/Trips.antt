@@ -11,7 +11,7 @@ use Rattle.csv_rows.specs.First.{first_below}
 use Rattle.csv_rows.specs.Names.{name_in}
 use Rattle.csv_rows.specs.Tables.{row_count, number_in, index_of, field_at, field}
 use Rattle.feed_lists.specs.declared.trips.TripColumns.{TripColumns}
-use Rattle.csv_rows.specs.RowFaults.{first_lack, repeated_id}
+use Rattle.csv_rows.specs.RowFaults.{first_missing, repeated_id}
 use Rattle.csv_rows.specs.Lists.{list_below}
 
 -- a trip by the number of its route, its service and its id
@@ -65,6 +65,6 @@ trip_routes routes t = list_below (λ i. (trip_or_none (trip_at routes t i)).rou
 -- the first fault of the trips
 unfoldable pub trips_fault : List (List ℕ) → List (List (List ℕ)) → Option FeedFault
 trips_fault routes t =
-    option_or (first_lack Trips t (RouteId ∷ ServiceId ∷ TripId ∷ []))
+    option_or (first_missing Trips t (RouteId ∷ ServiceId ∷ TripId ∷ []))
     (option_or (first_below (bad_trip routes t) (row_count t))
     (first_below (repeated_id Trips (field t TripId)) (row_count t)))

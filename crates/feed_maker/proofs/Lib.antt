@@ -2,4 +2,4 @@ pub mod JoinedLemmas
 pub mod DigitLemmas
 pub mod FolderLemmas
 pub mod StopTimeLemmas
-pub mod HandLemmas
+pub mod OpenLemmas

@@ -1,8 +1,8 @@
 -- The meaning of the files of a made timetable.
 use Rattle.std.specs.Prelude.{ℕ, List, ◌∷◌, Option, Some, codes, if◌then◌else◌}
 use Rattle.file_ports.specs.Ports.{FileMap, FilesState}
-use Rattle.file_ports.specs.Steady.{folder_of as others_on, hand_of as hand_on, left_of as left_on}
-use Rattle.feed_maker.specs.StopTimes.{left_of as times_left, lines_of}
+use Rattle.file_ports.specs.Steady.{folder_of as others_on, open_of as open_on, remaining_of as remaining_on}
+use Rattle.feed_maker.specs.StopTimes.{remaining_of as times_remaining, lines_of}
 use Rattle.feed_maker.specs.MadeTables.{stop_times_text}
 use Rattle.feed_maker.specs.declared.files.MadeFiles.{MadeFiles}
 
@@ -11,13 +11,13 @@ abbrev pub folder_of : MadeFiles → FileMap
 folder_of f = (codes "feed/stop_times.txt", stop_times_text (lines_of f.times)) ∷ others_on f.others
 
 -- the path of the open file
-abbrev pub hand_of : MadeFiles → Option (List ℕ)
-hand_of f = if f.in_times then Some (codes "feed/stop_times.txt") else hand_on f.others
+abbrev pub open_of : MadeFiles → Option (List ℕ)
+open_of f = if f.in_times then Some (codes "feed/stop_times.txt") else open_on f.others
 
 -- what is unread of it
-abbrev pub left_of : MadeFiles → Option (List ℕ)
-left_of f = if f.in_times then Some (times_left f.times) else left_on f.others
+abbrev pub remaining_of : MadeFiles → Option (List ℕ)
+remaining_of f = if f.in_times then Some (times_remaining f.times) else remaining_on f.others
 
 -- all of it
 abbrev pub state_of : MadeFiles → FilesState
-state_of f = record { files = Some (folder_of f); in_hand = hand_of f; left = left_of f; faults = 0; faults_of = λ _. 0 }
+state_of f = record { files = Some (folder_of f); in_hand = open_of f; left = remaining_of f; faults = 0; faults_of = λ _. 0 }

@@ -13,5 +13,5 @@ abbrev pub lines_of : StopTimes → ℕ
 lines_of t = t.lines.count
 
 -- what is unread: the rest of what was made, and the lines that come
-abbrev pub left_of : StopTimes → List ℕ
-left_of t = drop t.place t.text.items ++ rows_from t.next (t.lines.count - t.next)
+abbrev pub remaining_of : StopTimes → List ℕ
+remaining_of t = drop t.offset t.text.items ++ rows_from t.next (t.lines.count - t.next)

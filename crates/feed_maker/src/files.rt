@@ -19,7 +19,7 @@ pub struct MadeFiles {
 
 impl MadeFiles {
     ghost use Rattle.std.specs.Prelude.{None, IfOk};
-    ghost use Rattle.feed_maker.specs.Files.{folder_of, hand_of};
+    ghost use Rattle.feed_maker.specs.Files.{folder_of, open_of};
     ghost use Rattle.feed_maker.specs.Made.{made, SameFolder};
 
     /// The files that `make` gives, none of them open. `NoMemory` comes only if there is no memory, and no read of
@@ -28,7 +28,7 @@ impl MadeFiles {
         requires low { 10 ≤ size }
         requires high { size ≤ 400 }
         ensures files { IfOk result (λ files. SameFolder (made size) (folder_of files)) }
-        ensures hand { IfOk result (λ files. hand_of files ≡ None) }
+        ensures closed { IfOk result (λ files. open_of files ≡ None) }
     {
         let lines = Lines { count: size };
         let others = other_files(alloc, lines)?;

@@ -5,7 +5,7 @@
 #![tactic(auto)]
 
 ghost use Rattle.std.specs.Prelude.{◌≡◌, ◌≤◌, None, IfOk};
-ghost use Rattle.file_ports.specs.Steady.{folder_of, hand_of, piece_of};
+ghost use Rattle.file_ports.specs.Steady.{folder_of, open_of, piece_of};
 ghost use Rattle.feed_maker.specs.Made.{made, other_files, SameFolder};
 
 mod files;
@@ -30,7 +30,7 @@ const STOP_TIMES: &str = "feed/stop_times.txt";
 fn other_files(alloc: Global, lines: Lines) -> Result<SteadyFiles, NoMemory>
     ensures files { IfOk result (λ files. SameFolder (other_files lines.count) (folder_of files)) }
     ensures piece { IfOk result (λ files. piece_of files ≡ 65536) }
-    ensures hand { IfOk result (λ files. hand_of files ≡ None) }
+    ensures closed { IfOk result (λ files. open_of files ≡ None) }
 {
     let mut files = SteadyFiles::new(alloc, PIECE);
     let stops = tables::stops(alloc, lines.count)?;
@@ -58,7 +58,7 @@ pub fn make(alloc: Global, size: u32) -> Result<SteadyFiles, NoMemory>
     requires high { size ≤ 400 }
     ensures files { IfOk result (λ files. SameFolder (made size) (folder_of files)) }
     ensures piece { IfOk result (λ files. piece_of files ≡ 65536) }
-    ensures hand { IfOk result (λ files. hand_of files ≡ None) }
+    ensures closed { IfOk result (λ files. open_of files ≡ None) }
 {
     let lines = Lines { count: size };
     let mut files = other_files(alloc, lines)?;

@@ -156,15 +156,15 @@ pub(crate) struct StopTimes {
     lines: Lines,
     next: u32,
     text: Vec<u8>,
-    place: usize,
+    offset: usize,
     ghost inside: { next ≤ lines.count },
     ghost room: { 201600 ≤ vec_capacity text },
-    ghost within: { place ≤ vec_len text },
+    ghost within: { offset ≤ vec_len text },
 }
 
 impl StopTimes {
     ghost use Rattle.std.specs.Prelude.{◌≡◌, ◌+◌, ◌<◌, ◌≤◌, ◌++◌, min, length, take, [], IfOk};
-    ghost use Rattle.feed_maker.specs.StopTimes.{left_of, lines_of};
+    ghost use Rattle.feed_maker.specs.StopTimes.{remaining_of, lines_of};
     ghost use Rattle.feed_maker.specs.MadeTables.{stop_times_text};
 
     /// The stop times of `lines` lines, none of them read.
@@ -176,7 +176,7 @@ impl StopTimes {
             lines,
             next: 0,
             text,
-            place: 0,
+            offset: 0,
         })
     }
 
@@ -184,10 +184,10 @@ impl StopTimes {
     #[tactic(auto, unfolding(crate::specs::MadeTables::stop_times_text))]
     pub(crate) fn rewind(&mut self)
         ensures lines { lines_of self.new ≡ lines_of self.old }
-        ensures left { left_of self.new ≡ stop_times_text (lines_of self.old) }
+        ensures remaining { remaining_of self.new ≡ stop_times_text (lines_of self.old) }
     {
         self.next = 0;
-        self.place = 0;
+        self.offset = 0;
         self.text.clear();
         self.text.extend_from_slice(HEADER.as_bytes()).unwrap();
     }
@@ -195,13 +195,13 @@ impl StopTimes {
     /// Makes the rows of the next line, if all that was made is read.
     fn fill(&mut self)
         ensures lines { lines_of self.new ≡ lines_of self.old }
-        ensures left { left_of self.new ≡ left_of self.old }
-        ensures some { self.new.place ≡ vec_len self.new.text → left_of self.new ≡ [] }
+        ensures remaining { remaining_of self.new ≡ remaining_of self.old }
+        ensures some { self.new.offset ≡ vec_len self.new.text → remaining_of self.new ≡ [] }
     {
-        if self.place < self.text.len() || self.next == self.lines.count {
+        if self.offset < self.text.len() || self.next == self.lines.count {
             return;
         }
-        self.place = 0;
+        self.offset = 0;
         self.text.clear();
         add_line(&mut self.text, Line { number: self.next });
         self.next += 1;
@@ -212,12 +212,12 @@ impl StopTimes {
         requires { 0 < length buffer.old }
         ensures lines { lines_of self.new ≡ lines_of self.old }
         ensures bound { result ≤ length buffer.old }
-        ensures bytes { left_of self.old ≡ take result buffer.new ++ left_of self.new }
-        ensures end { result ≡ 0 → left_of self.new ≡ [] }
+        ensures bytes { remaining_of self.old ≡ take result buffer.new ++ remaining_of self.new }
+        ensures end { result ≡ 0 → remaining_of self.new ≡ [] }
     {
         self.fill();
-        let count = copy_front(buffer, &self.text[self.place..]);
-        self.place += count;
+        let count = copy_front(buffer, &self.text[self.offset..]);
+        self.offset += count;
         count
     }
 }

@@ -38,15 +38,15 @@ module _ {T : Type 0} where
       ∙ ap (λ (e : Named T). Some e.value) here
 
   -- what a search by path gives
-  pub place_gives_none : (es : List (Named T)) (q : List ℕ) → position (at_path q) es ≡ None → value_at es q ≡ None
-  place_gives_none [] q h = refl
-  place_gives_none (e ∷ es) q h =
+  pub position_gives_none : (es : List (Named T)) (q : List ℕ) → position (at_path q) es ≡ None → value_at es q ≡ None
+  position_gives_none [] q h = refl
+  position_gives_none (e ∷ es) q h =
       found_nowhere (λ (es : List (Named T)). value_at es q) (at_path q) (λ e. Some e.value) None refl (λ _ _. refl) (e ∷ es) e (λ k l. none_at (at_path q)
       (e ∷ es) h k e l)
 
-  pub place_gives : (es : List (Named T)) (q : List ℕ) (i : ℕ) (d : Named T) → position (at_path q) es ≡ Some i
+  pub position_gives : (es : List (Named T)) (q : List ℕ) (i : ℕ) (d : Named T) → position (at_path q) es ≡ Some i
       → (i < length es) × (value_at es q ≡ Some (get_or es i d).value)
-  place_gives es q i d h =
+  position_gives es q i d h =
       let s = position-Some (at_path q) es i d h in
       (s.0, found_at (λ (es : List (Named T)). value_at es q) (at_path q) (λ e. Some e.value) None refl (λ _ _. refl) es i d s.0 s.2 s.1)
 
@@ -85,27 +85,27 @@ pub searched : {T : Type 0} (es lent : List (Named T)) (q : List ℕ) (r w : Opt
 searched es lent q r w a b k = ap (λ z. position (at_path q) z) (sym b) ∙ sym a ∙ k
 
 -- the first entry with this path is at i
-pub record Stands {T : Type 0} (es : List (Named T)) (q : List ℕ) (i : ℕ) (e : Named T) : Type 0 where
-  pub place : position (at_path q) es ≡ Some i
+pub record IsEntryAt {T : Type 0} (es : List (Named T)) (q : List ℕ) (i : ℕ) (e : Named T) : Type 0 where
+  pub position_is : position (at_path q) es ≡ Some i
   pub item : e ≡ get_or es i e
 
-pub stands : {T : Type 0} (es lent : List (Named T)) (q : List ℕ) (i : ℕ) (e : Named T) (r : Option ℕ) → r ≡ position (at_path q) lent → lent ≡ es
-    → r ≡ Some i → e ≡ get_or es i e → Stands es q i e
-stands es lent q i e r a b k h = record { place = searched es lent q r (Some i) a b k; item = h }
+pub entry_at : {T : Type 0} (es lent : List (Named T)) (q : List ℕ) (i : ℕ) (e : Named T) (r : Option ℕ) → r ≡ position (at_path q) lent → lent ≡ es
+    → r ≡ Some i → e ≡ get_or es i e → IsEntryAt es q i e
+entry_at es lent q i e r a b k h = record { position_is = searched es lent q r (Some i) a b k; item = h }
 
-pub found : {T : Type 0} (es : List (Named T)) (q : List ℕ) (i : ℕ) (e : Named T) → Stands es q i e → value_at es q ≡ Some e.value
-found es q i e s = (place_gives es q i e s.place).1 ∙ ap (λ (x : Named _). Some x.value) (sym s.item)
+pub found : {T : Type 0} (es : List (Named T)) (q : List ℕ) (i : ℕ) (e : Named T) → IsEntryAt es q i e → value_at es q ≡ Some e.value
+found es q i e s = (position_gives es q i e s.position_is).1 ∙ ap (λ (x : Named _). Some x.value) (sym s.item)
 
-pub path_is : {T : Type 0} (es : List (Named T)) (q : List ℕ) (i : ℕ) (e : Named T) → Stands es q i e → string_bytes e.path ≡ q
+pub path_is : {T : Type 0} (es : List (Named T)) (q : List ℕ) (i : ℕ) (e : Named T) → IsEntryAt es q i e → string_bytes e.path ≡ q
 path_is es q i e s =
-    let t : at_path q (get_or es i e) ≡ true = (position-Some (at_path q) es i e s.place).1 in
+    let t : at_path q (get_or es i e) ≡ true = (position-Some (at_path q) es i e s.position_is).1 in
     let t' : at_path q e ≡ true = ap (at_path q) s.item ∙ t in
     (bytes_eq-Decides (string_bytes e.path) q).0 t'
 
 -- a value put in the place of the one at this path
-pub put_over : {T : Type 0} (es : List (Named T)) (q p : List ℕ) (i : ℕ) (v : T) (e : Named T) → Stands es q i e
+pub put_over : {T : Type 0} (es : List (Named T)) (q p : List ℕ) (i : ℕ) (v : T) (e : Named T) → IsEntryAt es q i e
     → value_at (set es i (record { path = e.path; value = v })) p ≡ if◌then◌else◌ (bytes_eq q p) (Some v) (value_at es p)
-put_over es q p i v e s = set_gives es q p i (record { path = e.path; value = v }) s.place (path_is es q i e s)
+put_over es q p i v e s = set_gives es q p i (record { path = e.path; value = v }) s.position_is (path_is es q i e s)
 
 -- or at the end
 pub put_last : {T : Type 0} (es lent new : List (Named T)) (q p : List ℕ) (w : Named T) (r : Option ℕ) → r ≡ position (at_path q) lent → lent ≡ es → r ≡ None

@@ -8,16 +8,16 @@ abbrev pub folder_of : SteadyFiles → FileMap
 folder_of f = map (λ e. (string_bytes e.path, e.value.items)) f.held.items
 
 -- the path of the open file
-abbrev pub hand_of : SteadyFiles → Option (List ℕ)
-hand_of f = option_and_then (λ i. option_map (λ e. string_bytes e.path) (slice_get f.held.items i)) f.hand
+abbrev pub open_of : SteadyFiles → Option (List ℕ)
+open_of f = option_and_then (λ i. option_map (λ e. string_bytes e.path) (slice_get f.held.items i)) f.current
 
 -- what is unread of it
-abbrev pub left_of : SteadyFiles → Option (List ℕ)
-left_of f = option_and_then (λ i. option_map (λ e. drop f.offset e.value.items) (slice_get f.held.items i)) f.hand
+abbrev pub remaining_of : SteadyFiles → Option (List ℕ)
+remaining_of f = option_and_then (λ i. option_map (λ e. drop f.offset e.value.items) (slice_get f.held.items i)) f.current
 
 -- all of it
 abbrev pub state_of : SteadyFiles → FilesState
-state_of f = record { files = Some (folder_of f); in_hand = hand_of f; left = left_of f; faults = 0; faults_of = λ _. 0 }
+state_of f = record { files = Some (folder_of f); in_hand = open_of f; left = remaining_of f; faults = 0; faults_of = λ _. 0 }
 
 -- the most that a read gives
 abbrev pub piece_of : SteadyFiles → ℕ
@@ -30,5 +30,5 @@ PutsFile old new path bytes = (p : List ℕ) → file_at new p ≡ if bytes_eq p
 -- the same files, and the same one open, as far read
 pub record SameFiles (old new : SteadyFiles) : Type 0 where
   pub files : folder_of new ≡ folder_of old
-  pub hand : hand_of new ≡ hand_of old
-  pub left : left_of new ≡ left_of old
+  pub current : open_of new ≡ open_of old
+  pub remaining : remaining_of new ≡ remaining_of old

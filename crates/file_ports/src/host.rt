@@ -21,7 +21,7 @@ pub struct HostFiles<R: rt::Files> {
 impl<R: rt::Files + RandomSource> HostFiles<R> {
     /// No file is open, and nothing has failed. The key of its hashes is drawn anew in each call. It takes no memory.
     pub fn new(rt: R) -> HostFiles<R>
-        ensures hand { (⟦<HostFiles<R> as Files>⟧.state result).in_hand ≡ None }
+        ensures closed { (⟦<HostFiles<R> as Files>⟧.state result).in_hand ≡ None }
         ensures faults { (⟦<HostFiles<R> as Files>⟧.state result).faults ≡ 0 }
     {
         let key = HashKey::drawn(&rt);

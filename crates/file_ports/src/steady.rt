@@ -12,27 +12,27 @@ pub struct SteadyFiles {
     alloc: Global,
     piece: usize,
     held: Vec<Named<Vec<u8>>>,
-    hand: Option<usize>,
+    current: Option<usize>,
     offset: usize,
     ghost some: { 0 < piece },
 }
 
 impl SteadyFiles {
     ghost use Rattle.std.specs.Prelude.{[], None, Some, IsSome};
-    ghost use Rattle.file_ports.specs.Steady.{folder_of, hand_of, piece_of, PutsFile, SameFiles};
+    ghost use Rattle.file_ports.specs.Steady.{folder_of, open_of, piece_of, PutsFile, SameFiles};
 
     /// No files. A read gives at most `piece` bytes. It takes no memory.
     pub fn new(alloc: Global, piece: usize) -> SteadyFiles
         requires { 0 < piece }
         ensures files { folder_of result ≡ [] }
         ensures piece { piece_of result ≡ piece }
-        ensures hand { hand_of result ≡ None }
+        ensures closed { open_of result ≡ None }
     {
         SteadyFiles {
             alloc,
             piece,
             held: Vec::new(alloc),
-            hand: None,
+            current: None,
             offset: 0,
         }
     }
@@ -40,7 +40,7 @@ impl SteadyFiles {
     /// The path now holds these bytes, and no file is open. Without memory nothing changes.
     pub fn add(&mut self, path: &str, bytes: &[u8]) -> Result<(), NoMemory>
         ensures ok { OnOk result (PutsFile (folder_of self.old) (folder_of self.new) path.now bytes.now) }
-        ensures hand { OnOk result (hand_of self.new ≡ None) }
+        ensures closed { OnOk result (open_of self.new ≡ None) }
         ensures err { OnErr result (SameFiles self.old self.new) }
         ensures piece { piece_of self.new ≡ piece_of self.old }
     {
@@ -53,18 +53,18 @@ impl SteadyFiles {
     /// No file is open any more.
     pub fn close(&mut self)
         ensures files { folder_of self.new ≡ folder_of self.old }
-        ensures hand { hand_of self.new ≡ None }
+        ensures closed { open_of self.new ≡ None }
         ensures piece { piece_of self.new ≡ piece_of self.old }
     {
-        self.hand = None;
+        self.current = None;
     }
 
     /// The path of the open file.
     pub fn path_in_hand(&self) -> &str
-        requires { IsSome (hand_of self.now) }
-        ensures { hand_of self.now ≡ Some result.now }
+        requires { IsSome (open_of self.now) }
+        ensures { open_of self.now ≡ Some result.now }
     {
-        let Some(index) = self.hand else {
+        let Some(index) = self.current else {
             unreachable!()
         };
         self.held[index].path.as_str()
@@ -74,7 +74,7 @@ impl SteadyFiles {
 impl Files for SteadyFiles {
     ghost use Rattle.std.specs.Prelude.{IsSome, IfSome, IfOk, IsOk};
     ghost use Rattle.file_ports.specs.Counts.{OpensPath, ReadsOpenFile};
-    ghost use Rattle.file_ports.specs.Steady.{left_of, state_of, piece_of};
+    ghost use Rattle.file_ports.specs.Steady.{remaining_of, state_of, piece_of};
 
     ghost state = { state_of };
 
@@ -84,8 +84,8 @@ impl Files for SteadyFiles {
         ensures piece { piece_of self.new ≡ piece_of self.old }
     {
         self.offset = 0;
-        self.hand = index_of(&self.held, path);
-        match self.hand {
+        self.current = index_of(&self.held, path);
+        match self.current {
             Some(_) => Ok(Presence::Present),
             None => Ok(Presence::Absent),
         }
@@ -96,11 +96,11 @@ impl Files for SteadyFiles {
         requires room { 0 < length buffer.old }
         ensures reads { ReadsOpenFile (state_of self.old) (state_of self.new) buffer.new result }
         ensures never_fails { IsOk result }
-        ensures count { IfOk result (λ n. IfSome (left_of self.old) (λ left.
-            n ≡ min (min (piece_of self.old) (length buffer.old)) (length left))) }
+        ensures count { IfOk result (λ n. IfSome (remaining_of self.old) (λ rest.
+            n ≡ min (min (piece_of self.old) (length buffer.old)) (length rest))) }
         ensures piece { piece_of self.new ≡ piece_of self.old }
     {
-        let Some(index) = self.hand else {
+        let Some(index) = self.current else {
             unreachable!()
         };
         let file = &self.held[index];

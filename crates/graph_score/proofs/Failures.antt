@@ -72,7 +72,7 @@ first_both a f F G own other = by_test (is_sooner f a) refl
 
 module _ (n : NetworkModel) (q : Query) where
   -- with what comes of one tree more
-  with_tree : (first : Option Failure) (kid : Outlook) (tree : Tree) (F : May) → IsFirst first F → IsOutlook n q kid tree → IsFirst (with_outlook first kid) (λ p x. F p x ⊎ Fails q tree p x)
+  with_tree : (first : Option Failure) (child : Outlook) (tree : Tree) (F : May) → IsFirst first F → IsOutlook n q child tree → IsFirst (with_outlook first child) (λ p x. F p x ⊎ Fails q tree p x)
   with_tree first (Safe span) tree F is own = reported_as first F (λ p x. F p x ⊎ Fails q tree p x) (λ p x may. inl may) (λ p x may. elim may [
     | inl here ↦ here
     | inr there ↦ absurd (own.0 p x there)

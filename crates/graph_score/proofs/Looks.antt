@@ -108,10 +108,10 @@ module _ (n : NetworkModel) (valid : IsValid n) (q : Query) (tables : List Place
             let departs = ap (λ (e : Departure). e.dep.0) is in
             over rides enough away next picks row.0.exit after (later_taken exits rest taken exit (departure_of n next.exit) whole.rising split known (omega (arith, departs, after)))
 
-    kids_reported : (outlooks : List Outlook) (p scheduled : ℕ) (next : ℕ → Tree) → ((x : ℕ) → scheduled ≤ x → IsOutlook n q (outlook_at tables q outlooks p x) (next x)) → (row : List Outcome)
+    children_reported : (outlooks : List Outlook) (p scheduled : ℕ) (next : ℕ → Tree) → ((x : ℕ) → scheduled ≤ x → IsOutlook n q (outlook_at tables q outlooks p x) (next x)) → (row : List Outcome)
         → EachKid (IsOutlook n q) row (outlooks_after tables q outlooks p scheduled row) (kids_after next scheduled row)
-    kids_reported outlooks p scheduled next each [] = tt
-    kids_reported outlooks p scheduled next each (o ∷ row) = (refl, each (scheduled + o.delay) (omega arith), kids_reported outlooks p scheduled next each row)
+    children_reported outlooks p scheduled next each [] = tt
+    children_reported outlooks p scheduled next each (o ∷ row) = (refl, each (scheduled + o.delay) (omega arith), children_reported outlooks p scheduled next each row)
 
     -- what comes of the next exit
     ride_reported : (outlooks : List Outlook) (rest taken : List Departure) (exit : Departure) → (rest ++ exit ∷ []) ++ taken ≡ exits → exit ≡ departure_of n exit.id → exit.id.0 < count n
@@ -119,7 +119,7 @@ module _ (n : NetworkModel) (valid : IsValid n) (q : Query) (tables : List Place
         → (leg : Leg) (rides : ℕ) → leg.exit ≡ exit.id → later n exit.id.0 ≤ rides → IsOutlook n q (outlook_of n tables q outlooks exit.id.0) (ride_by_rows n q tables rides leg)
     ride_reported outlooks rest taken exit split is there right leg rides of_exit enough =
         let late = ap (λ (id : ConnectionId). arr_of n id.0) of_exit in
-        let each = kids_reported outlooks (end_of n leg) (arr_of n leg.exit.0) (next_after n q tables fit rides leg)
+        let each = children_reported outlooks (end_of n leg) (arr_of n leg.exit.0) (next_after n q tables fit rides leg)
         (λ x from. arrival_reported outlooks rest taken exit split is there right leg rides x of_exit enough (omega (arith, late, from))) (outcomes_of n leg) in
         let own = blend_reported n q leg.enter.0 leg.exit.0 (outlooks_after tables q outlooks (end_of n leg) (arr_of n leg.exit.0) (outcomes_of n leg))
         (kids_after (next_after n q tables fit rides leg) (arr_of n leg.exit.0) (outcomes_of n leg)) each in

@@ -32,8 +32,8 @@ module _ (n : NetworkModel) (valid : IsValid n) (target : ℕ) (by : Option ℕ)
       EachKid Below row (map (λ s. s.lo) (spans_of n kids)) kids × EachKid Covers row (map (λ s. s.hi) (spans_of n kids)) kids
       × (length row ≡ length (spans_of n kids)) × All (λ s. s.hi - s.lo ≤ most) (spans_of n kids)
 
-  by_kids : (i j : ℕ) (kids : Kids) → j < count n → AreSpanned (outcomes n j) kids (height_of kids) → IsSpanned (Ride i j kids)
-  by_kids i j kids there (below, covers, same, gaps) = (
+  by_children : (i j : ℕ) (kids : Kids) → j < count n → AreSpanned (outcomes n j) kids (height_of kids) → IsSpanned (Ride i j kids)
+  by_children i j kids there (below, covers, same, gaps) = (
     (
       mean_below nanos_per_second arrival (outcomes n j) (map (λ s. s.lo) (spans_of n kids)) kids i j below,
       mean_covers nanos_per_second arrival (outcomes n j) (map (λ s. s.hi) (spans_of n kids)) kids i j covers,
@@ -44,23 +44,23 @@ module _ (n : NetworkModel) (valid : IsValid n) (target : ℕ) (by : Option ℕ)
   mutual
     spanned : (tree : Tree) (p x : ℕ) → IsSafe n target by tree p x → IsSpanned tree
     spanned (Done a) p x safe = ((exact_below a, exact_covers a), omega arith)
-    spanned (Ride i j kids) p x safe = by_kids i j kids safe.1.exit (kids_spanned kids (outcomes n j) (to_of n j) (arr_of n j) (height_of kids)
+    spanned (Ride i j kids) p x safe = by_children i j kids safe.1.exit (children_spanned kids (outcomes n j) (to_of n j) (arr_of n j) (height_of kids)
         (omega arith) safe.3)
     spanned (Stuck place moment) p x safe = absurd safe
 
-    kids_spanned : (kids : Kids) (row : List Outcome) (p scheduled most : ℕ) → height_of kids ≤ most → AreSafe n target by kids row p scheduled
+    children_spanned : (kids : Kids) (row : List Outcome) (p scheduled most : ℕ) → height_of kids ≤ most → AreSafe n target by kids row p scheduled
         → AreSpanned row kids most
-    kids_spanned Nil [] p scheduled most low safe = (tt, tt, refl, All-nil (λ (s : Interval). s.hi - s.lo ≤ most))
-    kids_spanned (Kid w tree kids) (o ∷ row) p scheduled most low safe =
+    children_spanned Nil [] p scheduled most low safe = (tt, tt, refl, All-nil (λ (s : Interval). s.hi - s.lo ≤ most))
+    children_spanned (Kid w tree kids) (o ∷ row) p scheduled most low safe =
         let (within, gap) = spanned tree p (scheduled + o.delay) safe.1 in
-        let (below, covers, same, gaps) = kids_spanned kids row p scheduled most (omega (arith, low)) safe.2 in (
+        let (below, covers, same, gaps) = children_spanned kids row p scheduled most (omega (arith, low)) safe.2 in (
           (safe.0, within.0, below),
           (safe.0, within.1, covers),
           ap suc same,
           All-cons (λ (s : Interval). s.hi - s.lo ≤ most) (span_of n tree)
               (spans_of n kids) (omega (arith, gap, low)) gaps,
         )
-    kids_spanned _ _ p scheduled most low safe = absurd safe
+    children_spanned _ _ p scheduled most low safe = absurd safe
 
   pub ride_spanned : (i j : ℕ) (kids : Kids) → j < count n → AreSafe n target by kids (outcomes n j) (to_of n j) (arr_of n j) → IsSpanned (Ride i j kids)
-  ride_spanned i j kids there safe = by_kids i j kids there (kids_spanned kids (outcomes n j) (to_of n j) (arr_of n j) (height_of kids) (omega arith) safe)
+  ride_spanned i j kids there safe = by_children i j kids there (children_spanned kids (outcomes n j) (to_of n j) (arr_of n j) (height_of kids) (omega arith) safe)

@@ -81,11 +81,11 @@ module _ (n : NetworkModel) (q : Query) (tables : List PlaceTable) (fit : AreFit
   in_time : (p x : ℕ) → p ≡ q.target.0 → Never (Done x) → SafeHere (Done x) p x
   in_time p x there never = grind (arith, cases_lt)
 
-  kids_safe : (next : ℕ → Tree) (p scheduled : ℕ) → ((x : ℕ) → Never (next x) → SafeHere (next x) p x) → (row : List Outcome)
+  children_safe : (next : ℕ → Tree) (p scheduled : ℕ) → ((x : ℕ) → Never (next x) → SafeHere (next x) p x) → (row : List Outcome)
       → ((r y : ℕ) → FailsIn q (kids_after next scheduled row) r y → ⊥) → AreSafe n q.target.0 (Some q.deadline.0) (kids_after next scheduled row) row p scheduled
-  kids_safe next p scheduled each [] never = tt
-  kids_safe next p scheduled each (o ∷ row) never =
-      (refl, each (scheduled + o.delay) (λ r y fails. never r y (inl fails)), kids_safe next p scheduled each row (λ r y fails. never r y (inr fails)))
+  children_safe next p scheduled each [] never = tt
+  children_safe next p scheduled each (o ∷ row) never =
+      (refl, each (scheduled + o.delay) (λ r y fails. never r y (inl fails)), children_safe next p scheduled each row (λ r y fails. never r y (inr fails)))
 
   -- what holds of who has arrived, of who is stuck and of each ride, since it does of what is done after it, holds of what is done after each leg
   after_each : (P : ℕ → Leg → ℕ → Tree → Type 0) → ((rides : ℕ) (leg : Leg) (x : ℕ) → end_of n leg ≡ q.target.0 → P rides leg x (Done x))
@@ -114,19 +114,19 @@ module _ (n : NetworkModel) (q : Query) (tables : List PlaceTable) (fit : AreFit
       (λ rides leg x never. absurd (never (end_of n leg) x (refl, refl)))
       (λ rides leg x next away is onward never.
       let row = taken_row n tables fit (end_of n leg) x next is in
-      (away, row.0, row.1, kids_safe (next_after rides next) (end_of n next) (arr_of n next.exit.0) onward (outcomes_of n next) never))
+      (away, row.0, row.1, children_safe (next_after rides next) (end_of n next) (arr_of n next.exit.0) onward (outcomes_of n next) never))
 
   -- who cannot fail after the start leg is safe
   pub safe_ride : (rides : ℕ) (leg : Leg) → IsFitStart n q leg → Never (ride_by_rows n q tables rides leg) → IsSafeFor n q (ride_by_rows n q tables rides leg)
   safe_ride rides leg start never =
-      (start.differ, start.is_leg, (start.leaves, start.in_time), kids_safe (next_after rides leg) (end_of n leg) (arr_of n leg.exit.0) (safe_after rides leg) (outcomes_of n leg) never)
+      (start.differ, start.is_leg, (start.leaves, start.in_time), children_safe (next_after rides leg) (end_of n leg) (arr_of n leg.exit.0) (safe_after rides leg) (outcomes_of n leg) never)
 
-  height_kids : (next : ℕ → Tree) (most : ℕ) → ((x : ℕ) → height (next x) ≤ most) → (scheduled : ℕ) (row : List Outcome) → height_of (kids_after next scheduled row) ≤ most
-  height_kids next most each scheduled [] = omega arith
-  height_kids next most each scheduled (o ∷ row) = omega (arith, each (scheduled + o.delay), height_kids next most each scheduled row)
+  height_children : (next : ℕ → Tree) (most : ℕ) → ((x : ℕ) → height (next x) ≤ most) → (scheduled : ℕ) (row : List Outcome) → height_of (kids_after next scheduled row) ≤ most
+  height_children next most each scheduled [] = omega arith
+  height_children next most each scheduled (o ∷ row) = omega (arith, each (scheduled + o.delay), height_children next most each scheduled row)
 
   height_ride : (rides : ℕ) (leg : Leg) → ((x : ℕ) → height (next_after rides leg x) ≤ rides) → height (ride_by_rows n q tables rides leg) ≤ suc rides
-  height_ride rides leg each = let low = height_kids (next_after rides leg) rides each (arr_of n leg.exit.0) (outcomes_of n leg) in omega (arith, low)
+  height_ride rides leg each = let low = height_children (next_after rides leg) rides each (arr_of n leg.exit.0) (outcomes_of n leg) in omega (arith, low)
 
   -- as many rides are nested as may be at most
   height_after : (rides : ℕ) (leg : Leg) (x : ℕ) → height (next_after rides leg x) ≤ rides

@@ -42,7 +42,7 @@ with_outlook first (Failing f) = Some (sooner_failure first f)
 -- the first failure of these, or one before
 abbrev pub first_failure_of : Option Failure → List Outlook → Option Failure
 first_failure_of first [] = first
-first_failure_of first (kid ∷ kids) = first_failure_of (with_outlook first kid) kids
+first_failure_of first (child ∷ kids) = first_failure_of (with_outlook first child) kids
 
 -- the bounds of those that are safe
 abbrev pub spans_in : List Outlook → List Interval

@@ -20,7 +20,7 @@ use Rattle.graph_text.specs.declared.reader.LegNames.{LegNames}
 use Rattle.graph_text.specs.declared.reader.PlaceRow.{PlaceRow}
 use Rattle.graph_text.specs.declared.reader.HeadRow.{HeadRow}
 use Rattle.graph_text.specs.declared.reader.TableStart.{TableStart}
-use Rattle.graph_text.specs.Reading.{leg_names, names_in, leg_numbers, leg_row_in, leg_found, leg_between, agrees, is_limit, can_start, is_by_limit, start_in, row_in, place_numbers, place_row_in}
+use Rattle.graph_text.specs.Reading.{leg_names, names_in, leg_numbers, leg_row_in, leg_found, leg_between, agrees, equals_limit, can_start, is_by_limit, start_in, row_in, place_numbers, place_row_in}
 use Rattle.graph_text.specs.Reading.{table_in, are_in_order, head_numbers, head_row_in, head_of, head_in}
 use Rattle.graph_text.specs.Versions.{width_of}
 use Rattle.graph_text.specs.Asked.{IsHeadOf}
@@ -187,7 +187,7 @@ module _ (n : NetworkModel) (names : NameLists) (version : Version) (line : ℕ)
       subst (λ (w : GraphRow). (rises last w.by.0 ≡ true) × IsLegRow n names version (codes "leg") place w.by.0 w.leg r × IsFitRow n place w) same
       (up.0, reported.0, record { is_leg = reported.1; by = limit_is (limit_of n place found.0) by.0 })
     where
-      limit_is : (found : Option ℕ) {moment : ℕ} → is_limit found moment ≡ true → found ≡ Some moment
+      limit_is : (found : Option ℕ) {moment : ℕ} → equals_limit found moment ≡ true → found ≡ Some moment
       limit_is None is = absurd (false≢true is)
       limit_is (Some limit) is = ap Some (eqb-true _ _ is)
 

@@ -172,7 +172,7 @@ module _ (n : NetworkModel) (names : NameLists) (version : Version) where
             All-cons (IsFitTable n) (record { place = t.place; rows = next.later }) next.more table next.table_rows.1,
             (reported.0, next.table_rows.2),
           );
-          closed = λ zero_left. next.opened (λ no_rows. omega (arith, no_rows, reported.2));
+          closed = λ none_remain. next.opened (λ no_rows. omega (arith, no_rows, reported.2));
           opened = λ some. absurd (some none);
         }
 
@@ -194,7 +194,7 @@ module _ (n : NetworkModel) (names : NameLists) (version : Version) where
               (reported.0, tt),
             );
             table_rows = next.table_rows;
-            closed = λ none_left. absurd (omega (arith, none_left, one));
+            closed = λ none_remain. absurd (omega (arith, none_remain, one));
             opened = λ some. next.closed refl ∙ append_assoc s.done ((record { place = place_or_first s.place; rows = s.rows ++ row ∷ [] }) ∷ []) next.more;
           }
 
@@ -210,8 +210,8 @@ module _ (n : NetworkModel) (names : NameLists) (version : Version) where
             many = let fewer = next.many in omega arith;
             legs = ((reported.1, next.legs.0), All-cons (IsFitRow n (place_or_first s.place).0) row next.later reported.2 next.legs.1, (reported.0, next.legs.2));
             table_rows = next.table_rows;
-            closed = λ none_left. absurd (some none_left);
-            opened = λ more. next.opened (λ none_left. omega arith)
+            closed = λ none_remain. absurd (some none_remain);
+            opened = λ more. next.opened (λ none_remain. omega arith)
                 ∙ ap (λ (rows : List GraphRow). s.done ++ (record { place = place_or_first s.place; rows = rows }) ∷ next.more) (append_assoc s.rows (row ∷ []) next.later);
           }
 
@@ -251,7 +251,7 @@ module _ (n : NetworkModel) (names : NameLists) (version : Version) where
         many = sym none;
         legs = (tt, All-nil (IsFitRow n (place_or_first s.place).0), tt);
         table_rows = (tt, All-nil (IsFitTable n), tt);
-        closed = λ zero_left. sym (append-nil s.done ∙ same);
+        closed = λ none_remain. sym (append-nil s.done ∙ same);
         opened = λ some. absurd (some none);
       }
   tables_reported (r ∷ rs) line s tables is =

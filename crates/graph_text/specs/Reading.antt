@@ -71,9 +71,9 @@ leg_found network x known =
     (connection_of network known.run.0 x.exit)) (connection_of network known.run.0 x.enter)
 
 -- whether a limit is there and is this moment
-abbrev pub is_limit : Option ℕ → ℕ → Bool
-is_limit None moment = false
-is_limit (Some limit) moment = limit == moment
+abbrev pub equals_limit : Option ℕ → ℕ → Bool
+equals_limit None moment = false
+equals_limit (Some limit) moment = limit == moment
 
 -- whether a leg leaves the source at the start or later, and the row's moment is its departure
 abbrev pub can_start : NetworkModel → ℕ → ℕ → ℕ → Leg → Bool
@@ -89,7 +89,7 @@ start_in network names version line source start r =
 
 -- whether the moment is the limit of a leg at a place
 abbrev pub is_by_limit : NetworkModel → ℕ → ℕ → Leg → Bool
-is_by_limit network place moment leg = is_limit (limit_of network place leg) moment
+is_by_limit network place moment leg = equals_limit (limit_of network place leg) moment
 
 -- a leg row of a place, after one by an earlier moment
 abbrev pub row_in : NetworkModel → NameLists → Version → ℕ → ℕ → Option ℕ → List (List ℕ) → Result GraphRow TextFault

@@ -5,7 +5,7 @@ ghost use Rattle.csv_rows.specs.Tables.{header, row_count};
 ghost use Rattle.plan_model.specs.NameLists.{NamesFit};
 ghost use Rattle.plan_model.specs.Network.{count};
 ghost use Rattle.graph_text.specs.GraphRows.{has_no_entry, entry_in, is_blank, is_place, is_head, version_in};
-ghost use Rattle.graph_text.specs.Reading.{leg_row_in, names_in, leg_found, can_start, start_in, is_limit, row_in, place_row_in, table_in, are_in_order, head_row_in, head_in};
+ghost use Rattle.graph_text.specs.Reading.{leg_row_in, names_in, leg_found, can_start, start_in, equals_limit, row_in, place_row_in, table_in, are_in_order, head_row_in, head_in};
 ghost use Rattle.graph_text.specs.Reading.{after_place_row, after_leg_row, IsPlaced, no_tables, step, place_tables_from};
 ghost use Rattle.graph_text.specs.Reading.{graph_after_first, started_in, graph_of_records, graph_of, IsUnlessNoMemory};
 ghost use Rattle.graph_text.specs.Versions.{width_of};
@@ -144,8 +144,8 @@ struct Reader<'a> {
 }
 
 /// Whether the limit is this moment.
-fn is_limit(limit: Option<Moment>, moment: Moment) -> bool
-    ensures { result ≡ is_limit (option_map (λ limit. limit.0) limit) moment.0 }
+fn equals_limit(limit: Option<Moment>, moment: Moment) -> bool
+    ensures { result ≡ equals_limit (option_map (λ limit. limit.0) limit) moment.0 }
 {
     match limit {
         Some(limit) => limit.0 == moment.0,
@@ -362,7 +362,7 @@ impl<'a> Reader<'a> {
         let Some(leg) = self.leg_found(&numbers, &known) else {
             return Err(TextFault::NoLeg(line));
         };
-        if is_limit(self.network.limit(place, leg), numbers.moment) {
+        if equals_limit(self.network.limit(place, leg), numbers.moment) {
             Ok(GraphRow {
                 by: numbers.moment,
                 leg,

@@ -7,7 +7,7 @@ use Rattle.gtfs_tables.specs.Feeds.{FeedParts, IsSoundFeed}
 use Rattle.feed_lists.specs.Stops.{stop_ids, stop_places, place_from, parent_of}
 use Rattle.feed_lists.specs.Trips.{trip_ids}
 use Rattle.csv_rows.proofs.ListLemmas.{length-list_below, get-list_below}
-use Rattle.csv_rows.proofs.RowLemmas.{place_inside}
+use Rattle.csv_rows.proofs.RowLemmas.{number_inside}
 use Rattle.gtfs_tables.specs.Timed.{AreTimed, IsTimed, rows_of}
 use Rattle.stop_times.proofs.NoFault.{AreInOrder, kept_in_order}
 
@@ -18,7 +18,7 @@ place_if false (Some j) i n h k = k
 
 place_few : (name : List ℕ) (names : List (List ℕ)) (o : Option ℕ) → o ≡ number_in name names → IfSome o (λ k. k < length names)
 place_few name names None e = tt
-place_few name names (Some k) e = place_inside name names k (sym e)
+place_few name names (Some k) e = number_inside name names k (sym e)
 
 -- the place of a stop is a stop
 place_is_stop : (t : List (List (List ℕ))) (i : ℕ) → i < row_count t → slice_index (stop_places t) i < row_count t

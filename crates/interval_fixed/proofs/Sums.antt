@@ -41,25 +41,25 @@ rounded_covers u p n covers =
 module _ (scale : ℕ) (leaf : ℕ → ℕ) where
   -- how the sum of values compares with that of the children, as each value does with its child
   module _ (R : ℕ → ℕ → Type 0) (none : R 0 0) (more : (w x y s t : ℕ) → R x y → R s t → R (w * x + s) (w * y + t)) where
-    kids_sum : (row : List Outcome) (values : List ℕ) (kids : Kids) (h : ℕ) → height_of kids ≤ h
+    children_sum : (row : List Outcome) (values : List ℕ) (kids : Kids) (h : ℕ) → height_of kids ≤ h
         → EachKid (λ v t. (k : ℕ) → height t ≤ k → R (v * 10000 ^ k) (scale * weighted_by leaf t k)) row values kids
         → R (weighted row values * 10000 ^ h) (scale * weighted_kids leaf kids h)
-    kids_sum [] [] Nil h tall each = let e : scale * 0 ≡ 0 = omega arith in let f : 0 * 10000 ^ h ≡ 0 = omega arith in rw (e, f) none
-    kids_sum (o ∷ row) (v ∷ values) (Kid w t kids) h tall each =
+    children_sum [] [] Nil h tall each = let e : scale * 0 ≡ 0 = omega arith in let f : 0 * 10000 ^ h ≡ 0 = omega arith in rw (e, f) none
+    children_sum (o ∷ row) (v ∷ values) (Kid w t kids) h tall each =
         rw (each.0, scaled_sum o.weight v (weighted row values) (10000 ^ h), times_sum scale o.weight (weighted_by leaf t h) (weighted_kids leaf kids h))
-        (more o.weight (v * 10000 ^ h) (scale * weighted_by leaf t h) _ _ (each.1 h (omega arith)) (kids_sum row values kids h (omega arith) each.2))
-    kids_sum _ _ _ h tall each = absurd each
+        (more o.weight (v * 10000 ^ h) (scale * weighted_by leaf t h) _ _ (each.1 h (omega arith)) (children_sum row values kids h (omega arith) each.2))
+    children_sum _ _ _ h tall each = absurd each
 
   -- the mean rounded down is below the ride
   pub mean_below : (row : List Outcome) (values : List ℕ) (kids : Kids) (enter exit : ℕ) → EachKid (BelowBy scale leaf) row values kids
       → BelowBy scale leaf (weighted row values / 10000) (Ride enter exit kids)
   mean_below row values kids enter exit each h tall =
       rw (pow_down h (omega arith)) (rounded_below (weighted row values) (10000 ^ (h - 1)) _
-      (kids_sum (λ x y. x ≤ y) (omega arith) sum_step row values kids (h - 1) (omega arith) each))
+      (children_sum (λ x y. x ≤ y) (omega arith) sum_step row values kids (h - 1) (omega arith) each))
 
   -- the mean rounded up covers the ride
   pub mean_covers : (row : List Outcome) (values : List ℕ) (kids : Kids) (enter exit : ℕ) → EachKid (CoversBy scale leaf) row values kids
       → CoversBy scale leaf ((weighted row values + 9999) / 10000) (Ride enter exit kids)
   mean_covers row values kids enter exit each h tall =
       rw (pow_down h (omega arith)) (rounded_covers (weighted row values) (10000 ^ (h - 1)) _
-      (kids_sum (λ x y. y ≤ x) (omega arith) (λ w x y s t. sum_step w y x t s) row values kids (h - 1) (omega arith) each))
+      (children_sum (λ x y. y ≤ x) (omega arith) (λ w x y s t. sum_step w y x t s) row values kids (h - 1) (omega arith) each))

@@ -40,22 +40,22 @@ module _ (n : NetworkModel) (valid : IsValid n) (q : Query) (target_in : q.targe
   by_test true moment other early printed = done_printed moment early
   by_test false moment other early printed = printed
 
-  kids_printed : (next : ℕ → Tree) → ((x : ℕ) → x ≤ last_printable → FailsPrinted (next x)) → (scheduled : ℕ) → scheduled + seconds_per_day ≤ last_printable
+  children_printed : (next : ℕ → Tree) → ((x : ℕ) → x ≤ last_printable → FailsPrinted (next x)) → (scheduled : ℕ) → scheduled + seconds_per_day ≤ last_printable
       → (row : List Outcome) → All (λ o. o.delay ≤ seconds_per_day) row
       → (p x : ℕ) → FailsIn q (kids_after next scheduled row) p x → IsPrinted p x
-  kids_printed next goes scheduled early [] few p x none = absurd none
-  kids_printed next goes scheduled early (o ∷ row) few p x (inl fails) =
+  children_printed next goes scheduled early [] few p x none = absurd none
+  children_printed next goes scheduled early (o ∷ row) few p x (inl fails) =
       let short = All-head (λ (k : Outcome). k.delay ≤ seconds_per_day) o row few in
       goes (scheduled + o.delay) (omega (arith, early, short)) p x fails
-  kids_printed next goes scheduled early (o ∷ row) few p x (inr fails) =
-      kids_printed next goes scheduled early row (All-tail (λ (k : Outcome). k.delay ≤ seconds_per_day) o row few) p x fails
+  children_printed next goes scheduled early (o ∷ row) few p x (inr fails) =
+      children_printed next goes scheduled early row (All-tail (λ (k : Outcome). k.delay ≤ seconds_per_day) o row few) p x fails
 
   ride_printed : (next : Leg → ℕ → Tree) (leg : Leg) → leg.exit.0 < count n → ((x : ℕ) → x ≤ last_printable → FailsPrinted (next leg x))
       → (p x : ℕ) → FailsIn q (kids_after (next leg) (arr_of n leg.exit.0) (outcomes_of n leg)) p x → IsPrinted p x
   ride_printed next leg within goes =
       let c = valid.connections leg.exit.0 within in
       let row = valid.rows (connection n leg.exit.0).class.0 c.class_in in
-      kids_printed (next leg) goes (arr_of n leg.exit.0) (omega (arith, c.early)) (outcomes_of n leg) row.delays
+      children_printed (next leg) goes (arr_of n leg.exit.0) (omega (arith, c.early)) (outcomes_of n leg) row.delays
 
   or_stuck : (next : Leg → ℕ → Tree) (first : Option Leg) (p x : ℕ) → ((leg : Leg) → first ≡ Some leg → leg.exit.0 < count n)
       → ((leg : Leg) → leg.exit.0 < count n → (y : ℕ) → y ≤ last_printable → FailsPrinted (next leg y))

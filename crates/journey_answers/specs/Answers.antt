@@ -71,8 +71,8 @@ abbrev pub IsNoSafe : Problem → ℕ → Fault → Type 0
 IsNoSafe p start fault = (fault ≡ NoSafe) × HasNoSafe p start
 
 -- why there is no answer: no strategy is safe; or there was no memory
-abbrev pub FailsIn : Problem → ℕ → Fault → Type 0
-FailsIn p start = OrNoMemory (IsNoSafe p start)
+abbrev pub IsNoAnswer : Problem → ℕ → Fault → Type 0
+IsNoAnswer p start = OrNoMemory (IsNoSafe p start)
 
 -- its places are the network's, and its moments have texts
 pub record IsPrintable (network : NetworkModel) (query : Query) (worst : Moment) : Type 0 where

@@ -13,14 +13,14 @@ use Rattle.journey_report.specs.Findings.{Findings, check_findings}
 use Rattle.journey_report.specs.AnswerTexts.{holds_text}
 
 -- the answer of `check`: that a certificate holds, with its least value at the start, which is below each strategy that is safe for its query
-pub record IsHeld (p : Problem) (found : Findings) (text : List ℕ) (query : Query) (proof : LowerBounds) : Type 0 where
-  pub accepted : IsAccepted p.timetable.network query proof.values
-  pub sound : IsSound p.timetable.network query proof.values
+pub record IsHeld (p : Problem) (found : Findings) (text : List ℕ) (query : Query) (certificate : LowerBounds) : Type 0 where
+  pub accepted : IsAccepted p.timetable.network query certificate.values
+  pub sound : IsSound p.timetable.network query certificate.values
   pub least : Option ℕ
-  pub least_is : IsLeastAtStart p.timetable.network query proof.values least
-  pub found_is : found ≡ check_findings query proof least
+  pub least_is : IsLeastAtStart p.timetable.network query certificate.values least
+  pub found_is : found ≡ check_findings query certificate least
   pub text_is : text ≡ holds_text (place_name p.timetable.names p.source.0) (place_name p.timetable.names p.target.0) query least
 
 -- the fault is that a certificate fails, and at the last connection of the scan order that can be boarded and whose value is too great or missing
 abbrev pub IsBroken : Problem → Fault → Query → LowerBounds → Type 0
-IsBroken p fault query proof = (connection : ConnectionId) × (fault ≡ ProofFails connection) × IsLastFault p.timetable.network query proof.values connection.0
+IsBroken p fault query certificate = (connection : ConnectionId) × (fault ≡ ProofFails connection) × IsLastFault p.timetable.network query certificate.values connection.0

@@ -4,7 +4,7 @@ ghost use Rattle.plan_model.specs.Order.{IsScanOrder};
 ghost use Rattle.plan_model.specs.Strategy.{IsLeastWorst};
 ghost use Rattle.decision_graph.specs.Planned.{IsPlanned};
 ghost use Rattle.decision_graph.specs.Expanded.{IsExpanded};
-ghost use Rattle.journey_answers.specs.Answers.{IsWorst, IsQueryOf, InQuery, IsPrintable, AnswersSafe, AnswersExpand, AnswersPlan, FailsIn};
+ghost use Rattle.journey_answers.specs.Answers.{IsWorst, IsQueryOf, InQuery, IsPrintable, AnswersSafe, AnswersExpand, AnswersPlan, IsNoAnswer};
 ghost use Rattle.journey_report.specs.Findings.{findings_of, safe_findings};
 ghost use Rattle.plan_model.specs.Bounds.{end_of_time};
 
@@ -90,7 +90,7 @@ pub fn asked_of<'a>(
         IsQueryOf problem.now start.moment.0 alpha.value found.0.query found.0.worst) }
     ensures fits { IfOk result (λ found.
         ⟦<MergedRuns as BackwardOrder>⟧.fits found.1 problem.now.timetable.network) }
-    ensures fault { IfErr result (FailsIn problem.now start.moment.0) }
+    ensures fault { IfErr result (IsNoAnswer problem.now start.moment.0) }
 {
     let mut order = MergedRuns::new(alloc, &problem.timetable.network)?;
     let Some(worst) = worst_of(alloc, &mut order, problem, start)? else {
@@ -206,7 +206,7 @@ fn planned_answer(
 pub fn safe_over(alloc: Global, problem: &Problem, start: Start, alpha: Percent) -> Answered
     ensures answer { IfOk result (λ a. InQuery problem.now start.moment.0 alpha.value
         (AnswersSafe problem.now (findings_of a.report) a.text.items)) }
-    ensures fault { IfErr result (FailsIn problem.now start.moment.0) }
+    ensures fault { IfErr result (IsNoAnswer problem.now start.moment.0) }
 {
     let (asked, _) = asked_of(alloc, problem, start, alpha)?;
     let query = asked.query;
@@ -220,7 +220,7 @@ pub fn safe_over(alloc: Global, problem: &Problem, start: Start, alpha: Percent)
 pub fn expand_over(alloc: Global, problem: &Problem, start: Start, alpha: Percent) -> Answered
     ensures answer { IfOk result (λ a. InQuery problem.now start.moment.0 alpha.value
         (AnswersExpand problem.now (findings_of a.report) a.text.items)) }
-    ensures fault { IfErr result (FailsIn problem.now start.moment.0) }
+    ensures fault { IfErr result (IsNoAnswer problem.now start.moment.0) }
 {
     let (asked, mut order) = asked_of(alloc, problem, start, alpha)?;
     let found = expanded_of(alloc, &mut order, &asked)?;
@@ -232,7 +232,7 @@ pub fn expand_over(alloc: Global, problem: &Problem, start: Start, alpha: Percen
 pub fn plan_over(alloc: Global, problem: &Problem, start: Start, alpha: Percent) -> Answered
     ensures answer { IfOk result (λ a. InQuery problem.now start.moment.0 alpha.value
         (AnswersPlan problem.now (findings_of a.report) a.text.items)) }
-    ensures fault { IfErr result (FailsIn problem.now start.moment.0) }
+    ensures fault { IfErr result (IsNoAnswer problem.now start.moment.0) }
 {
     let (asked, mut order) = asked_of(alloc, problem, start, alpha)?;
     let found = planned_of(alloc, &mut order, &asked)?;

@@ -1,6 +1,6 @@
 //! Certificates of a journey: lower bounds on the expected arrival of every safe strategy.
 ghost use Rattle.std.specs.Prelude.{◌≡◌, ◌≤◌, IfOk, IfErr};
-ghost use Rattle.journey_answers.specs.Answers.{InQuery, FailsIn};
+ghost use Rattle.journey_answers.specs.Answers.{InQuery, IsNoAnswer};
 ghost use Rattle.journey_answers.specs.Certified.{AnswersCertify};
 ghost use Rattle.journey_report.specs.Findings.{findings_of};
 
@@ -14,20 +14,20 @@ use std::alloc::Global;
 pub fn certify_over(alloc: Global, problem: &Problem, start: Start, alpha: Percent) -> Answered
     ensures answer { IfOk result (λ a. InQuery problem.now start.moment.0 alpha.value
         (AnswersCertify problem.now (findings_of a.report) a.text.items)) }
-    ensures fault { IfErr result (FailsIn problem.now start.moment.0) }
+    ensures fault { IfErr result (IsNoAnswer problem.now start.moment.0) }
 {
     let (asked, _) = asked_of(alloc, problem, start, alpha)?;
     let network = &problem.timetable.network;
-    let proof = write(alloc, network, &asked.query)?;
+    let certificate = write(alloc, network, &asked.query)?;
     let text = write_text(
         alloc,
-        &proof,
+        &certificate,
         &asked.query,
         network,
         &problem.timetable.names,
     )?;
     let report = Report {
-        proof: Some(proof),
+        proof: Some(certificate),
         ..asked.report()
     };
     Ok(Answer { report, text })

@@ -8,7 +8,7 @@ ghost use Rattle.graph_score.specs.Scores.{IsScored};
 ghost use Rattle.late_chance.specs.Chances.{seconds_per_week};
 ghost use Rattle.late_chance.specs.Punctual.{IsPunctual};
 ghost use Rattle.decision_graph.specs.LeastChances.{IsSeenLater};
-ghost use Rattle.journey_answers.specs.Answers.{InQuery, FailsIn};
+ghost use Rattle.journey_answers.specs.Answers.{InQuery, IsNoAnswer};
 ghost use Rattle.journey_report.specs.Findings.{findings_of, punctual_findings};
 ghost use Rattle.journey_answers.specs.Punctual.{IsPunctualText, AnswersPunctual};
 
@@ -131,7 +131,7 @@ pub fn punctual_over(
     requires soon { promise.0 ≤ start.moment.0 + seconds_per_week }
     ensures answer { IfOk result (λ a. InQuery problem.now start.moment.0 alpha.value
         (AnswersPunctual problem.now promise.0 (findings_of a.report) a.text.items)) }
-    ensures fault { IfErr result (FailsIn problem.now start.moment.0) }
+    ensures fault { IfErr result (IsNoAnswer problem.now start.moment.0) }
 {
     let (asked, _) = asked_of(alloc, problem, start, alpha)?;
     let promise = Promise {

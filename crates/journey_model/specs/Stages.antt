@@ -9,7 +9,7 @@ use Rattle.delay_table.specs.declared.faults.DelayFault.TheVariants as delay
 use Rattle.graph_text.specs.declared.reader.TextFault.{TextFault}
 use Rattle.graph_text.specs.declared.reader.TextFault.TheVariants as text
 use Rattle.lower_proof.specs.declared.reader.ProofFault.{ProofFault}
-use Rattle.lower_proof.specs.declared.reader.ProofFault.TheVariants as proof
+use Rattle.lower_proof.specs.declared.reader.ProofFault.TheVariants as certificate
 use Rattle.journey_model.specs.declared.faults.Input.{Input}
 use Rattle.journey_model.specs.declared.faults.Input.TheVariants as input
 use Rattle.journey_model.specs.declared.faults.LimitKind.{LimitKind}
@@ -18,7 +18,7 @@ use Rattle.journey_model.specs.declared.faults.Fault.{Fault}
 use Rattle.journey_model.specs.declared.faults.Fault.TheVariants.{Words, Feed, Cut, Missing, Delays, UnknownStop, Limit, Read, NoSafe, GraphFile, Replay, ProofFile, ProofFails, Unsafe, Write}
 use Rattle.journey_model.specs.declared.faults.Fault.TheVariants.{NoMemory}
 
--- the words; the timetable, its delays, the stops of the journey and the window of the timetable; the graph file or the proof
+-- the words; the timetable, its delays, the stops of the journey and the window of the timetable; the graph file or the certificate
 -- file; what the command comes to; the writing of the answer; and memory, which may be wanting at any time
 pub data Stage : Type 0 where
   AtWords : Stage
@@ -27,7 +27,7 @@ pub data Stage : Type 0 where
   AtStops : Stage
   AtWindow : Stage
   AtGraphFile : Stage
-  AtProofFile : Stage
+  AtCertificateFile : Stage
   AtOutcome : Stage
   AtOutput : Stage
   AtMemory : Stage
@@ -38,7 +38,7 @@ stage_of_input (input.Feed table) = AtTimetable
 stage_of_input input.Cut = AtTimetable
 stage_of_input input.Delays = AtDelays
 stage_of_input input.Graph = AtGraphFile
-stage_of_input input.Proof = AtProofFile
+stage_of_input input.Proof = AtCertificateFile
 
 -- the stage that has a limit
 abbrev pub stage_of_limit : LimitKind → Stage
@@ -61,7 +61,7 @@ stage_of (Read input) = stage_of_input input
 stage_of NoSafe = AtOutcome
 stage_of (GraphFile fault) = AtGraphFile
 stage_of (Replay fault) = AtOutcome
-stage_of (ProofFile fault) = AtProofFile
+stage_of (ProofFile fault) = AtCertificateFile
 stage_of (ProofFails connection) = AtOutcome
 stage_of (Unsafe place moment) = AtOutcome
 stage_of Write = AtOutput
@@ -76,7 +76,7 @@ IsStageBeforeSearch AtDelays = Unit {0}
 IsStageBeforeSearch AtStops = Unit {0}
 IsStageBeforeSearch AtWindow = Unit {0}
 IsStageBeforeSearch AtGraphFile = ⊥
-IsStageBeforeSearch AtProofFile = ⊥
+IsStageBeforeSearch AtCertificateFile = ⊥
 IsStageBeforeSearch AtOutcome = ⊥
 IsStageBeforeSearch AtOutput = ⊥
 IsStageBeforeSearch AtMemory = Unit {0}
@@ -126,14 +126,14 @@ IsOfGraphText (text.NoLeg line) = Unit {0}
 IsOfGraphText (text.OtherQuery line) = Unit {0}
 IsOfGraphText text.NoMemory = ⊥
 
--- the same of a proof file
-abbrev pub IsOfProofText : ProofFault → Type 0
-IsOfProofText (proof.Row line) = Unit {0}
-IsOfProofText (proof.UnknownName line) = Unit {0}
-IsOfProofText (proof.NoConnection line) = Unit {0}
-IsOfProofText (proof.NotRising line) = Unit {0}
-IsOfProofText (proof.OtherQuery line) = Unit {0}
-IsOfProofText proof.NoMemory = ⊥
+-- the same of a certificate file
+abbrev pub IsOfCertificateText : ProofFault → Type 0
+IsOfCertificateText (certificate.Row line) = Unit {0}
+IsOfCertificateText (certificate.UnknownName line) = Unit {0}
+IsOfCertificateText (certificate.NoConnection line) = Unit {0}
+IsOfCertificateText (certificate.NotRising line) = Unit {0}
+IsOfCertificateText (certificate.OtherQuery line) = Unit {0}
+IsOfCertificateText certificate.NoMemory = ⊥
 
 -- if it is of a file it is of what the file contains
 abbrev pub IsOfText : Fault → Type 0
@@ -148,7 +148,7 @@ IsOfText (Read input) = Unit {0}
 IsOfText NoSafe = Unit {0}
 IsOfText (GraphFile fault) = IsOfGraphText fault
 IsOfText (Replay fault) = Unit {0}
-IsOfText (ProofFile fault) = IsOfProofText fault
+IsOfText (ProofFile fault) = IsOfCertificateText fault
 IsOfText (ProofFails connection) = Unit {0}
 IsOfText (Unsafe place moment) = Unit {0}
 IsOfText Write = Unit {0}

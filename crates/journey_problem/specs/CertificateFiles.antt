@@ -17,7 +17,7 @@ use Rattle.journey_problem.specs.Files.{bytes_of}
 
 -- a text has this query and this certificate, of the problem's source and target and from a start on
 abbrev pub IsCertificateText : Problem → ℕ → List ℕ → Query → LowerBounds → Type 0
-IsCertificateText p start text query proof = IsProofReported p.timetable.network p.timetable.names p.source.0 p.target.0 start (table_of text) query proof.values
+IsCertificateText p start text query certificate = IsProofReported p.timetable.network p.timetable.names p.source.0 p.target.0 start (table_of text) query certificate.values
 
 -- the first fault of a text
 abbrev pub FailsText : Problem → ℕ → List ℕ → Fault → Type 0
@@ -31,14 +31,14 @@ FailsFile p start (Ok text) fault = FailsText p start text fault
 FailsFile p start (Err first) fault = fault ≡ first
 
 -- these are the query and the certificate of the certificate file of this path, if the files are known
-pub record IsCertificateFile (contents : Option FileMap) (limits : Limits) (start : ℕ) (path : List ℕ) (p : Problem) (query : Query) (proof : LowerBounds) : Type 0 where
+pub record IsCertificateFile (contents : Option FileMap) (limits : Limits) (start : ℕ) (path : List ℕ) (p : Problem) (query : Query) (certificate : LowerBounds) : Type 0 where
   pub text : List ℕ
   pub reads : IfSome contents (λ files. bytes_of limits.bytes input.Proof None (file_at files path) ≡ Ok text)
-  pub reports : IsCertificateText p start text query proof
+  pub reports : IsCertificateText p start text query certificate
 
 -- this holds of the query and the certificate of the certificate file
 abbrev pub InCertificateFile : Option FileMap → Limits → ℕ → List ℕ → Problem → (Query → LowerBounds → Type 0) → Type 0
-InCertificateFile contents limits start path p P = (query : Query) × (proof : LowerBounds) × IsCertificateFile contents limits start path p query proof × P query proof
+InCertificateFile contents limits start path p P = (query : Query) × (certificate : LowerBounds) × IsCertificateFile contents limits start path p query certificate × P query certificate
 
 -- the first fault of the certificate file is this one, if no file but that of the fault is unread
 abbrev pub FailsCertificate : Option FileMap → Limits → ℕ → List ℕ → Problem → Fault → Type 0

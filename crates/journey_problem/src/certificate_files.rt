@@ -20,7 +20,7 @@ fn certificate_of_bytes(
     problem: &Problem,
     start: Moment,
 ) -> Result<(Query, LowerBounds), Fault>
-    ensures proof { IfOk result (λ f. IsCertificateText problem.now start.0 bytes.now f.0 f.1) }
+    ensures certificate { IfOk result (λ f. IsCertificateText problem.now start.0 bytes.now f.0 f.1) }
     ensures fault { IfErr result (λ fault. fault ≢ Fault.NoMemory
         → FailsText problem.now start.0 bytes.now fault) }
     ensures stage { IfErr result (λ fault. fault ≢ Fault.NoMemory → IsOfInput Input.Proof fault) }
@@ -51,7 +51,7 @@ pub fn read_certificate_file<F: Files>(
     start: Moment,
     limits: &Limits,
 ) -> Result<(Query, LowerBounds), Fault>
-    ensures proof { IfOk result (λ f. IsCertificateFile (F.state files.old).files limits.now start.0
+    ensures certificate { IfOk result (λ f. IsCertificateFile (F.state files.old).files limits.now start.0
         path.now problem.now f.0 f.1) }
     ensures fault { IfErr result (λ fault. fault ≢ Fault.NoMemory
         → FailsCertificate (F.state files.old).files limits.now start.0 path.now problem.now fault) }

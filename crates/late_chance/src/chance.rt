@@ -79,8 +79,8 @@ impl Score for LateChance {
 
     fn blend(row: &[Outcome], kids: &[LateChance]) -> LateChance {
         let mut spans: ArrayVec<Span, 64> = ArrayVec::new();
-        for kid in kids {
-            spans.push(kid.bounds());
+        for child in kids {
+            spans.push(child.bounds());
         }
         LateChance {
             bounds: Span::mean(row, &spans),

@@ -62,15 +62,15 @@ module _ (n : NetworkModel) (q : Query) (values : List (Option ℕ)) (last : ℕ
 -- ---- what is known while connections are scanned
 
 -- those that remain, and of the others the least value of leaving each run
-pub record IsScanned (n : NetworkModel) (q : Query) (values : List (Option ℕ)) (last : ℕ) (taken : List ConnectionId) (left : List Departure) (exits : List (Option ℕ)) : Type 0 where
-  pub rest : IsRest n last left taken
+pub record IsScanned (n : NetworkModel) (q : Query) (values : List (Option ℕ)) (last : ℕ) (taken : List ConnectionId) (remaining : List Departure) (exits : List (Option ℕ)) : Type 0 where
+  pub rest : IsRest n last remaining taken
   pub runs : (c : ℕ) → c < count n → run_of n c < length exits
   pub are_exits : AreExits n q values last taken exits
 
 module _ (n : NetworkModel) (good : IsValid n) (q : Query) (values : List (Option ℕ)) (last : ℕ) (deadline : q.deadline.0 ≤ last) (none_after : NoneAfter n values last) where
   -- what departs later is no exit
-  none_left : (run v : ℕ) → LeavesBy n q values last [] run v → ⊥
-  none_left run v by =
+  none_remain : (run v : ℕ) → LeavesBy n q values last [] run v → ⊥
+  none_remain run v by =
       let forward = (good.connections by.exit by.there).forward in
       let late : last < dep_of n by.exit = by.known in
       no_via n good q values last deadline none_after by.exit v by.there (omega arith) by.via
@@ -83,7 +83,7 @@ module _ (n : NetworkModel) (good : IsValid n) (q : Query) (values : List (Optio
 
   pub scanned_first : (entries : List Departure) (exits : List (Option ℕ)) → AreDepartingBy n last entries → ((c : ℕ) → c < count n → run_of n c < length exits)
       → ((run : ℕ) → exit_of exits run ≡ None) → IsScanned n q values last [] entries exits
-  scanned_first entries exits are runs empty = record { rest = rest_first n last entries are; runs = runs; are_exits = λ run. rw (empty run) (none_left run) }
+  scanned_first entries exits are runs empty = record { rest = rest_first n last entries are; runs = runs; are_exits = λ run. rw (empty run) (none_remain run) }
 
 -- one more is scanned
 module _ {n : NetworkModel} (good : IsValid n) {q : Query} {values : List (Option ℕ)} {last : ℕ} {taken : List ConnectionId} {before : List Departure} {exits : List (Option ℕ)}
@@ -112,9 +112,9 @@ module _ {n : NetworkModel} (good : IsValid n) {q : Query} {values : List (Optio
 
 -- ---- and while a check runs: the values that were scanned are kept to
 
-pub record CheckState (n : NetworkModel) (q : Query) (values : List (Option ℕ)) (last : ℕ) (left : List Departure) (exits : List (Option ℕ)) : Type 0 where
+pub record CheckState (n : NetworkModel) (q : Query) (values : List (Option ℕ)) (last : ℕ) (remaining : List Departure) (exits : List (Option ℕ)) : Type 0 where
   pub taken : List ConnectionId
-  pub scanned : IsScanned n q values last taken left exits
+  pub scanned : IsScanned n q values last taken remaining exits
   pub kept : (c : ℕ) → c < count n → Known (Late n last) taken c → IsTrue (connection n c).can_board → IsLocal n q values c
 
 module _ {n : NetworkModel} (good : IsValid n) {q : Query} {values : List (Option ℕ)} {last : ℕ} where
@@ -153,8 +153,8 @@ module _ {n : NetworkModel} (good : IsValid n) {q : Query} {values : List (Optio
         last = λ d there board_d after. state.kept d there ((scanned_is_next good state.scanned rest e popped).after d there after) board_d;
       }
 
-  pub check_last : {left : List Departure} {exits : List (Option ℕ)} → CheckState n q values last left exits → length left ≡ 0 → IsAccepted n q values
-  check_last {left} state none c there board = state.kept c there (all_taken n good last state.taken left none state.scanned.rest c there) board
+  pub check_last : {remaining : List Departure} {exits : List (Option ℕ)} → CheckState n q values last remaining exits → length remaining ≡ 0 → IsAccepted n q values
+  check_last {remaining} state none c there board = state.kept c there (all_taken n good last state.taken remaining none state.scanned.rest c there) board
 
 -- ---- values that agree for all connections that depart after a moment have the same least values from then on
 
@@ -203,8 +203,8 @@ module _ (n : NetworkModel) (good : IsValid n) (q : Query) (last : ℕ) (taken :
         let later = known_later c there known in
         (ride.0, ride.1, via_agrees n good q (dep_of n id.0) a b agree ride.0 v (omega arith) ride.2)) values others agree
 
-    pub scanned_agrees : {left : List Departure} {exits : List (Option ℕ)} → IsScanned n q values last (id ∷ taken) left exits → IsScanned n q others last (id ∷ taken) left exits
-    scanned_agrees {left} {exits} scanned = record {
+    pub scanned_agrees : {remaining : List Departure} {exits : List (Option ℕ)} → IsScanned n q values last (id ∷ taken) remaining exits → IsScanned n q others last (id ∷ taken) remaining exits
+    scanned_agrees {remaining} {exits} scanned = record {
       rest = scanned.rest;
       runs = scanned.runs;
       are_exits = λ run. same_least n (dep_of n id.0) (λ vs. LeavesBy n q vs last (id ∷ taken) run) (λ a b agree v by.

@@ -94,9 +94,9 @@ none_given false best never = refl
 abbrev HasOwn : NetworkModel → Query → List (Option ℕ) → ℕ → Option ℕ → Type 0
 HasOwn n q values c own = (IsTrue (connection n c).can_board → IsLeastOf (Rides n q values c) own) × ((IsTrue (connection n c).can_board → ⊥) → own ≡ None)
 
-pub record Written (n : NetworkModel) (q : Query) (last : ℕ) (left : List Departure) (exits values : List (Option ℕ)) (boards : List ShownBoard) : Type 0 where
+pub record Written (n : NetworkModel) (q : Query) (last : ℕ) (remaining : List Departure) (exits values : List (Option ℕ)) (boards : List ShownBoard) : Type 0 where
   pub taken : List ConnectionId
-  pub scanned : IsScanned n q values last taken left exits
+  pub scanned : IsScanned n q values last taken remaining exits
   pub as_many : length values ≡ count n
   pub own : (c : ℕ) → c < count n → Known (Late n last) taken c → HasOwn n q values c (bound_of values c)
   pub right : AreBoards n last values boards
@@ -160,5 +160,5 @@ module _ {n : NetworkModel} (good : IsValid n) {q : Query} {last : ℕ} where
               late m (omega arith) (written.late m (λ c there known. all c there (inr known)));
         }
 
-  pub written_last : {left : List Departure} {exits values : List (Option ℕ)} {boards : List ShownBoard} → Written n q last left exits values boards → length left ≡ 0 → IsTight n q values
-  written_last {left} written none = grind (arith, all_taken)
+  pub written_last : {remaining : List Departure} {exits values : List (Option ℕ)} {boards : List ShownBoard} → Written n q last remaining exits values boards → length remaining ≡ 0 → IsTight n q values
+  written_last {remaining} written none = grind (arith, all_taken)

@@ -7,7 +7,7 @@ ghost use Rattle.plan_model.specs.NameLists.{NameLists};
 ghost use Rattle.plan_model.specs.declared.model.Query.{Query as Asked};
 ghost use Rattle.lower_proof.specs.declared.LowerBounds.{LowerBounds as Proof};
 ghost use Rattle.lower_proof.specs.declared.reader.ProofFault.{ProofFault as Fault};
-ghost use Rattle.lower_proof.specs.declared.reader.ProofFault.TheVariants.{NoMemory as Lacking};
+ghost use Rattle.lower_proof.specs.declared.reader.ProofFault.TheVariants.{NoMemory as NoMemoryFault};
 ghost use Rattle.lower_proof.specs.Certificates.{IsAccepted};
 ghost use Rattle.lower_proof.specs.Promises.{AreSoundValues};
 ghost use Rattle.lower_proof.specs.Reading.{bounds_in, IsFaultAfter, IsProofRead};
@@ -16,14 +16,14 @@ ghost use Rattle.lower_proof.specs.Reading.{bounds_in, IsFaultAfter, IsProofRead
 pub fn one_text_is_one_certificate()
     ensures { (n : NetworkModel) (names : NameLists) (source target start : ℕ) (text : Bytes ℕ) (r s : Either (Asked × Proof) Fault)
         → IsProofRead n names source target start text r → IsProofRead n names source target start text s
-        → r ≢ Err Lacking → s ≢ Err Lacking → r ≡ s }
+        → r ≢ Err NoMemoryFault → s ≢ Err NoMemoryFault → r ≡ s }
 {}
 
 /// A law, with no code: the first fault of a text is not that memory ran out.
 pub fn no_text_lacks_memory()
     ensures { (n : NetworkModel) (names : NameLists) (source target start : ℕ) (text : Bytes ℕ) (fault : Fault)
         → IsFaultAfter n names (table_of text) (bounds_in names source target start (header (table_of text))) fault
-        → fault ≢ Lacking }
+        → fault ≢ NoMemoryFault }
 {}
 
 /// A law, with no code: in a certificate that is accepted, the value of a connection is at most the expected arrival of each

@@ -79,13 +79,13 @@ beside_graph graph j before_of now_of input.Delays rose = absurd rose
 beside_graph graph j before_of now_of input.Graph rose = rose
 beside_graph graph j before_of now_of input.Proof rose = absurd rose
 
-beside_proof : (proof : List ℕ) (j : JourneyModel) (before_of now_of : List ℕ → ℕ) (file : Input) → RoseAt (certificate_path proof file) before_of now_of
-    → RoseAt (path_of j (certificate_path proof) file) before_of now_of
-beside_proof proof j before_of now_of (input.Feed table) rose = absurd rose
-beside_proof proof j before_of now_of input.Cut rose = absurd rose
-beside_proof proof j before_of now_of input.Delays rose = absurd rose
-beside_proof proof j before_of now_of input.Graph rose = absurd rose
-beside_proof proof j before_of now_of input.Proof rose = rose
+beside_certificate : (certificate : List ℕ) (j : JourneyModel) (before_of now_of : List ℕ → ℕ) (file : Input) → RoseAt (certificate_path certificate file) before_of now_of
+    → RoseAt (path_of j (certificate_path certificate) file) before_of now_of
+beside_certificate certificate j before_of now_of (input.Feed table) rose = absurd rose
+beside_certificate certificate j before_of now_of input.Cut rose = absurd rose
+beside_certificate certificate j before_of now_of input.Delays rose = absurd rose
+beside_certificate certificate j before_of now_of input.Graph rose = absurd rose
+beside_certificate certificate j before_of now_of input.Proof rose = rose
 
 pub beside : (ask : AskModel) (j : JourneyModel) (before_of now_of : List ℕ → ℕ) (file : Input) → RoseAt (own_paths ask file) before_of now_of
     → RoseAt (path_of j (own_paths ask) file) before_of now_of
@@ -94,7 +94,7 @@ beside (Expand alpha) j before_of now_of file rose = absurd rose
 beside (Plan alpha) j before_of now_of file rose = absurd rose
 beside (Replay graph late) j before_of now_of file rose = beside_graph graph j before_of now_of file rose
 beside (Certify alpha) j before_of now_of file rose = absurd rose
-beside (CheckProof proof) j before_of now_of file rose = beside_proof proof j before_of now_of file rose
+beside (CheckProof certificate) j before_of now_of file rose = beside_certificate certificate j before_of now_of file rose
 beside (CheckGraph graph) j before_of now_of file rose = beside_graph graph j before_of now_of file rose
 beside (Punctual alpha promise) j before_of now_of file rose = absurd rose
 beside (Departures until last) j before_of now_of file rose = absurd rose

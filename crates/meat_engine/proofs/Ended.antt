@@ -49,7 +49,7 @@ module _ (limits : Limits) (files : FileMap) (start : ℕ) (p : Problem) where
   answers_end (Replays graph late) found text (head, plan, file, reported) =
       inl (head, plan, file.reads, inl (reported.trace, reported.trip, refl))
   answers_end (Certify alpha) found text (q, w, asked, reports) = asked_ends p start alpha q w asked
-  answers_end (CheckProof path) found text (q, proof, file, held) = inl (q, proof, file, inl (held.accepted, refl))
+  answers_end (CheckProof path) found text (q, certificate, file, held) = inl (q, certificate, file, inl (held.accepted, refl))
   answers_end (CheckGraph path) found text (head, plan, file, reported) = inl (head, plan, file.reads, inl (refl, reported.scored.safe))
   answers_end (Punctual alpha promise) found text (q, w, asked, reports) = asked_ends p start alpha q w asked
   answers_end (Departures until last) found text (rows, same, are, safe, reported) = inl (refl, safe)
@@ -66,8 +66,8 @@ module _ (limits : Limits) (files : FileMap) (start : ℕ) (p : Problem) where
       → EndsByCertificateFile limits files start path p (status_of (Some fault))
   check_ends path fault never (inl (of, fails)) =
       inr (fault, subst (λ (u : Option Input). FailsFile p start (bytes_of limits.bytes input.Proof u (file_at files path)) fault) (none_unread fault never) fails, refl)
-  check_ends path fault never (inr (q, proof, file, (connection, is, last))) =
-      inl (q, proof, file, inr (connection.0, last, ap (λ (f : Fault). status_of (Some f)) is))
+  check_ends path fault never (inr (q, certificate, file, (connection, is, last))) =
+      inl (q, certificate, file, inr (connection.0, last, ap (λ (f : Fault). status_of (Some f)) is))
 
   score_ends : (path : List ℕ) (fault : Fault) → ((i : Input) → fault ≡ Read i → ⊥)
       → FailsScore (Some files) limits start path p fault → EndsByScore limits files start path p (status_of (Some fault))

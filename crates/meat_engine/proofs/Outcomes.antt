@@ -53,8 +53,8 @@ module _ (contents : Option FileMap) (limits : Limits) (words : List (List ℕ))
   ask_write start p (Replays graph late) (inl of) = cc of.0.0
   ask_write start p (Replays graph late) (inr (head, more, file, trip)) = cc trip.fault_is
   ask_write start p (Certify alpha) (is, none) = cc
-  ask_write start p (CheckProof proof) (inl of) = cc of.0.0
-  ask_write start p (CheckProof proof) (inr (q, bounds, file, (connection, is, last))) = cc
+  ask_write start p (CheckProof certificate) (inl of) = cc of.0.0
+  ask_write start p (CheckProof certificate) (inr (q, bounds, file, (connection, is, last))) = cc
   ask_write start p (CheckGraph graph) (inl of) = cc of.0.0
   ask_write start p (CheckGraph graph) (inr (head, more, file, (place, moment, is, unsafe))) = cc
   ask_write start p (Punctual alpha promise) (is, none) = cc

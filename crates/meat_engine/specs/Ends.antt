@@ -55,7 +55,7 @@ EndsByVerdict network query values status =
 -- if the certificate file reads, as its certificate says; and otherwise the status of its fault
 abbrev pub EndsByCertificateFile : Limits → FileMap → ℕ → List ℕ → Problem → ℕ → Type 0
 EndsByCertificateFile limits files start path p status =
-    ((query : Query) × (proof : LowerBounds) × IsCertificateFile (Some files) limits start path p query proof × EndsByVerdict p.timetable.network query proof.values status)
+    ((query : Query) × (certificate : LowerBounds) × IsCertificateFile (Some files) limits start path p query certificate × EndsByVerdict p.timetable.network query certificate.values status)
     ⊎ ((fault : Fault) × FailsFile p start (bytes_of limits.bytes input.Proof None (file_at files path)) fault × (status ≡ status_of (Some fault)))
 
 -- 0 if the tree is safe, and 15 if it is not

@@ -12,7 +12,7 @@ use Rattle.journey_model.specs.declared.faults.Fault.{Fault}
 use Rattle.journey_model.specs.declared.faults.Fault.TheVariants.{Words, NoMemory}
 use Rattle.journey_model.specs.FaultLines.{line_of, IsFormatted}
 use Rattle.journey_model.specs.Sites.{NamedParts}
-use Rattle.journey_model.specs.Stages.{Stage, stage_of, AtWords, AtTimetable, AtDelays, AtStops, AtWindow, AtGraphFile, AtProofFile, AtOutcome, AtOutput, AtMemory}
+use Rattle.journey_model.specs.Stages.{Stage, stage_of, AtWords, AtTimetable, AtDelays, AtStops, AtWindow, AtGraphFile, AtCertificateFile, AtOutcome, AtOutput, AtMemory}
 use Rattle.journey_problem.specs.Files.{path_of}
 use Rattle.journey_problem.specs.Problems.{InProblem}
 use Rattle.journey_report.specs.declared.report.Report.{Report}
@@ -70,7 +70,7 @@ ending_at AtDelays = Refused
 ending_at AtStops = Refused
 ending_at AtWindow = Refused
 ending_at AtGraphFile = Refused
-ending_at AtProofFile = Refused
+ending_at AtCertificateFile = Refused
 ending_at AtOutcome = Refused
 ending_at AtOutput = Torn
 ending_at AtMemory = Refused

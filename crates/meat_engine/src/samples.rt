@@ -7,7 +7,7 @@ ghost use Rattle.journey_model.specs.Faults.{unread_input};
 ghost use Rattle.journey_model.specs.declared.faults.Fault.{Fault};
 ghost use Rattle.journey_problem.specs.FaultsBeforeSearch.{IsBeforeSearch};
 ghost use Rattle.journey_problem.specs.Problems.{HasTimetable, IsProblem, IsProblemFault};
-ghost use Rattle.journey_answers.specs.Answers.{FailsIn};
+ghost use Rattle.journey_answers.specs.Answers.{IsNoAnswer};
 ghost use Rattle.journey_report.specs.Findings.{findings_of};
 ghost use Rattle.meat_engine.specs.Refusals.{IsRefusalBy};
 ghost use Rattle.meat_engine.specs.Samples.{sample_journey, AnswersSampled, IsSampled, OverMade, AnswersSample, FailsSample};
@@ -84,7 +84,7 @@ fn sample_in(
     requires { start.0 ≡ sample_journey.start }
     ensures sampled { IfOk result (λ a.
         IsSampled size.value problem.now (findings_of a.report) a.text.items) }
-    ensures fault { IfErr result (FailsIn problem.now sample_journey.start) }
+    ensures fault { IfErr result (IsNoAnswer problem.now sample_journey.start) }
 {
     let start = Start { moment: start };
     let alpha = Percent {

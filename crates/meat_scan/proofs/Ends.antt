@@ -20,7 +20,7 @@ use Rattle.meat_scan.specs.ScanResult.{ScanResult, found_rows, leg_choice, chose
 use Rattle.meat_scan.specs.Solves.{IsSafeAt, HasAnswers, SolvesEach, IsStartAnswer, SolvesStart}
 use Rattle.meat_scan.proofs.Ways.{boards-limit_of}
 use Rattle.stop_profile.proofs.Looks.{picked_in_time}
-use Rattle.meat_scan.proofs.Claims.{IsChosen, ChosenKids, by_ride, PlaceOk}
+use Rattle.meat_scan.proofs.Claims.{IsChosen, ChosenChildren, by_ride, PlaceOk}
 use Rattle.meat_scan.proofs.Starts.{StartOk}
 use Rattle.meat_scan.proofs.ScanStep.{ScanOk}
 
@@ -52,9 +52,9 @@ module _ {V : Type 0} (n : NetworkModel) (target deadline : ℕ) (choice : ℕ �
   after_leg rides leg arrival = unfold_after n target (by_place n choice) rides leg arrival
 
   -- the ride of a leg, by what its children are
-  ride_of-kids : (enter exit : ℕ) (kids : Kids) (rides : ℕ) (leg : Leg) → leg.enter.0 ≡ enter → leg.exit.0 ≡ exit
+  ride_of-children : (enter exit : ℕ) (kids : Kids) (rides : ℕ) (leg : Leg) → leg.enter.0 ≡ enter → leg.exit.0 ≡ exit
       → kids_after (after_leg rides leg) (arr_of n exit) (outcomes n exit) ≡ kids → ride_of n (after_leg rides) leg ≡ Ride enter exit kids
-  ride_of-kids enter exit kids rides leg enters exits same = grind (arith, common_steps, nat_tests)
+  ride_of-children enter exit kids rides leg enters exits same = grind (arith, common_steps, nat_tests)
 
   mutual
     -- a chosen and safe tree of at most this many rides is what is unfolded
@@ -70,30 +70,30 @@ module _ {V : Type 0} (n : NetworkModel) (target deadline : ℕ) (choice : ℕ �
         let e : after_leg (suc rides) leg arrival ≡ ride_or_stuck n (after_leg rides) (by_place n choice leg arrival) (end_of n leg) arrival = grind (arith, nat_tests) in
         let picks : by_place n choice leg arrival ≡ Some is.1.row.leg = ap (λ p. choice p arrival) ends ∙ by_rows place arrival ∙ ap (option_map (λ row. row.leg)) is.1.is_picked in
         e ∙ ap (λ (first : Option Leg). ride_or_stuck n (after_leg rides) first (end_of n leg) arrival) picks
-        ∙ ride_of-kids enter exit kids rides is.1.row.leg is.1.enters is.1.exits
-        (kids_after-chosen kids rides is.1.row.leg (outcomes n exit) (to_of n exit) (arr_of n exit) (ap (to_of n) is.1.exits) (omega arith) safe.3 is.2)
+        ∙ ride_of-children enter exit kids rides is.1.row.leg is.1.enters is.1.exits
+        (children_after-chosen kids rides is.1.row.leg (outcomes n exit) (to_of n exit) (arr_of n exit) (ap (to_of n) is.1.exits) (omega arith) safe.3 is.2)
     unfold_after-chosen (Stuck at moment) rides leg place arrival ends low safe is = absurd is
 
-    pub kids_after-chosen : (kids : Kids) (rides : ℕ) (leg : Leg) (row : List Outcome) (place scheduled : ℕ) → end_of n leg ≡ place
-        → height_of kids ≤ rides → AreSafe n target (Some deadline) kids row place scheduled → ChosenKids n target rows kids row place scheduled
+    pub children_after-chosen : (kids : Kids) (rides : ℕ) (leg : Leg) (row : List Outcome) (place scheduled : ℕ) → end_of n leg ≡ place
+        → height_of kids ≤ rides → AreSafe n target (Some deadline) kids row place scheduled → ChosenChildren n target rows kids row place scheduled
         → kids_after (after_leg rides leg) scheduled row ≡ kids
-    kids_after-chosen Nil rides leg [] place scheduled ends low safe is = refl
-    kids_after-chosen (Kid weight tree kids) rides leg (o ∷ row) place scheduled ends low safe is =
+    children_after-chosen Nil rides leg [] place scheduled ends low safe is = refl
+    children_after-chosen (Kid weight tree kids) rides leg (o ∷ row) place scheduled ends low safe is =
         ap (λ w. Kid w (after_leg rides leg (scheduled + o.delay)) (kids_after (after_leg rides leg) scheduled row)) (sym safe.0)
         ∙ ap (λ t. Kid weight t (kids_after (after_leg rides leg) scheduled row)) (unfold_after-chosen tree rides leg place (scheduled + o.delay) ends (omega arith) safe.1 is.0)
-        ∙ ap (Kid weight tree) (kids_after-chosen kids rides leg row place scheduled ends (omega arith) safe.2 is.1)
-    kids_after-chosen Nil rides leg (o ∷ row) place scheduled ends low safe is = absurd is
-    kids_after-chosen (Kid weight tree kids) rides leg [] place scheduled ends low safe is = absurd is
+        ∙ ap (Kid weight tree) (children_after-chosen kids rides leg row place scheduled ends (omega arith) safe.2 is.1)
+    children_after-chosen Nil rides leg (o ∷ row) place scheduled ends low safe is = absurd is
+    children_after-chosen (Kid weight tree kids) rides leg [] place scheduled ends low safe is = absurd is
 
   -- the ride of a first leg from elsewhere than the target
   pub unfold_from-chosen : (enter exit : ℕ) (kids : Kids) (leg : Leg) (place arrival : ℕ) → place ≢ target → leg.enter.0 ≡ enter → leg.exit.0 ≡ exit
       → height_of kids + 1 ≤ count n → AreSafe n target (Some deadline) kids (outcomes n exit) (to_of n exit) (arr_of n exit)
-      → ChosenKids n target rows kids (outcomes n exit) (to_of n exit) (arr_of n exit)
+      → ChosenChildren n target rows kids (outcomes n exit) (to_of n exit) (arr_of n exit)
       → unfold_from n target (by_place n choice) (Some leg) place arrival ≡ Ride enter exit kids
   unfold_from-chosen enter exit kids leg place arrival away enters exits low safe is =
       let e : unfold_from n target (by_place n choice) (Some leg) place arrival ≡ ride_of n (after_leg (count n - 1)) leg = grind (arith, nat_tests) in
-      e ∙ ride_of-kids enter exit kids (count n - 1) leg enters exits
-      (kids_after-chosen kids (count n - 1) leg (outcomes n exit) (to_of n exit) (arr_of n exit) (ap (to_of n) exits) (omega arith) safe is)
+      e ∙ ride_of-children enter exit kids (count n - 1) leg enters exits
+      (children_after-chosen kids (count n - 1) leg (outcomes n exit) (to_of n exit) (arr_of n exit) (ap (to_of n) exits) (omega arith) safe is)
 
 module _ {V : Type 0} (scoring : Scoring V) (n : NetworkModel) (q : Query) (scanned : ℕ → Type 0)
     (all : (id : ℕ) → id < count n → scanned id) (differ : q.source.0 ≢ q.target.0) (found : ScanResult V) (exits : ℕ → Option (Exit V))

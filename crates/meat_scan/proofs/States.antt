@@ -16,7 +16,7 @@ use Rattle.value_laws.specs.ScoreLaws.{Scoring, ScoreLaws}
 use Rattle.stop_profile.specs.declared.Row.{Row}
 use Rattle.stop_profile.specs.Shown.{ShownProfile}
 use Rattle.trip_exit.specs.Offers.{Exit}
-use Rattle.meat_scan.specs.Step.{exits_next, rows_next, start_next, left_by, boarding_exit, exits_with, rows_with, start_with}
+use Rattle.meat_scan.specs.Step.{exits_next, rows_next, start_next, alighted_by, boarding_exit, exits_with, rows_with, start_with}
 use Rattle.meat_scan.specs.Rules.{Kept, kept_in, kept_next, kept_after, FollowsRules}
 use Rattle.meat_scan.specs.ScanTables.{rows_of_profile, spare_at, exit_at, has_way, boardable, HasRoom, HasRoomFor, IsEmpty}
 use Rattle.meat_scan.specs.ScanResult.{ScanResult, found_rows}
@@ -46,7 +46,7 @@ kept_same rows exits start = λ i. record { rows = rows i; exits = exits i; star
 -- what the steps of one connection keep
 pub kept_by : {V : Type 0} (scoring : Scoring V) (network : NetworkModel) (query : Query) (id : ConnectionId) (run : ℕ) (value : Option V) (exit : Option (Exit V))
     (profiles profiles' : List (ShownProfile V)) (exits exits' : List (Option (Exit V))) (start start' : Option (V × Leg)) → run ≡ run_of network id.0
-    → value ≡ left_by scoring network query (rows_of_profile profiles) id.0
+    → value ≡ alighted_by scoring network query (rows_of_profile profiles) id.0
     → ((other : ℕ) → exit_at exits' other ≡ exits_with scoring id run value (exit_at exits) other)
     → exit ≡ boarding_exit network id.0 (exit_at exits')
     → ((place : ℕ) → rows_of_profile profiles' place ≡ rows_with scoring network query id.0 exit (rows_of_profile profiles) place)
@@ -167,8 +167,8 @@ module _ {V : Type 0} (scoring : Scoring V) (network : NetworkModel)
     (good : IsValid network) (query : Query) (id : ℕ) (there : id < count network) (late : query.deadline.0 < dep_of network id)
     (rows : ℕ → List (Row V)) (exits : ℕ → Option (Exit V)) (no_rows : (place : ℕ) → rows place ≡ []) (no_exits : (run : ℕ) → exits run ≡ None) where
   -- no exit gives a value
-  left_none : left_by scoring network query rows id ≡ None
-  left_none =
+  alighted_none : alighted_by scoring network query rows id ≡ None
+  alighted_none =
       let row = good.rows (connection network id).class.0 (good.connections id there).class_in in
       let after : query.deadline.0 < arr_of network id = omega (arith, late, (good.connections id there).forward) in
       let none : values_after scoring.arrived query.target.0 query.deadline.0 rows (to_of network id) (arr_of network id) (outcomes network id) ≡ None =
@@ -177,10 +177,10 @@ module _ {V : Type 0} (scoring : Scoring V) (network : NetworkModel)
       rw none (cond_none (connection network id).can_exit)
 
   pub exits_kept : (run : ℕ) → exits_next scoring network query id rows exits run ≡ exits run
-  exits_kept run = rw left_none refl
+  exits_kept run = rw alighted_none refl
 
   boarded_none : boarding_exit network id (exits_next scoring network query id rows exits) ≡ None
-  boarded_none = rw (left_none, no_exits (run_of network id)) (cond_none (connection network id).can_board)
+  boarded_none = rw (alighted_none, no_exits (run_of network id)) (cond_none (connection network id).can_board)
 
   pub rows_kept : (place : ℕ) → rows_next scoring network query id rows exits place ≡ rows place
   rows_kept place = rw boarded_none refl

@@ -128,10 +128,10 @@ pub from_in : (n : NetworkModel) → IsValid n → (r k : ℕ) (way : Way) → r
 from_in n valid r k way inside is = (way_takes n valid way.from.0 r way.seconds inside (way_of-listed n valid r inside k way is)).0
 
 -- where one row for each way has room, there is room for the row of a way after those before it
-pub room_left : (n : NetworkModel) → IsValid n → (r k : ℕ) → r < length n.change → k < length (ways_into n r) → (way : Way)
+pub room_remains : (n : NetworkModel) → IsValid n → (r k : ℕ) → r < length n.change → k < length (ways_into n r) → (way : Way)
     → slice_get (ways_into n r) k ≡ Some way → (old now : ℕ) → cond (has_way n way.from.0 r) 1 0 ≤ old
     → old ≤ now + way_number (way_in (take k (ways_into n r)) way.from.0) → 1 ≤ now
-room_left n valid r k inside within way is old now room so_far =
+room_remains n valid r k inside within way is old now room so_far =
     let none : way_number (way_in (take k (ways_into n r)) way.from.0) ≡ 0 = ap way_number (none_before (ways_into n r) (ways_into-distinct n valid r inside) k within way is) in
     let one : ◌≡◌ {A = ℕ} (cond (has_way n way.from.0 r) 1 0) 1 = ap (λ b. cond b 1 0) (has_way-listed n valid r k way inside is) in
     omega (arith, none, one)

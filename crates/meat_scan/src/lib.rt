@@ -19,7 +19,7 @@ ghost use Rattle.std.specs.Option.{option_map};
 ghost use Rattle.meat_scan.specs.ScanTables.{rows_of_profile, spare_at, capacity_at, exit_at, is_boardable_by, ways_between, HasRoomFor, FitsTables, FitsTablesBy, IsEmpty};
 ghost use Rattle.meat_scan.specs.ScanResult.{choice_of, found_in};
 ghost use Rattle.meat_scan.specs.Values.{value_after_arrival, values_after};
-ghost use Rattle.meat_scan.specs.Step.{left_by, exits_with, way_of_place, with_way, rows_with, start_with};
+ghost use Rattle.meat_scan.specs.Step.{alighted_by, exits_with, way_of_place, with_way, rows_with, start_with};
 ghost use Rattle.meat_scan.specs.Step.{boarding_exit};
 ghost use Rattle.meat_scan.specs.Rules.{FollowsRules, kept_in, kept_next};
 ghost use Rattle.meat_scan.specs.Solves.{HasAnswers, Solves, SolvesStart};
@@ -60,7 +60,7 @@ fn value_after<V: Score>(
 }
 
 // Whether all outcomes are safe; then their values are the first ones of `children`.
-fn fill_kids<V: Score>(
+fn fill_children<V: Score>(
     profiles: &[Profile<V>],
     row: &[Outcome],
     place: PlaceId,
@@ -183,15 +183,15 @@ fn begin<V: Score>(
 
 // Room for the values after the outcomes of a ride, as many as a delay row may have.
 #[derive(Drop)]
-struct KidValues<V> {
+struct ChildValues<V> {
     values: Vec<V>,
     ghost many: { 64 ≤ length values.items },
 }
 
 // The value of leaving a run by a connection, if that is allowed and safe.
-fn left_value<V: Score>(profiles: &[Profile<V>], site: &Site, kids: &mut KidValues<V>) -> Option<V>
+fn alighted_value<V: Score>(profiles: &[Profile<V>], site: &Site, kids: &mut ChildValues<V>) -> Option<V>
     ensures { let rows = rows_of_profile profiles.now in
-        result ≡ left_by V.scoring site.now.network.now site.now.query.now rows site.now.id.0 }
+        result ≡ alighted_by V.scoring site.now.network.now site.now.query.now rows site.now.id.0 }
 {
     let connection = site.network.get(site.id);
     if !connection.can_exit {
@@ -199,7 +199,7 @@ fn left_value<V: Score>(profiles: &[Profile<V>], site: &Site, kids: &mut KidValu
     }
     let row = site.network.row(connection.class);
     let (to, arr) = (connection.to, connection.arr);
-    if !fill_kids(profiles, row, to, arr, site.query, &mut kids.values) {
+    if !fill_children(profiles, row, to, arr, site.query, &mut kids.values) {
         return None;
     }
     Some(V::blend(row, &kids.values[..row.len()]))
@@ -234,7 +234,7 @@ fn boarded_for<V: Score>(exits: &ExitTable<V>, site: &Site) -> Option<(V, Connec
 fn scan_one<V: Score>(
     profiles: &mut [Profile<V>],
     exits: &mut ExitTable<V>,
-    kids: &mut KidValues<V>,
+    kids: &mut ChildValues<V>,
     start: Option<(V, Leg)>,
     site: &Site,
 ) -> Option<(V, Leg)>
@@ -249,7 +249,7 @@ fn scan_one<V: Score>(
     ensures places { length profiles.new ≡ length profiles.old }
     ensures runs { length exits.new ≡ length exits.old }
 {
-    let value = left_value(profiles, site, kids);
+    let value = alighted_value(profiles, site, kids);
     leave(exits, site.network.get(site.id).run, site.id, value);
     let exit = boarded_for(exits, site);
     board(profiles, site, exit);
@@ -262,7 +262,7 @@ fn scan_one<V: Score>(
 pub struct ScanTables<V: Score> {
     profiles: Vec<Profile<V>>,
     exits: ExitTable<V>,
-    kids: KidValues<V>,
+    kids: ChildValues<V>,
 }
 
 impl<V: Score> Model for ScanTables<V> {
@@ -318,7 +318,7 @@ impl<V: Score> ScanTables<V> {
         let room = boardable_counts(alloc, network, last)?;
         let profiles = reserve_profiles(alloc, &room)?;
         let exits = ExitTable::reserve(alloc, network.runs())?;
-        let kids = reserve_kids(alloc)?;
+        let kids = reserve_children(alloc)?;
         Ok(ScanTables {
             profiles,
             exits,
@@ -378,9 +378,9 @@ fn reserve_profiles<V: Score>(alloc: Global, room: &[u32]) -> Result<Vec<Profile
 }
 
 // As many values as a delay row may have outcomes.
-fn reserve_kids<V: Score>(alloc: Global) -> Result<KidValues<V>, NoMemory> {
+fn reserve_children<V: Score>(alloc: Global) -> Result<ChildValues<V>, NoMemory> {
     let values = vec![in alloc; V::arrive(Moment(0)); 64]?;
-    Ok(KidValues { values })
+    Ok(ChildValues { values })
 }
 
 impl<V: Score> Scanned<V> {

@@ -13,7 +13,7 @@ use Rattle.file_ports.specs.declared.named.Named.{Named}
 use Rattle.memory_ports.specs.declared.memory.Failing.{Failing}
 use Rattle.file_ports.specs.Named.{value_at}
 use Rattle.memory_ports.specs.Failing.{faults_in, fails_in, SameFailing}
-use Rattle.file_ports.proofs.NamedLemmas.{at_path, none_at, place_gives_none, set_gives, searched, Stands, found, path_is, put_over, put_last}
+use Rattle.file_ports.proofs.NamedLemmas.{at_path, none_at, position_gives_none, set_gives, searched, IsEntryAt, found, path_is, put_over, put_last}
 
 -- an entry with a new path is at the end
 pub push_stands : {T : Type 0} (es : List (Named T)) (q : List ℕ) (w : Named T) → string_bytes w.path ≡ q → position (at_path q) es ≡ None
@@ -34,9 +34,9 @@ names_of call o = unwrap_or (option_map (λ (x : Failing). list_any (λ c. nat_e
 
 pub fails_none : (es lent : List (Named Failing)) (q : List ℕ) (call : ℕ) (r : Option ℕ) → r ≡ position (at_path q) lent → lent ≡ es → r ≡ None
     → false ≡ fails_in es q call
-fails_none es lent q call r a b k = sym (ap (names_of call) (place_gives_none es q (searched es lent q r None a b k)))
+fails_none es lent q call r a b k = sym (ap (names_of call) (position_gives_none es q (searched es lent q r None a b k)))
 
-pub fails_found : (es : List (Named Failing)) (q : List ℕ) (call i : ℕ) (e : Named Failing) (b : Bool) → Stands es q i e
+pub fails_found : (es : List (Named Failing)) (q : List ℕ) (call i : ℕ) (e : Named Failing) (b : Bool) → IsEntryAt es q i e
     → b ≡ list_any (λ c. nat_eq c call) e.value.calls.items → b ≡ fails_in es q call
 fails_found es q call i e b s h = h ∙ sym (ap (names_of call) (found es q i e s))
 
@@ -44,11 +44,11 @@ fails_found es q call i e b s h = h ∙ sym (ap (names_of call) (found es q i e 
 abbrev pub counted : Named Failing → ℕ → Named Failing
 counted e n = record { path = e.path; value = record { calls = e.value.calls; faults = n } }
 
-set_value : (es : List (Named Failing)) (q p : List ℕ) (i n : ℕ) (e : Named Failing) → Stands es q i e
+set_value : (es : List (Named Failing)) (q p : List ℕ) (i n : ℕ) (e : Named Failing) → IsEntryAt es q i e
     → value_at (set es i (counted e n)) p ≡ if◌then◌else◌ (bytes_eq q p) (Some (counted e n).value) (value_at es p)
-set_value es q p i n e s = set_gives es q p i (counted e n) s.place (path_is es q i e s)
+set_value es q p i n e s = set_gives es q p i (counted e n) s.position_is (path_is es q i e s)
 
-pub count_here : (es : List (Named Failing)) (q : List ℕ) (i n : ℕ) (e : Named Failing) → Stands es q i e → n ≡ min (e.value.faults + 1) (2 ^ 64 - 1)
+pub count_here : (es : List (Named Failing)) (q : List ℕ) (i n : ℕ) (e : Named Failing) → IsEntryAt es q i e → n ≡ min (e.value.faults + 1) (2 ^ 64 - 1)
     → faults_in (set es i (counted e n)) q ≡ min (faults_in es q + 1) (2 ^ 64 - 1)
 count_here es q i n e s h =
     let k : bytes_eq q q ≡ true = (bytes_eq-Decides q q).1 refl in
@@ -63,18 +63,18 @@ same_by f es q p x h =
     cond_both (bytes_eq q p) (Some x) (value_at es p) (λ o. f o ≡ f (value_at es p)) (λ e. h
     ∙ ap (λ z. f (value_at es z)) ((bytes_eq-Decides q p).0 e)) (λ e. refl)
 
-pub count_elsewhere : (es : List (Named Failing)) (q p : List ℕ) (i n : ℕ) (e : Named Failing) → Stands es q i e → p ≢ q
+pub count_elsewhere : (es : List (Named Failing)) (q p : List ℕ) (i n : ℕ) (e : Named Failing) → IsEntryAt es q i e → p ≢ q
     → faults_in (set es i (counted e n)) p ≡ faults_in es p
 count_elsewhere es q p i n e s ne =
     let other : bytes_eq q p ≡ false = false_from_ne_true (bytes_eq q p) (λ same. ne (sym ((bytes_eq-Decides q p).0 same))) in
     ap count_of (set_value es q p i n e s ∙ ap (λ b. if◌then◌else◌ b (Some (counted e n).value) (value_at es p)) other)
 
-pub names_stay : (es : List (Named Failing)) (q p : List ℕ) (call i n : ℕ) (e : Named Failing) → Stands es q i e
+pub names_stay : (es : List (Named Failing)) (q p : List ℕ) (call i n : ℕ) (e : Named Failing) → IsEntryAt es q i e
     → fails_in (set es i (counted e n)) p call ≡ fails_in es p call
 names_stay es q p call i n e s = ap (names_of call) (set_value es q p i n e s) ∙ same_by (names_of call) es q p (counted e n).value (ap (names_of call) (sym
     (found es q i e s)))
 
-pub count_later : (es : List (Named Failing)) (q p : List ℕ) (i n : ℕ) (e : Named Failing) → Stands es q i e → e.value.faults ≤ n
+pub count_later : (es : List (Named Failing)) (q p : List ℕ) (i n : ℕ) (e : Named Failing) → IsEntryAt es q i e → e.value.faults ≤ n
     → faults_in es p ≤ faults_in (set es i (counted e n)) p
 count_later es q p i n e s h = rw (set_value es q p i n e s) (
     cond_both (bytes_eq q p) (Some (counted e n).value) (value_at es p) (λ o. faults_in es p ≤ count_of o)
@@ -86,7 +86,7 @@ count_later es q p i n e s h = rw (set_value es q p i n e s) (
 abbrev pub recalled : Named Failing → Vec ℕ Global → Named Failing
 recalled e calls = record { path = e.path; value = record { calls = calls; faults = e.value.faults } }
 
-pub recalled_count : (es : List (Named Failing)) (q p : List ℕ) (i : ℕ) (calls : Vec ℕ Global) (e : Named Failing) → Stands es q i e
+pub recalled_count : (es : List (Named Failing)) (q p : List ℕ) (i : ℕ) (calls : Vec ℕ Global) (e : Named Failing) → IsEntryAt es q i e
     → faults_in (set es i (recalled e calls)) p ≡ faults_in es p
 recalled_count es q p i calls e s =
     ap count_of (put_over es q p i (recalled e calls).value e s) ∙ same_by count_of es q p (recalled e calls).value (ap count_of (sym (found es q i e s)))
@@ -103,7 +103,7 @@ one_more xs ys call k h =
     ap (λ zs. list_any (λ c. nat_eq c k) zs) h ∙ list_any-append (λ c. nat_eq c k) xs (call ∷ [])
     ∙ ap (λ b. list_any (λ c. nat_eq c k) xs || b) (or-false (nat_eq call k))
 
-pub recalled_more : (es : List (Named Failing)) (q p : List ℕ) (i call k : ℕ) (calls : Vec ℕ Global) (e : Named Failing) → Stands es q i e
+pub recalled_more : (es : List (Named Failing)) (q p : List ℕ) (i call k : ℕ) (calls : Vec ℕ Global) (e : Named Failing) → IsEntryAt es q i e
     → calls.items ≡ e.value.calls.items ++ call ∷ []
     → fails_in (set es i (recalled e calls)) p k ≡ (fails_in es p k || (bytes_eq q p && nat_eq call k))
 recalled_more es q p i call k calls e s h =
@@ -111,7 +111,7 @@ recalled_more es q p i call k calls e s h =
     ∙ more_cases es q p call k (recalled e calls).value
     (one_more e.value.calls.items calls.items call k h ∙ ap (λ o. names_of k o || nat_eq call k) (sym (found es q i e s))) (bytes_eq q p) refl
 
-pub recalled_same : (es : List (Named Failing)) (q p : List ℕ) (i k : ℕ) (calls : Vec ℕ Global) (e : Named Failing) → Stands es q i e
+pub recalled_same : (es : List (Named Failing)) (q p : List ℕ) (i k : ℕ) (calls : Vec ℕ Global) (e : Named Failing) → IsEntryAt es q i e
     → calls.items ≡ e.value.calls.items → fails_in (set es i (recalled e calls)) p k ≡ fails_in es p k
 recalled_same es q p i k calls e s h =
     ap (names_of k) (put_over es q p i (recalled e calls).value e s)
@@ -121,7 +121,7 @@ recalled_same es q p i k calls e s h =
 pub fresh_counter : (es lent new : List (Named Failing)) (q : List ℕ) (w : Named Failing) (r : Option ℕ) → r ≡ position (at_path q) lent → lent ≡ es → r ≡ None
     → string_bytes w.path ≡ q → w.value.faults ≡ 0 → w.value.calls.items ≡ [] → new ≡ es ++ w ∷ [] → SameFailing es new
 fresh_counter es lent new q w r a b n path zero_faults no_calls h =
-    let none : value_at es q ≡ None = place_gives_none es q (searched es lent q r None a b n) in record {
+    let none : value_at es q ≡ None = position_gives_none es q (searched es lent q r None a b n) in record {
       fails = λ p k. ap (names_of k) (put_last es lent new q p w r a b n path h)
           ∙ same_by (names_of k) es q p w.value (ap (λ (xs : List ℕ). list_any (λ c. nat_eq c k) xs) no_calls ∙ ap (names_of k) (sym none));
       counts = λ p. ap count_of (put_last es lent new q p w r a b n path h) ∙ same_by count_of es q p w.value (zero_faults ∙ sym (ap count_of none));

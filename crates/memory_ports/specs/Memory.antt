@@ -2,7 +2,7 @@
 use Rattle.std.specs.Prelude.{◌≡◌, ℕ, List, Bool, ◌||◌, ◌&&◌, Option, Some, bytes_eq, nat_eq}
 use Rattle.file_ports.specs.Ports.{FileMap, FilesState}
 use Rattle.memory_ports.specs.Failing.{faults_in, fails_in}
-use Rattle.file_ports.specs.Steady.{folder_of as steady_folder, hand_of as steady_hand, left_of as steady_left, piece_of as steady_piece, SameFiles as SameSteadily}
+use Rattle.file_ports.specs.Steady.{folder_of as steady_folder, open_of as steady_open, remaining_of as steady_remaining, piece_of as steady_piece, SameFiles as SameSteadily}
 use Rattle.memory_ports.specs.declared.memory.MemoryFiles.{MemoryFiles}
 
 -- the files by their paths
@@ -10,12 +10,12 @@ abbrev pub folder_of : MemoryFiles → FileMap
 folder_of f = steady_folder f.steady
 
 -- the path of the open file
-abbrev pub hand_of : MemoryFiles → Option (List ℕ)
-hand_of f = steady_hand f.steady
+abbrev pub open_of : MemoryFiles → Option (List ℕ)
+open_of f = steady_open f.steady
 
 -- what is unread of it
-abbrev pub left_of : MemoryFiles → Option (List ℕ)
-left_of f = steady_left f.steady
+abbrev pub remaining_of : MemoryFiles → Option (List ℕ)
+remaining_of f = steady_remaining f.steady
 
 -- the most that a read gives
 abbrev pub piece_of : MemoryFiles → ℕ
@@ -35,7 +35,7 @@ total_faults f = f.faults
 
 -- all of their meaning
 abbrev pub state_of : MemoryFiles → FilesState
-state_of f = record { files = Some (folder_of f); in_hand = hand_of f; left = left_of f; faults = total_faults f; faults_of = faults_at f }
+state_of f = record { files = Some (folder_of f); in_hand = open_of f; left = remaining_of f; faults = total_faults f; faults_of = faults_at f }
 
 -- this call on this path fails: call 0 opens it, and call k is the k-th read since then
 abbrev pub fails_at : MemoryFiles → List ℕ → ℕ → Bool

@@ -46,7 +46,7 @@ fn count_fault(failing: &mut Vec<Named<Failing>>, path: &str, call: u64) -> bool
 
 /// The index of this path's counter, which is made if there is none.
 fn counter(alloc: Global, failing: &mut Vec<Named<Failing>>, path: &str) -> Result<usize, NoMemory>
-    ensures place { IfOk result (λ i. position
+    ensures index { IfOk result (λ i. position
         (λ e. bytes_eq (string_bytes e.path) path.now) failing.new.items
         ≡ Some i) }
     ensures same { SameFailures failing.old.items failing.new.items }
@@ -88,14 +88,14 @@ pub struct MemoryFiles {
 impl MemoryFiles {
     ghost use Rattle.std.specs.Prelude.{[], None};
     ghost use Rattle.file_ports.specs.Steady.{PutsFile};
-    ghost use Rattle.memory_ports.specs.Memory.{folder_of, faults_at, fails_at, hand_of, reads_of, piece_of, total_faults, FailsToo, FailsAlike, SameFiles, SameFailing};
+    ghost use Rattle.memory_ports.specs.Memory.{folder_of, faults_at, fails_at, open_of, reads_of, piece_of, total_faults, FailsToo, FailsAlike, SameFiles, SameFailing};
 
     /// No files. A read gives at most `piece` bytes. It takes no memory.
     pub fn new(alloc: Global, piece: usize) -> MemoryFiles
         requires { 0 < piece }
         ensures files { folder_of result ≡ [] }
         ensures piece { piece_of result ≡ piece }
-        ensures hand { hand_of result ≡ None }
+        ensures closed { open_of result ≡ None }
         ensures reads { reads_of result ≡ 0 }
         ensures faults { total_faults result ≡ 0 }
         ensures counts { (path : List ℕ) → faults_at result path ≡ 0 }
@@ -113,7 +113,7 @@ impl MemoryFiles {
     /// The path now holds these bytes, and no file is open. Without memory nothing changes.
     pub fn add(&mut self, path: &str, bytes: &[u8]) -> Result<(), NoMemory>
         ensures ok { OnOk result (PutsFile (folder_of self.old) (folder_of self.new) path.now bytes.now) }
-        ensures hand { OnOk result (hand_of self.new ≡ None) }
+        ensures closed { OnOk result (open_of self.new ≡ None) }
         ensures err { OnErr result (SameFiles self.old self.new) }
         ensures failing { SameFailing self.old self.new }
         ensures piece { piece_of self.new ≡ piece_of self.old }
@@ -160,7 +160,7 @@ impl MemoryFiles {
 impl Files for MemoryFiles {
     ghost use Rattle.std.specs.Prelude.{IsSome, IfSome, IfOk, is_err};
     ghost use Rattle.file_ports.specs.Counts.{RoseByOne, OpensPath, ReadsOpenFile};
-    ghost use Rattle.memory_ports.specs.Memory.{faults_at, fails_at, hand_of, left_of, piece_of, reads_of, state_of, total_faults, FailsAlike};
+    ghost use Rattle.memory_ports.specs.Memory.{faults_at, fails_at, open_of, remaining_of, piece_of, reads_of, state_of, total_faults, FailsAlike};
 
     ghost state = { state_of };
 
@@ -187,13 +187,13 @@ impl Files for MemoryFiles {
         requires in_hand { IsSome (state_of self.old).in_hand }
         requires room { 0 < length buffer.old }
         ensures reads { ReadsOpenFile (state_of self.old) (state_of self.new) buffer.new result }
-        ensures fails { IfSome (hand_of self.old) (λ path.
+        ensures fails { IfSome (open_of self.old) (λ path.
             is_err result ≡ fails_at self.old path (reads_of self.new)) }
         ensures one { OnErr result (RoseByOne (total_faults self.old) (total_faults self.new)) }
-        ensures one_at_path { OnErr result (IfSome (hand_of self.old) (λ path.
+        ensures one_at_path { OnErr result (IfSome (open_of self.old) (λ path.
             RoseByOne (faults_at self.old path) (faults_at self.new path))) }
-        ensures count { IfOk result (λ n. IfSome (left_of self.old) (λ left.
-            n ≡ min (min (piece_of self.old) (length buffer.old)) (length left))) }
+        ensures count { IfOk result (λ n. IfSome (remaining_of self.old) (λ rest.
+            n ≡ min (min (piece_of self.old) (length buffer.old)) (length rest))) }
         ensures one_more { reads_of self.new ≡ min (reads_of self.old + 1) (2 ^ 64 - 1) }
         ensures piece { piece_of self.new ≡ piece_of self.old }
         ensures failing { FailsAlike self.old self.new }

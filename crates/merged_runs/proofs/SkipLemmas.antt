@@ -45,8 +45,8 @@ DepartsInOrder-run n v starts remaining s r h i j from up to =
     (λ ge. let e : i ≡ j = omega arith in omega (arith, ap (λ (k : ℕ). dep_of n k) e))
     (cases_lt i j)
 
-pub left_within : (n : NetworkModel) (starts remaining : List ℕ) → AreStretches n starts remaining → (r : ℕ) → r < length remaining → get_or remaining r 0 ≤ count n
-left_within n starts remaining s r h = let next = s.begin.each (r + 1) (omega (arith, s.size)) in omega (arith, (s.within r h).1, next.within)
+pub remaining_within : (n : NetworkModel) (starts remaining : List ℕ) → AreStretches n starts remaining → (r : ℕ) → r < length remaining → get_or remaining r 0 ≤ count n
+remaining_within n starts remaining s r h = let next = s.begin.each (r + 1) (omega (arith, s.size)) in omega (arith, (s.within r h).1, next.within)
 
 -- where the last one departs in time, all do
 pub IsParted-whole : (n : NetworkModel) (last from to : ℕ) → from ≤ to → DepartsInOrder n from to → (from < to → dep_of n (to - 1) ≤ last) → IsParted n last from to to to
@@ -76,8 +76,8 @@ module _ (n : NetworkModel) (last : ℕ) (starts remaining : List ℕ) where
 same_tests : (i old new last dep : ℕ) → i < old → (i < new → dep ≤ last) → (new ≤ i → last < dep) → ltb i new ≡ cond (ltb last dep) false (ltb i old)
 same_tests i old new last dep before soon late = grind (arith, nat_tests)
 
-none_left : (i old new : ℕ) (late : Bool) → old ≤ i → new ≤ old → ltb i new ≡ cond late false (ltb i old)
-none_left i old new late past less = grind (arith, nat_tests)
+none_remain : (i old new : ℕ) (late : Bool) → old ≤ i → new ≤ old → ltb i new ≡ cond late false (ltb i old)
+none_remain i old new late past less = grind (arith, nat_tests)
 
 when_true : (last dep : ℕ) (b : Bool) → cond (ltb last dep) b false ≡ true → last < dep
 when_true last dep b passes = grind (arith, nat_tests)

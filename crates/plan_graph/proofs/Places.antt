@@ -19,20 +19,20 @@ pub record IsPlacedNext (n : NetworkModel) (target : ℕ) (by : Option ℕ) (cho
   pub placed : StandsSafely n target by choice whole next
 
 module _ (n : NetworkModel) (target : ℕ) (by : Option ℕ) (choice : Leg → ℕ → Option Leg) where
-  pub safe_kid : (f : ℕ → Tree) (row : List Outcome) (place scheduled : ℕ) → AreSafe n target by (kids_after f scheduled row) row place scheduled
+  pub safe_child : (f : ℕ → Tree) (row : List Outcome) (place scheduled : ℕ) → AreSafe n target by (kids_after f scheduled row) row place scheduled
       → (o : Outcome) → Contains row o → IsSafe n target by (f (scheduled + o.delay)) place (scheduled + o.delay)
-  safe_kid f [] place scheduled safe o has = absurd (Contains-nil o has)
-  safe_kid f (head ∷ row) place scheduled safe o has = elim (Contains-cons_cases head row o has) [
+  safe_child f [] place scheduled safe o has = absurd (Contains-nil o has)
+  safe_child f (head ∷ row) place scheduled safe o has = elim (Contains-cons_cases head row o has) [
     | inl is ↦ subst (λ (u : Outcome). IsSafe n target by (f (scheduled + u.delay)) place (scheduled + u.delay)) is safe.1
-    | inr more ↦ safe_kid f row place scheduled safe.2 o more
+    | inr more ↦ safe_child f row place scheduled safe.2 o more
   ]
 
-  pub stands_kid : (f : ℕ → Tree) (row : List Outcome) (scheduled : ℕ) (other : Leg) (o : Outcome) → Contains row o → Stands other (f (scheduled + o.delay))
+  pub stands_child : (f : ℕ → Tree) (row : List Outcome) (scheduled : ℕ) (other : Leg) (o : Outcome) → Contains row o → Stands other (f (scheduled + o.delay))
       → StandsIn other (kids_after f scheduled row)
-  stands_kid f [] scheduled other o has stands = absurd (Contains-nil o has)
-  stands_kid f (head ∷ row) scheduled other o has stands = elim (Contains-cons_cases head row o has) [
+  stands_child f [] scheduled other o has stands = absurd (Contains-nil o has)
+  stands_child f (head ∷ row) scheduled other o has stands = elim (Contains-cons_cases head row o has) [
     | inl is ↦ inl (subst (λ (u : Outcome). Stands other (f (scheduled + u.delay))) (sym is) stands)
-    | inr more ↦ inr (stands_kid f row scheduled other o more stands)
+    | inr more ↦ inr (stands_child f row scheduled other o more stands)
   ]
 
   next_by : (whole : Tree) (rides : ℕ) (leg : Leg) (arrival : ℕ) (found : Option Leg) → choice leg arrival ≡ found
@@ -66,5 +66,5 @@ module _ (n : NetworkModel) (target : ℕ) (by : Option ℕ) (choice : Leg → �
   next_after whole leg placed away o has =
       let f = unfold_after n target choice placed.rides leg in
       next_at whole placed.rides leg (arrival_of n leg o.delay) away
-      (safe_kid f (outcomes_of n leg) (end_of n leg) (arr_of n leg.exit.0) placed.safe o has)
-      (λ other there. placed.below other (stands_kid f (outcomes_of n leg) (arr_of n leg.exit.0) other o has there))
+      (safe_child f (outcomes_of n leg) (end_of n leg) (arr_of n leg.exit.0) placed.safe o has)
+      (λ other there. placed.below other (stands_child f (outcomes_of n leg) (arr_of n leg.exit.0) other o has there))

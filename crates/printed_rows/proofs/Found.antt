@@ -10,7 +10,7 @@ use Rattle.plan_model.specs.NetworkModel.{NetworkModel}
 use Rattle.plan_model.specs.Network.{IsValid, count, no_connection, run_of, step_of}
 use Rattle.plan_model.specs.Search.{connection_at}
 use Rattle.plan_model.proofs.Searches.{connection_is}
-use Rattle.text_index.proofs.Numbers.{place_found, place_none, false_if}
+use Rattle.text_index.proofs.Numbers.{position_found, position_none, false_if}
 use Rattle.printed_rows.specs.Fields.{connection_of}
 
 -- where an index was found, the test holds
@@ -40,11 +40,11 @@ pub connection_number : (n : NetworkModel) → IsValid n → (run step : ℕ) (f
     → IfSome found (λ id. (id.0 < count n) × (run_of n id.0 ≡ run) × (step_of n id.0 ≡ step))
     → IfNone found ((i : ℕ) → i < count n → run_of n i ≡ run → step_of n i ≡ step → ⊥) → option_map (λ id. id.0) found ≡ connection_of n run step
 connection_number n valid run step None there none =
-    sym (place_none (is_at run step) n.connections 0 no_connection (λ k within. false_if (is_at run step (connection_at n.connections k)) (λ is.
+    sym (position_none (is_at run step) n.connections 0 no_connection (λ k within. false_if (is_at run step (connection_at n.connections k)) (λ is.
     let both = at_both run step (connection_at n.connections k) is in
     none k within (ap (λ (c : Connection). c.run.0) (sym (connection_is n k)) ∙ both.0) (ap (λ (c : Connection). c.step) (sym (connection_is n k)) ∙ both.1))))
 connection_number n valid run step (Some id) there none =
-    sym (ap (λ (k : ℕ). Some k) (let e : 0 + id.0 ≡ id.0 = omega arith in e)) ∙ sym (place_found (is_at run step) n.connections 0 id.0 no_connection
+    sym (ap (λ (k : ℕ). Some k) (let e : 0 + id.0 ≡ id.0 = omega arith in e)) ∙ sym (position_found (is_at run step) n.connections 0 id.0 no_connection
     (λ k less. false_if (is_at run step (connection_at n.connections k)) (λ is.
     let both = at_both run step (connection_at n.connections k) is in
     earlier k less (ap (λ (c : Connection). c.run.0) (sym (connection_is n k)) ∙ both.0) (ap (λ (c : Connection). c.step) (sym (connection_is n k)) ∙ both.1)))

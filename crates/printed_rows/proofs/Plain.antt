@@ -16,7 +16,7 @@ use Rattle.plan_model.specs.NameLists.{AreDistinct, IsTrimmed}
 use Rattle.csv_rows.specs.Spaces.{trimmed_text}
 use Rattle.csv_rows.proofs.SpaceLemmas.{trimmed_text-IsTrimmed}
 use Rattle.printed_rows.specs.Fields.{number_of, whole_at}
-use Rattle.text_index.proofs.Numbers.{place_found, false_if, with_utf8}
+use Rattle.text_index.proofs.Numbers.{position_found, false_if, with_utf8}
 
 -- each byte is above the space
 abbrev is_plain : List ℕ → Bool
@@ -92,7 +92,7 @@ whole_back n below =
 pub name_back : (names : List (List ℕ)) (i : ℕ) → AreDistinct names → All IsUtf8 names → i < length names → number_of names (slice_index_or names i []) ≡ Some i
 name_back names i distinct texts within =
     with_utf8 (slice_index_or names i []) names (texts i [] within)
-    ∙ place_found (λ name. bytes_eq name (slice_index_or names i [])) names 0 i []
+    ∙ position_found (λ name. bytes_eq name (slice_index_or names i [])) names 0 i []
     (λ k less. false_if (bytes_eq (slice_index_or names k []) (slice_index_or names i []))
     (λ same. distinct k i less within ((bytes_decides (slice_index_or names k []) (slice_index_or names i [])).0 same)))
     within ((bytes_decides (slice_index_or names i []) (slice_index_or names i [])).1 refl)

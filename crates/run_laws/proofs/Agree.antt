@@ -10,24 +10,24 @@ use Rattle.plan_model.specs.Strategy.{IsSafe, IsSafeFromStart, AreSafe}
 use Rattle.plan_model.specs.Unfold.{end_of, arrival_of, outcomes_of, kids_after, ride_of, ride_or_stuck, unfold_after, unfold_from}
 use Rattle.plan_graph.specs.Ready.{Stands, StandsIn}
 use Rattle.plan_graph.proofs.Searches.{same_leg}
-use Rattle.plan_graph.proofs.Places.{safe_kid}
+use Rattle.plan_graph.proofs.Places.{safe_child}
 use Rattle.plan_model.proofs.Lists.{Contains-nil, Contains-head, Contains-tail, Contains-cons_cases}
 
 abbrev first_tree : Tree → Kids → Tree
 first_tree else Nil = else
 first_tree else (Kid weight tree others) = tree
 
-abbrev other_kids : Kids → Kids
-other_kids Nil = Nil
-other_kids (Kid weight tree others) = others
+abbrev other_children : Kids → Kids
+other_children Nil = Nil
+other_children (Kid weight tree others) = others
 
 -- children that are the same are so one by one
-kid_same : (f g : ℕ → Tree) (row : List Outcome) (scheduled : ℕ) → kids_after f scheduled row ≡ kids_after g scheduled row → (o : Outcome) → Contains row o
+child_same : (f g : ℕ → Tree) (row : List Outcome) (scheduled : ℕ) → kids_after f scheduled row ≡ kids_after g scheduled row → (o : Outcome) → Contains row o
     → f (scheduled + o.delay) ≡ g (scheduled + o.delay)
-kid_same f g [] scheduled same o has = absurd (Contains-nil o has)
-kid_same f g (head ∷ row) scheduled same o has = elim (Contains-cons_cases head row o has) [
+child_same f g [] scheduled same o has = absurd (Contains-nil o has)
+child_same f g (head ∷ row) scheduled same o has = elim (Contains-cons_cases head row o has) [
   | inl is ↦ subst (λ (u : Outcome). f (scheduled + u.delay) ≡ g (scheduled + u.delay)) is (ap (first_tree (Done 0)) same)
-  | inr more ↦ kid_same f g row scheduled (ap other_kids same) o more
+  | inr more ↦ child_same f g row scheduled (ap other_children same) o more
 ]
 
 -- what is in the children is in the tree after an outcome
@@ -49,10 +49,10 @@ exit_of (Done moment) = 0
 exit_of (Ride i j kids) = j
 exit_of (Stuck place moment) = 0
 
-abbrev kids_in : Tree → Kids
-kids_in (Done moment) = Nil
-kids_in (Ride i j kids) = kids
-kids_in (Stuck place moment) = Nil
+abbrev children_in : Tree → Kids
+children_in (Done moment) = Nil
+children_in (Ride i j kids) = kids
+children_in (Stuck place moment) = Nil
 
 -- the first rides of one tree are of one leg
 one_leg : (n : NetworkModel) (f g : Leg → ℕ → Tree) (a b : Option Leg) (place x : ℕ) → ride_or_stuck n f a place x ≡ ride_or_stuck n g b place x → a ≡ b
@@ -88,15 +88,15 @@ module _ (n : NetworkModel) (target : ℕ) (c d : Leg → ℕ → Option Leg) wh
     agree_ride rides over leg same safe other stands =
         let f = unfold_after n target c rides leg in
         let g = unfold_after n target d rides leg in
-        let kid : (o : Outcome) → Contains (outcomes_of n leg) o → f (arrival_of n leg o.delay) ≡ g (arrival_of n leg o.delay)
-        = kid_same f g (outcomes_of n leg) (arr_of n leg.exit.0) (ap kids_in same) in
-        let kid_safe = safe_kid n target by c f (outcomes_of n leg) (end_of n leg) (arr_of n leg.exit.0) safe in
+        let child : (o : Outcome) → Contains (outcomes_of n leg) o → f (arrival_of n leg o.delay) ≡ g (arrival_of n leg o.delay)
+        = child_same f g (outcomes_of n leg) (arr_of n leg.exit.0) (ap children_in same) in
+        let child_safe = safe_child n target by c f (outcomes_of n leg) (end_of n leg) (arr_of n leg.exit.0) safe in
         elim stands [
           | inl is ↦ subst Agrees (sym (same_leg other leg is.0 is.1))
-              (λ away o has. next_same rides leg (arrival_of n leg o.delay) away (kid o has) (kid_safe o has))
+              (λ away o has. next_same rides leg (arrival_of n leg o.delay) away (child o has) (child_safe o has))
           | inr below ↦
               let found = stands_after f (outcomes_of n leg) (arr_of n leg.exit.0) other below in
-              over leg (arrival_of n leg found.0.delay) (kid found.0 found.1) (kid_safe found.0 found.1) other found.2
+              over leg (arrival_of n leg found.0.delay) (child found.0 found.1) (child_safe found.0 found.1) other found.2
         ]
 
     agree_by : (rides : ℕ) → AgreeOver rides → (a b : Option Leg) (place x : ℕ)

@@ -270,7 +270,7 @@ module _ (limits : Limits) (r s : RunModel) (first : IsRunWithin limits r) (seco
       or_nine s (by_worst w.p j.start until worst s.report.status.0 least) (second_ends files j (Safe alpha) (Latest until) both w.p w.is_problem)
 
   within : CertificateIsWithin limits r s
-  within files j alpha p query bounds proof v both well is query_is bounds_is proof_is least =
+  within files j alpha p query bounds proof v both well is query_is bounds_is certificate_is least =
       let plans = first_over files j (Plan alpha) (Certify alpha) both p is (of_first files j (Plan alpha) (Certify alpha) both well.first) in
       let other = of_second files j (Plan alpha) (Certify alpha) both well.second in
       let (q, worst, asked, (graph, span, found, planned, reported, reads)) = plans in
@@ -278,8 +278,8 @@ module _ (limits : Limits) (r s : RunModel) (first : IsRunWithin limits r) (seco
       let one = in_one_query p j.start alpha (AnswersCertify p (findings_of s.report) other.text) q t worst w asked also certificate in
       let same_query = one_some q query r.report.query (ap (λ (f : Findings). f.query) found) query_is in
       let same_bounds = one_some span bounds r.report.bounds (ap (λ (f : Findings). f.bounds) found) bounds_is in
-      let same_proof = one_some one.proof proof s.report.proof (ap (λ (f : Findings). f.proof) one.found_is) proof_is in
-      value_within p.timetable.network query graph bounds proof.values v (rw (sym same_query, sym same_bounds) planned) (rw (sym same_query, sym same_proof) one.best) least
+      let same_certificate = one_some one.proof proof s.report.proof (ap (λ (f : Findings). f.proof) one.found_is) certificate_is in
+      value_within p.timetable.network query graph bounds proof.values v (rw (sym same_query, sym same_bounds) planned) (rw (sym same_query, sym same_certificate) one.best) least
 
   strategy : ShareStrategy limits r s
   strategy files j alpha p query rides places bounds others both well is query_is rides_is places_is bounds_is others_is =

@@ -34,7 +34,7 @@ use Rattle.journey_problem.specs.CertificateFiles.{FailsText, FailsFile, FailsCe
 use Rattle.journey_answers.specs.Answers.{IsNoSafe}
 use Rattle.meat_engine.specs.Asks.{AnswersAsk, FailsAsk, FailsCheck, FailsReplay, FailsScore}
 use Rattle.run_laws.proofs.FirstFaults.{NotRead}
-use Rattle.run_laws.proofs.OneFile.{one_err, never_both, read_graph, in_graph, read_bytes, Reads, in_proof}
+use Rattle.run_laws.proofs.OneFile.{one_err, never_both, read_graph, in_graph, read_bytes, Reads, in_certificate}
 use Rattle.run_laws.proofs.Queries.{not_none}
 
 -- ---- of two failures one is first
@@ -141,8 +141,8 @@ module _ (p : Problem) (files : FileMap) (limits : Limits) (start : ℕ) where
 
     -- ---- certificate files
 
-    proof_fault : (fault : Fault) → NotRead fault → FailsCertificate (Some files) limits start path p fault → FailsFile p start bytes_read fault
-    proof_fault fault never fails = subst (λ (u : Option Input). FailsFile p start (bytes_of limits.bytes input.Proof u (file_at files path)) fault) (none_unread fault never) fails.1
+    certificate_fault : (fault : Fault) → NotRead fault → FailsCertificate (Some files) limits start path p fault → FailsFile p start bytes_read fault
+    certificate_fault fault never fails = subst (λ (u : Option Input). FailsFile p start (bytes_of limits.bytes input.Proof u (file_at files path)) fault) (none_unread fault never) fails.1
 
     free : (text : List ℕ) (first : ProofFault) → (first ≡ NoRoom → ⊥) → ◌≢◌ {A = Result (Query × LowerBounds) ProofFault} (Err first) (Err NoRoom)
     free text first some is = some (cc)
@@ -160,35 +160,35 @@ module _ (p : Problem) (files : FileMap) (limits : Limits) (start : ℕ) where
     one_file_fault (Err first) a b is also = is ∙ sym also
 
     -- a text with a fault has no certificate
-    text_or_fault : (r : Result (List ℕ) Fault) (text : List ℕ) (q : Query) (proof : LowerBounds) (a : Fault) → r ≡ Ok text → Reported text (Ok (q, proof)) → FailsFile p start r a → ⊥
-    text_or_fault (Ok other) text q proof a there reported (first, is, late) =
+    text_or_fault : (r : Result (List ℕ) Fault) (text : List ℕ) (q : Query) (certificate : LowerBounds) (a : Fault) → r ≡ Ok text → Reported text (Ok (q, certificate)) → FailsFile p start r a → ⊥
+    text_or_fault (Ok other) text q certificate a there reported (first, is, late) =
         let same : other ≡ text = cc in
         let never = never_memory p.timetable.network p.timetable.names p.source.0 p.target.0 start (table_of other) first late in
-        let both = read_once p.timetable.network p.timetable.names p.source.0 p.target.0 start other (Ok (q, proof)) (Err first) (subst (λ (t : List ℕ). Reported t (Ok (q, proof))) (sym same) reported) (inr late)
+        let both = read_once p.timetable.network p.timetable.names p.source.0 p.target.0 start other (Ok (q, certificate)) (Err first) (subst (λ (t : List ℕ). Reported t (Ok (q, certificate))) (sym same) reported) (inr late)
         (λ e. cc) (free other first never) in
         cc
-    text_or_fault (Err e) text q proof a there reported fails = cc
+    text_or_fault (Err e) text q certificate a there reported fails = cc
 
-    of_proof : (P : Query → LowerBounds → Type 0) (a : Fault) → NotRead a → FailsCertificate (Some files) limits start path p a → InCertificateFile (Some files) limits start path p P → ⊥
-    of_proof P a m fails (q, proof, is, holds) = text_or_fault bytes_read is.text q proof a is.reads is.reports (proof_fault a m fails)
+    of_certificate : (P : Query → LowerBounds → Type 0) (a : Fault) → NotRead a → FailsCertificate (Some files) limits start path p a → InCertificateFile (Some files) limits start path p P → ⊥
+    of_certificate P a m fails (q, certificate, is, holds) = text_or_fault bytes_read is.text q certificate a is.reads is.reports (certificate_fault a m fails)
 
-    one_broken : (a b : Fault) (q : Query) (proof : LowerBounds) → IsBroken p a q proof → IsBroken p b q proof → a ≡ b
-    one_broken a b q proof (c, is, last) (d, also, other) =
-        let same : c.0 ≡ d.0 = one_last p.timetable.network p.timetable.valid q proof.values c.0 d.0 last other in
+    one_broken : (a b : Fault) (q : Query) (certificate : LowerBounds) → IsBroken p a q certificate → IsBroken p b q certificate → a ≡ b
+    one_broken a b q certificate (c, is, last) (d, also, other) =
+        let same : c.0 ≡ d.0 = one_last p.timetable.network p.timetable.valid q certificate.values c.0 d.0 last other in
         let fault : ProofFails c ≡ ProofFails d = λ i. ProofFails (record { 0 = same i }) in
         is ∙ fault ∙ sym also
 
     one_check_fault : (a b : Fault) → NotRead a → NotRead b → FailsCheck (Some files) limits start path p a → FailsCheck (Some files) limits start path p b → a ≡ b
     one_check_fault a b m n =
-        one_cause (λ is also. one_file_fault bytes_read a b (proof_fault a m is) (proof_fault b n also)) (of_proof (IsBroken p b) a m) (of_proof (IsBroken p a) b n)
-        (in_proof p files limits start path (IsBroken p a) (IsBroken p b) (a ≡ b) (one_broken a b))
+        one_cause (λ is also. one_file_fault bytes_read a b (certificate_fault a m is) (certificate_fault b n also)) (of_certificate (IsBroken p b) a m) (of_certificate (IsBroken p a) b n)
+        (in_certificate p files limits start path (IsBroken p a) (IsBroken p b) (a ≡ b) (one_broken a b))
 
-    held_or_broken : (found : Findings) (text : List ℕ) (a : Fault) (q : Query) (proof : LowerBounds) → IsHeld p found text q proof → IsBroken p a q proof → ⊥
-    held_or_broken found text a q proof held (c, is, last) = last.fault (held.accepted c.0 last.there last.board)
+    held_or_broken : (found : Findings) (text : List ℕ) (a : Fault) (q : Query) (certificate : LowerBounds) → IsHeld p found text q certificate → IsBroken p a q certificate → ⊥
+    held_or_broken found text a q certificate held (c, is, last) = last.fault (held.accepted c.0 last.there last.board)
 
     checked : (found : Findings) (text : List ℕ) (a : Fault) → NotRead a → InCertificateFile (Some files) limits start path p (IsHeld p found text) → FailsCheck (Some files) limits start path p a → ⊥
-    checked found text a m reported (inl is) = of_proof (IsHeld p found text) a m is reported
-    checked found text a m reported (inr is) = in_proof p files limits start path (IsHeld p found text) (IsBroken p a) ⊥ (held_or_broken found text a) reported is
+    checked found text a m reported (inl is) = of_certificate (IsHeld p found text) a m is reported
+    checked found text a m reported (inr is) = in_certificate p files limits start path (IsHeld p found text) (IsBroken p a) ⊥ (held_or_broken found text a) reported is
 
   -- ---- whatever is asked
 
@@ -201,7 +201,7 @@ module _ (p : Problem) (files : FileMap) (limits : Limits) (start : ℕ) where
   one_ask_fault (Plan alpha) a b m n is also = one_no_safe a b is also
   one_ask_fault (Replays graph late) a b m n is also = one_replay_fault graph late a b m n is also
   one_ask_fault (Certify alpha) a b m n is also = one_no_safe a b is also
-  one_ask_fault (CheckProof proof) a b m n is also = one_check_fault proof a b m n is also
+  one_ask_fault (CheckProof certificate) a b m n is also = one_check_fault certificate a b m n is also
   one_ask_fault (CheckGraph graph) a b m n is also = one_score_fault graph a b m n is also
   one_ask_fault (Punctual alpha promise) a b m n is also = one_no_safe a b is also
   one_ask_fault (Departures until last) a b m n is also = is.0 ∙ sym also.0
@@ -214,7 +214,7 @@ module _ (p : Problem) (files : FileMap) (limits : Limits) (start : ℕ) where
   answered_or_not (Plan alpha) found text a m (q, w, is, reports) fails = not_none p start alpha q w is fails.1
   answered_or_not (Replays graph late) found text a m reported fails = replayed graph late found text a m reported fails
   answered_or_not (Certify alpha) found text a m (q, w, is, reports) fails = not_none p start alpha q w is fails.1
-  answered_or_not (CheckProof proof) found text a m reported fails = checked proof found text a m reported fails
+  answered_or_not (CheckProof certificate) found text a m reported fails = checked certificate found text a m reported fails
   answered_or_not (CheckGraph graph) found text a m reported fails = scored graph found text a m reported fails
   answered_or_not (Punctual alpha promise) found text a m (q, w, is, reports) fails = not_none p start alpha q w is fails.1
   answered_or_not (Departures until last) found text a m (rows, is, are, safe, reported) fails = fails.1 safe.0 safe.1

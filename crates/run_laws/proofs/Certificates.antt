@@ -18,7 +18,7 @@ use Rattle.journey_answers.specs.Answers.{InQuery}
 use Rattle.journey_answers.specs.Certified.{AnswersCertify}
 use Rattle.run_laws.specs.OneAnswer.{IsOneAnswer}
 use Rattle.run_laws.proofs.Queries.{in_one_query}
-use Rattle.run_laws.proofs.OneFile.{in_proof}
+use Rattle.run_laws.proofs.OneFile.{in_certificate}
 use Rattle.run_laws.proofs.Tight.{one_tight}
 
 abbrev bounds_with : List (Option ℕ) → LowerBounds
@@ -41,14 +41,14 @@ module _ (p : Problem) (found others : Findings) (text other : List ℕ) where
   one_certificate_answer start alpha (q, w, is, reports) (r, v, also, reported) =
       one_certified q w reports (in_one_query p start alpha (AnswersCertify p others other) q r w v is also reported)
 
-  one_held : (q : Query) (proof : LowerBounds) → IsHeld p found text q proof → IsHeld p others other q proof → One
-  one_held q proof reports reported =
-      let same = IsLeast-unique p.timetable.network q proof.values (IsBoardableAtStart p.timetable.network q.source.0 q.start.0) q.source.0 q.start.0 reports.least reported.least reports.least_is reported.least_is in
+  one_held : (q : Query) (certificate : LowerBounds) → IsHeld p found text q certificate → IsHeld p others other q certificate → One
+  one_held q certificate reports reported =
+      let same = IsLeast-unique p.timetable.network q certificate.values (IsBoardableAtStart p.timetable.network q.source.0 q.start.0) q.source.0 q.start.0 reports.least reported.least reports.least_is reported.least_is in
       record {
-        found = reports.found_is ∙ ap (check_findings q proof) same ∙ sym reported.found_is;
+        found = reports.found_is ∙ ap (check_findings q certificate) same ∙ sym reported.found_is;
         text_is = reports.text_is ∙ ap (holds_text (place_name p.timetable.names p.source.0) (place_name p.timetable.names p.target.0) q) same ∙ sym reported.text_is;
       }
 
   pub one_check_answer : (files : FileMap) (limits : Limits) (start : ℕ) (path : List ℕ) → InCertificateFile (Some files) limits start path p (IsHeld p found text)
       → InCertificateFile (Some files) limits start path p (IsHeld p others other) → One
-  one_check_answer files limits start path = in_proof p files limits start path (IsHeld p found text) (IsHeld p others other) One one_held
+  one_check_answer files limits start path = in_certificate p files limits start path (IsHeld p found text) (IsHeld p others other) One one_held

@@ -41,11 +41,11 @@ module _ (p : Problem) (files : FileMap) (limits : Limits) (start : ℕ) (path :
   abbrev pub Reads : List ℕ → Result (Query × LowerBounds) ProofFault → Type 0
   Reads = IsProofRead p.timetable.network p.timetable.names p.source.0 p.target.0 start
 
-  pub in_proof : (P Q : Query → LowerBounds → Type 0) (R : Type 0) → ((q : Query) (proof : LowerBounds) → P q proof → Q q proof → R)
+  pub in_certificate : (P Q : Query → LowerBounds → Type 0) (R : Type 0) → ((q : Query) (certificate : LowerBounds) → P q certificate → Q q certificate → R)
       → InCertificateFile (Some files) limits start path p P → InCertificateFile (Some files) limits start path p Q → R
-  in_proof P Q R both (q, proof, is, holds) (r, more, also, others) =
+  in_certificate P Q R both (q, certificate, is, holds) (r, more, also, others) =
       let text : also.text ≡ is.text = one_ok read_bytes also.text is.text also.reads is.reads in
       let reported : Reads is.text (Ok (r, more)) = subst (λ (t : List ℕ). Reads t (Ok (r, more))) text also.reports in
-      let one = read_once p.timetable.network p.timetable.names p.source.0 p.target.0 start is.text (Ok (r, more)) (Ok (q, proof)) reported is.reports (λ e. cc) (λ e. cc) in
-      let same : (r, more) ≡ (q, proof) = cc in
-      both q proof holds (subst (λ (w : Query × LowerBounds). Q w.0 w.1) same others)
+      let one = read_once p.timetable.network p.timetable.names p.source.0 p.target.0 start is.text (Ok (r, more)) (Ok (q, certificate)) reported is.reports (λ e. cc) (λ e. cc) in
+      let same : (r, more) ≡ (q, certificate) = cc in
+      both q certificate holds (subst (λ (w : Query × LowerBounds). Q w.0 w.1) same others)

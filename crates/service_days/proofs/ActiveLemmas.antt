@@ -5,7 +5,7 @@ use Rattle.csv_rows.specs.declared.columns.Column.TheVariants.{ServiceId}
 use Rattle.csv_rows.specs.declared.feed_tables.Table.TheVariants.{Calendar}
 use Rattle.csv_rows.specs.First.{any_below}
 use Rattle.csv_rows.specs.Tables.{row_count, number_in, field}
-use Rattle.csv_rows.proofs.IdLemmas.{one_row, no_row, place-here}
+use Rattle.csv_rows.proofs.IdLemmas.{one_row, no_row, number-here}
 use Rattle.csv_rows.proofs.ListLemmas.{length-list_below, get-list_below}
 use Rattle.service_days.specs.declared.exceptions.Exception.{Exception}
 use Rattle.service_days.specs.Periods.{runs_in_period, period_of, service_ids, periods_of, runs_in_row}
@@ -22,7 +22,7 @@ runs_of t d service day None h =
     sym (no_row (field t ServiceId) (row_count t) service (λ i. runs_in_period (period_of t i) day) h)
 runs_of t d service day (Some k) h =
     let n = row_count t in
-    let w = place-here service (service_ids t) k h in
+    let w = number-here service (service_ids t) k h in
     let inside : k < n = omega (arith, w.0, length-list_below (field t ServiceId) n) in
     let there : k < length (periods_of t) = omega (arith, length-list_below (period_of t) n) in
     ap (λ p. runs_within p day) (slice_get-get_or (periods_of t) k (period_of t k) there ∙ ap Some (get-list_below (period_of t) n k (period_of t k) inside))

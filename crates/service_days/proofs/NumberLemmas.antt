@@ -11,7 +11,7 @@ use Rattle.std.proofs.lemmas.Slice.Eq.{bytes_eq-Decides}
 use Rattle.std.proofs.lemmas.Bool.{false_from_ne_true, or_from}
 use Rattle.std.proofs.lemmas.Option.{none-some}
 use Rattle.std.specs.Option.{option_or}
-use Rattle.csv_rows.proofs.IdLemmas.{place-push, place-same, place-here}
+use Rattle.csv_rows.proofs.IdLemmas.{number-push, number-same, number-here}
 use Rattle.service_days.specs.declared.exceptions.Exception.{Exception}
 use Rattle.service_days.specs.Dates.{is_for, is_excepted, date_of}
 use Rattle.service_days.specs.Exceptions.{same, has, has_at}
@@ -25,7 +25,7 @@ asks_or asks n None false h g = refl
 -- what is false of no number and of the next one is the same after a name is added
 pub asks-adds : (old new : List (List ℕ)) (x : List ℕ) (added : Bool) (asks : Option ℕ → Bool) (name : List ℕ) → Adds old new x added → asks None ≡ false → asks (Some (length old)) ≡ false
     → asks (number_in name new) ≡ asks (number_in name old)
-asks-adds old new x added asks name a h g = grind (arith, cases_Bool added, place-push, asks_or)
+asks-adds old new x added asks name a h g = grind (arith, cases_Bool added, number-push, asks_or)
 
 pub length-adds : (old new : List (List ℕ)) (x : List ℕ) (added : Bool) → Adds old new x added → (length old ≤ length new) × (length new ≤ length old + 1)
 length-adds old new x added a = grind (arith, cases_Bool added, length-append)
@@ -52,7 +52,7 @@ excepts ids before after x m d a here h name day adds None g =
     sym (ap (λ b. (b && (int_eq d day && beq a adds)) || false) (bytes_self x name ids m here g))
 excepts ids before after x m d a here h name day adds (Some k) g =
     h (record { service = k; day = day; adds = adds })
-    ∙ ap (λ b. (b && (int_eq d day && beq a adds)) || has before (record { service = k; day = day; adds = adds })) (place-same x name ids m k here g)
+    ∙ ap (λ b. (b && (int_eq d day && beq a adds)) || has before (record { service = k; day = day; adds = adds })) (number-same x name ids m k here g)
 
 -- one more row
 pub numbered_next : (t : List (List (List ℕ))) (i : ℕ) (first old ids : List (List ℕ)) (before after : List Exception)
@@ -66,13 +66,13 @@ numbered_next t i first old ids before after n room a =
     record {
       is = λ name day adds.
           rw add-one
-          (excepts ids before after d.service a.number d.day d.adds a.place a.exceptions name day adds (number_in name ids) refl
+          (excepts ids before after d.service a.number d.day d.adds a.numbered a.exceptions name day adds (number_in name ids) refl
           ∙ ap (λ b. is_for d name day adds || b) (asks-adds old ids d.service a.new (has_at before day adds) name a.added refl (free day adds) ∙ n.is name day adds)
           ∙ or_swap (is_for d name day adds) (is_excepted t i name day adds));
       fresh = λ e l.
           a.exceptions e
           ∙ or_from (same (record { service = a.number; day = d.day; adds = d.adds }) e) (has before e)
-          (ap (λ b. b && (int_eq d.day e.day && beq d.adds e.adds)) (ne_eqb a.number e.service (λ s. let w = place-here d.service ids a.number a.place in absurd (omega (arith, w.0, s, l)))))
+          (ap (λ b. b && (int_eq d.day e.day && beq d.adds e.adds)) (ne_eqb a.number e.service (λ s. let w = number-here d.service ids a.number a.numbered in absurd (omega (arith, w.0, s, l)))))
           (n.fresh e (omega (arith, size.0, l)));
       kept = λ name asks h g.
           asks-adds old ids d.service a.new asks name a.added h (g (length old) room) ∙ n.kept name asks h g;

@@ -13,7 +13,7 @@ use Rattle.csv_rows.specs.declared.feed_tables.FeedFault.{FeedFault}
 use Rattle.csv_rows.specs.declared.feed_tables.FeedFault.TheVariants.{BadField}
 use Rattle.csv_rows.specs.First.{first_below, any_below}
 use Rattle.csv_rows.specs.Names.{name_in}
-use Rattle.csv_rows.specs.RowFaults.{first_lack}
+use Rattle.csv_rows.specs.RowFaults.{first_missing}
 use Rattle.csv_rows.specs.Tables.{row_count, index_of, field_at}
 use Rattle.service_days.specs.declared.dates.DateColumns.{DateColumns}
 use Rattle.service_days.specs.CalendarForms.{adds_in}
@@ -64,4 +64,4 @@ is_excepted t n service day adds = any_below (λ i. is_for (date_of t i) service
 
 -- the first fault of the exceptions
 unfoldable pub dates_fault : List (List (List ℕ)) → Option FeedFault
-dates_fault t = option_or (first_lack CalendarDates t (ServiceId ∷ Date ∷ ExceptionType ∷ [])) (first_below (bad_date t) (row_count t))
+dates_fault t = option_or (first_missing CalendarDates t (ServiceId ∷ Date ∷ ExceptionType ∷ [])) (first_below (bad_date t) (row_count t))

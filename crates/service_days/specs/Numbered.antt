@@ -11,7 +11,7 @@ pub record AddsDate (old ids : List (List ℕ)) (before after : List Exception) 
   pub new : Bool
   pub added : Adds old ids d.service new
   pub number : ℕ
-  pub place : number_in d.service ids ≡ Some number
+  pub numbered : number_in d.service ids ≡ Some number
   pub exceptions : (e : Exception) → has after e ≡ (same (record { service = number; day = d.day; adds = d.adds }) e || has before e)
 
 -- these are the exceptions of the first n rows, where the services before them keep their numbers

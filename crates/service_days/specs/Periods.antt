@@ -14,7 +14,7 @@ use Rattle.csv_rows.specs.declared.feed_tables.FeedFault.TheVariants.{BadField}
 use Rattle.csv_rows.specs.First.{first_below}
 use Rattle.csv_rows.specs.Lists.{list_below}
 use Rattle.csv_rows.specs.Names.{name_in}
-use Rattle.csv_rows.specs.RowFaults.{first_lack, repeated_id}
+use Rattle.csv_rows.specs.RowFaults.{first_missing, repeated_id}
 use Rattle.csv_rows.specs.Tables.{row_count, index_of, field_at, field}
 use Rattle.service_days.specs.declared.periods.Week.{Week}
 use Rattle.service_days.specs.declared.periods.Period.{Period}
@@ -117,6 +117,6 @@ required_columns = ServiceId ∷ Monday ∷ Tuesday ∷ Wednesday ∷ Thursday �
 -- the first fault of the calendar
 unfoldable pub calendar_fault : List (List (List ℕ)) → Option FeedFault
 calendar_fault t =
-    option_or (first_lack Calendar t required_columns)
+    option_or (first_missing Calendar t required_columns)
     (option_or (first_below (bad_period t) (row_count t))
     (first_below (repeated_id Calendar (field t ServiceId)) (row_count t)))

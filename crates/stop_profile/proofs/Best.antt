@@ -5,14 +5,14 @@ use Rattle.std.proofs.lemmas.List.Elements.{All-cons}
 use Rattle.plan_model.specs.Tree.{Tree}
 use Rattle.value_laws.specs.ScoreLaws.{Scoring, ScoreLaws}
 use Rattle.stop_profile.specs.declared.Row.{Row}
-use Rattle.stop_profile.specs.Inserts.{rows_with_new, Rises, row_in_time, rows_after_inserts}
+use Rattle.stop_profile.specs.Inserts.{rows_with_new, RowsRise, row_in_time, rows_after_inserts}
 use Rattle.stop_profile.specs.LookLaw.{Carries, IsBestRow, LookLaw}
 use Rattle.stop_profile.specs.LookStep.{none, same, holds, first, wins}
 use Rattle.stop_profile.proofs.Looks.{carries_trans, picked_holds}
 use Rattle.stop_profile.proofs.Inserted.{rises-rows_with_new, gaps-rows_with_new, look_step}
 
 module _ {V : Type 0} {scoring : Scoring V} (laws : ScoreLaws scoring) where
-  rises_after : (inserts : List (Row V)) → Rises scoring.rank (rows_after_inserts scoring inserts)
+  rises_after : (inserts : List (Row V)) → RowsRise scoring.rank (rows_after_inserts scoring inserts)
   rises_after [] = tt
   rises_after (new ∷ earlier) = rises-rows_with_new scoring laws.lowered_rank new (rows_after_inserts scoring earlier) (rises_after earlier)
 

@@ -6,7 +6,7 @@ use Rattle.std.proofs.lemmas.Bool.{lt-leb}
 use Rattle.std.proofs.lemmas.Bool.Decides.{nat_tests}
 use Rattle.value_laws.specs.ScoreLaws.{Scoring, ScoreLaws}
 use Rattle.stop_profile.specs.declared.Row.{Row}
-use Rattle.stop_profile.specs.Inserts.{rows_with_new, rows_with_new_by, better_before, others_before, rows_behind, lower_row, Rises, row_in_time}
+use Rattle.stop_profile.specs.Inserts.{rows_with_new, rows_with_new_by, better_before, others_before, rows_behind, lower_row, RowsRise, row_in_time}
 use Rattle.stop_profile.specs.LookStep.{LookStep}
 use Rattle.stop_profile.proofs.Along.{inserted_along}
 use Rattle.stop_profile.proofs.InsertCases.{kept, taken, replaced, placed, dropped, insert_case}
@@ -94,7 +94,7 @@ module _ {V : Type 0} (scoring : Scoring V) where
           map-same (IsAfter scoring.rank row) _ (λ r behind. rw (lt-leb r.by.0 row.by.0 behind.0) refl) rows after in
           rw (in_time, le-ltb (scoring.rank new.value) (scoring.rank row.value) worse, own, rest) refl
 
-  pub rows_with_new-along : ((a b : V) → scoring.rank (scoring.lowered a b) ≡ scoring.rank a) → (new : Row V) (rows : List (Row V)) → Rises scoring.rank rows
+  pub rows_with_new-along : ((a b : V) → scoring.rank (scoring.lowered a b) ≡ scoring.rank a) → (new : Row V) (rows : List (Row V)) → RowsRise scoring.rank rows
       → rows_with_new scoring new rows ≡ inserted_along scoring new rows
   rows_with_new-along same_rank new [] rises = refl
   rows_with_new-along same_rank new (row ∷ rows) rises =
@@ -110,17 +110,17 @@ module _ {V : Type 0} (scoring : Scoring V) where
       ]
 
   -- an insert keeps the rows rising
-  pub rises-rows_with_new : ((a b : V) → scoring.rank (scoring.lowered a b) ≡ scoring.rank a) → (new : Row V) (rows : List (Row V)) → Rises scoring.rank rows → Rises scoring.rank (rows_with_new scoring new rows)
+  pub rises-rows_with_new : ((a b : V) → scoring.rank (scoring.lowered a b) ≡ scoring.rank a) → (new : Row V) (rows : List (Row V)) → RowsRise scoring.rank rows → RowsRise scoring.rank (rows_with_new scoring new rows)
   rises-rows_with_new same_rank new rows rises = rw (rows_with_new-along same_rank new rows rises) (rises-inserted_along scoring same_rank new rows rises)
 
 module _ {V : Type 0} {scoring : Scoring V} (laws : ScoreLaws scoring) where
   -- what an insert does to a look
-  pub look_step : (arrival : ℕ) (new : Row V) (rows : List (Row V)) → Rises scoring.rank rows
+  pub look_step : (arrival : ℕ) (new : Row V) (rows : List (Row V)) → RowsRise scoring.rank rows
       → LookStep scoring arrival new (row_in_time arrival rows) (row_in_time arrival (rows_with_new scoring new rows))
   look_step arrival new rows rises = rw (rows_with_new-along scoring laws.lowered_rank new rows rises) (look_step_along laws arrival new rows rises)
 
   -- gaps stay within a bound
-  pub gaps-rows_with_new : (most : ℕ) (new : Row V) (rows : List (Row V)) → Rises scoring.rank rows → scoring.gap new.value ≤ most
+  pub gaps-rows_with_new : (most : ℕ) (new : Row V) (rows : List (Row V)) → RowsRise scoring.rank rows → scoring.gap new.value ≤ most
       → AllByRecursion (λ row. scoring.gap row.value ≤ most) rows → AllByRecursion (λ row. scoring.gap row.value ≤ most) (rows_with_new scoring new rows)
   gaps-rows_with_new most new rows rises here all = rw (rows_with_new-along scoring laws.lowered_rank new rows rises)
       (All-inserted_along scoring (λ row. scoring.gap row.value ≤ most) (λ a b worse own other. omega (arith, laws.lowered_gap a.value b.value worse)) new rows

@@ -66,4 +66,4 @@ reported_is b i f h = grind (arith, cases_Bool b)
 -- the first fault is a time that goes back
 pub backward_is : (rows : List TimedRow) (f : FeedFault) → first_below (backward_time rows) (length rows) ≡ Some f → (line : ℕ) × (f ≡ BackwardTime line)
 unfolding backward_time reported
-backward_is rows f h = let w = first-is (backward_time rows) (length rows) f h in (w.place + 2, reported_is (goes_back rows w.place) w.place f w.here)
+backward_is rows f h = let w = first-is (backward_time rows) (length rows) f h in (w.index + 2, reported_is (goes_back rows w.index) w.index f w.here)

@@ -9,7 +9,7 @@ use Rattle.csv.specs.declared.reader.Reader.{Reader}
 use Rattle.csv.proofs.ReadFacts.{rows-end, rows-more}
 use Rattle.csv_rows.proofs.ReachedRecords.{takes}
 use Rattle.csv_rows.specs.Spaces.{trimmed_text}
-use Rattle.stop_times.specs.RecordsLeft.{source, records_after, IsReading}
+use Rattle.stop_times.specs.RecordsRemaining.{source, records_after, IsReading}
 
 one_turn : (n : ℕ) (s : State) (xs : List ℕ) → records_from default_config (suc n) s xs ≡ records_next (records_from default_config n) (next_record default_config s [] [] xs)
 unfolding records_from

@@ -44,11 +44,11 @@ keys_rise rows keys rise own k l less inside =
     let b = own.own l no_key inside in
     let trip_a : (key_at keys k).group ≡ trip_of rows (key_at keys k).row = ap (λ (w : Key). w.group) a.0 in
     let trip_b : (key_at keys l).group ≡ trip_of rows (key_at keys l).row = ap (λ (w : Key). w.group) b.0 in
-    let place_a : (key_at keys k).order ≡ sequence_of rows (key_at keys k).row = ap (λ (w : Key). w.order) a.0 in
-    let place_b : (key_at keys l).order ≡ sequence_of rows (key_at keys l).row = ap (λ (w : Key). w.order) b.0 in
+    let order_a : (key_at keys k).order ≡ sequence_of rows (key_at keys k).row = ap (λ (w : Key). w.order) a.0 in
+    let order_b : (key_at keys l).order ≡ sequence_of rows (key_at keys l).row = ap (λ (w : Key). w.order) b.0 in
     elim (rise (key_at keys k).row (key_at keys l).row (own.rising k l no_key less inside) b.1) [
       | inl low ↦ inl (omega (arith, trip_a, trip_b, low))
-      | inr same ↦ inr (trip_a ∙ same.0 ∙ sym trip_b, inl (omega (arith, place_a, place_b, same.1)))
+      | inr same ↦ inr (trip_a ∙ same.0 ∙ sym trip_b, inl (omega (arith, order_a, order_b, same.1)))
     ]
 
 -- and none of them is repeated
@@ -59,9 +59,9 @@ rising_once rows rise = first-none (repeated_time rows) (length rows) (λ i insi
     any-false (λ j. (trip_of rows j == trip_of rows i) && (sequence_of rows j == sequence_of rows i)) i (λ j less twin.
     let both = and_parts (trip_of rows j == trip_of rows i) (sequence_of rows j == sequence_of rows i) twin in
     let trip = eqb-true (trip_of rows j) (trip_of rows i) both.0 in
-    let place = eqb-true (sequence_of rows j) (sequence_of rows i) both.1 in
+    let order_is = eqb-true (sequence_of rows j) (sequence_of rows i) both.1 in
     elim (rise j i less inside) [
       | inl low ↦ omega (arith, low, trip)
-      | inr same ↦ omega (arith, same.1, place)
+      | inr same ↦ omega (arith, same.1, order_is)
     ]) in
     ap (λ (b : Bool). if b then Some (DuplicateKey StopTimes (i + 2)) else None) once)

@@ -23,7 +23,7 @@ use Rattle.stop_times.specs.declared.rows.TimedRow.{TimedRow}
 use Rattle.stop_times.specs.StopTimeForms.{allows_in, time_in}
 use Rattle.stop_times.specs.StopTimes.{time_columns, stop_number_in, times_of, visit_of, timed_from, timed_at, no_row}
 use Rattle.clock_text.proofs.DigitLemmas.{whole_bound}
-use Rattle.csv_rows.proofs.RowLemmas.{optional-each, place_inside}
+use Rattle.csv_rows.proofs.RowLemmas.{optional-each, number_inside}
 use Rattle.stop_times.specs.StopTimeBounds.{end_of_times}
 use Rattle.plan_model.proofs.Results.{require-each}
 
@@ -86,7 +86,7 @@ from_in_form trips stops places line trip stop sequence arrival departure pickup
     subst P (same_ok _ r q) (record {
       sequence = whole_bound 999999999 sequence' sequence e4;
       visit = visit_form (length stops) places stop_number arrival' departure' board exit
-          (optional-each (λ k. k < length stops) (length stop' == 0) (number_in stop' stops) (place_inside stop' stops) stop_number e3)
+          (optional-each (λ k. k < length stops) (length stop' == 0) (number_in stop' stops) (number_inside stop' stops) stop_number e3)
           (optional-each (λ k. k < end_of_times) (length arrival == 0) (time_at arrival) (time_below arrival) arrival' e5)
           (optional-each (λ k. k < end_of_times) (length departure == 0) (time_at departure) (time_below departure) departure' e6);
     }))))))))))

@@ -1,6 +1,6 @@
 pub mod StopTimeBounds
 pub mod RecordFields
-pub mod RecordsLeft
+pub mod RecordsRemaining
 pub mod StopTimeForms
 pub mod StopTimes
 pub mod StoredRows

@@ -96,8 +96,8 @@ fn goes_back(rows: &[StoredRow], before: Option<Key>, row: u32) -> bool
     match before {
         None => false,
         Some(before) => {
-            let (_, left) = times_at(rows, before.row as usize);
-            arrival < left
+            let (_, departed) = times_at(rows, before.row as usize);
+            arrival < departed
         }
     }
 }

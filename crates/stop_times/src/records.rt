@@ -42,27 +42,27 @@ impl Record {
     }
 
     /// The field at an index, or an empty one past the end.
-    fn field(&self, place: usize) -> &[u8]
-        ensures { result.now ≡ slice_index_or self.now place [] }
+    fn field(&self, index: usize) -> &[u8]
+        ensures { result.now ≡ slice_index_or self.now index [] }
     {
-        match self.row.get(place) {
+        match self.row.get(index) {
             Some(field) => trimmed(field),
             None => &[],
         }
     }
 
     /// The field under a column at an index: empty past the end, and if the table does not have the column.
-    pub(crate) fn field_at(&self, place: Option<usize>) -> &[u8]
-        ensures { result.now ≡ field_of self.now place }
+    pub(crate) fn field_at(&self, index: Option<usize>) -> &[u8]
+        ensures { result.now ≡ field_of self.now index }
     {
-        match place {
+        match index {
             Some(column) => self.field(column),
             None => &[],
         }
     }
 
     /// The index of the first field that is this name; `None` if there is none.
-    fn place_named(&self, name: &str) -> Option<usize>
+    fn index_named(&self, name: &str) -> Option<usize>
         ensures found { IfSome result (λ i. (i < length self.now)
             × (slice_index_or self.now i [] ≡ name.now)) }
         ensures first { IfSome result (λ i. (k : ℕ) → k < i → slice_index_or self.now k [] ≢ name.now) }
@@ -80,7 +80,7 @@ impl Record {
     pub(crate) fn index_of(&self, column: Column) -> Option<usize>
         ensures { result ≡ number_in (name_of column) self.now }
     {
-        self.place_named(column.name())
+        self.index_named(column.name())
     }
 }
 
@@ -96,9 +96,9 @@ impl<'a> Model for Records<'a> {
 
     ghost Value = { List (List (List ℕ)) };
 
-    ghost use Rattle.stop_times.specs.RecordsLeft.{records_left, IsBetween};
+    ghost use Rattle.stop_times.specs.RecordsRemaining.{records_remaining, IsBetween};
 
-    ghost view = { records_left };
+    ghost view = { records_remaining };
 
     ghost invariant = { IsBetween };
 }

@@ -69,8 +69,8 @@ fn counted_fault(
     ensures own { IsFaultOf StopTimesTable fault → IsFaultOf StopTimesTable result }
 {
     match records.count(row) {
-        Ok(left) => {
-            let count = taken + left;
+        Ok(remaining) => {
+            let count = taken + remaining;
             if most < count {
                 FeedFault::TooManyRows(Table::StopTimes, count)
             } else {

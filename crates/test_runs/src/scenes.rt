@@ -123,7 +123,7 @@ pub const CUT: SceneFile = SceneFile {
         r3,1,B,T,2024-06-03T08:40:00,2024-06-03T09:06:00\n",
 };
 
-pub const PROOF: SceneFile = SceneFile {
+pub const CERTIFICATE: SceneFile = SceneFile {
     path: "p",
     input: Input::Proof,
     name: "proof file",
@@ -182,6 +182,6 @@ pub const SAFE: Scene = Scene {
 /// A certificate over the same cut file.
 pub const CHECK: Scene = Scene {
     words: "check --cut c --delays d --from A --to T --at 2024-06-03T08:00:00 --proof p",
-    sources: &[CUT, DELAYS, PROOF],
+    sources: &[CUT, DELAYS, CERTIFICATE],
     text: "holds,A,T,2024-06-03T08:00:00,2024-06-03T10:42:00,2024-06-03T08:54:42.000000000\n",
 };

@@ -102,7 +102,7 @@ fn checks_certificates(rt: HostRuntime) -> Result<(), Fail> {
 }
 
 #[test]
-fn refuses_proof_files(rt: HostRuntime) -> Result<(), Fail> {
+fn refuses_certificate_files(rt: HostRuntime) -> Result<(), Fail> {
     for (proof, status, err) in [
         (
             "bounds,1,A,T,2024-06-03T08:00:00,2024-06-03T10:42:00\n",
@@ -136,7 +136,7 @@ fn refuses_proof_files(rt: HostRuntime) -> Result<(), Fail> {
 }
 
 #[test]
-fn reports_that_a_proof_file_is_missing(rt: HostRuntime) -> Result<(), Fail> {
+fn reports_that_a_certificate_is_missing(rt: HostRuntime) -> Result<(), Fail> {
     refuses(
         rt.alloc(),
         CHANGE.as_slice(),
@@ -147,7 +147,7 @@ fn reports_that_a_proof_file_is_missing(rt: HostRuntime) -> Result<(), Fail> {
 }
 
 #[test]
-fn refuses_a_proof_file_of_another_query(rt: HostRuntime) -> Result<(), Fail> {
+fn refuses_a_certificate_of_another_query(rt: HostRuntime) -> Result<(), Fail> {
     let whole = certificate(rt.alloc(), "09:07:30.000000000")?;
     checks(
         rt.alloc(),

@@ -9,7 +9,7 @@ const REPLAY: &str =
 
 const CHECK: &str = "check --cut c --delays d --from A --to T --at 2024-06-03T08:00:00 --proof f";
 
-const PROOF: &str =
+const CERTIFICATE: &str =
     "bounds,1,A,T,2024-06-03T08:00:00,2024-06-03T10:42:00,3\nvalue,r1,1,2024-06-03T08:54:42.000000000\nvalue,r2,1,2024-06-03T08:51:30.000000000\nvalue,r3,1,2024-06-03T09:07:30.000000000\n";
 
 /// A text with `?` in place of a field of a line, both counted from 0.
@@ -102,9 +102,9 @@ fn each_field_of_a_graph_is_looked_at(rt: HostRuntime) -> Result<(), Fail> {
 }
 
 #[test]
-fn each_field_of_a_proof_is_looked_at(rt: HostRuntime) -> Result<(), Fail> {
+fn each_field_of_a_certificate_is_looked_at(rt: HostRuntime) -> Result<(), Fail> {
     for (at, fields) in [(0, 7), (1, 4), (2, 4), (3, 4)] {
-        are_looked_at(&rt, rt.alloc(), CHECK, PROOF, at, fields, 14, "proof file")?;
+        are_looked_at(&rt, rt.alloc(), CHECK, CERTIFICATE, at, fields, 14, "proof file")?;
     }
     Ok(())
 }

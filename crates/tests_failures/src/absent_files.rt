@@ -68,7 +68,7 @@ fn absent_and_failing(rt: HostRuntime) -> Result<(), Fail> {
         (REPLAY, GRAPH, 10),
         (SAFE, CUT, 3),
         (SAFE, DELAYS, 4),
-        (CHECK, PROOF, 14),
+        (CHECK, CERTIFICATE, 14),
     ] {
         is_read_first(&rt, rt.alloc(), scene, absent, status)?;
         cases = cases.saturating_add(1);

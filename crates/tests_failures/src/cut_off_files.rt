@@ -178,8 +178,8 @@ fn lengths_of_the_cut(rt: HostRuntime) -> Result<(), Fail> {
 }
 
 #[test]
-fn lengths_of_the_proof(rt: HostRuntime) -> Result<(), Fail> {
-    let cases = all_lengths(&rt, rt.alloc(), CHECK, PROOF, &[14])?;
+fn lengths_of_the_certificate(rt: HostRuntime) -> Result<(), Fail> {
+    let cases = all_lengths(&rt, rt.alloc(), CHECK, CERTIFICATE, &[14])?;
     println!(rt; "proof file: {cases} lengths")?;
     Ok(())
 }
@@ -240,7 +240,7 @@ fn empty_files(rt: HostRuntime) -> Result<(), Fail> {
         (REPLAY, GRAPH, 10, "meat: graph file line 1: bad row\n"),
         (SAFE, CUT, 3, "meat: cut file has no column run\n"),
         (SAFE, DELAYS, 4, "meat: delay file has no column class\n"),
-        (CHECK, PROOF, 14, "meat: proof file line 1: bad row\n"),
+        (CHECK, CERTIFICATE, 14, "meat: proof file line 1: bad row\n"),
     ] {
         is_refused_empty(&rt, rt.alloc(), scene, source, status, line)?;
     }

@@ -176,8 +176,8 @@ fn calls_on_the_cut(rt: HostRuntime) -> Result<(), Fail> {
 }
 
 #[test]
-fn calls_on_the_proof(rt: HostRuntime) -> Result<(), Fail> {
-    let cases = all_fail(&rt, rt.alloc(), CHECK, PROOF)?;
+fn calls_on_the_certificate(rt: HostRuntime) -> Result<(), Fail> {
+    let cases = all_fail(&rt, rt.alloc(), CHECK, CERTIFICATE)?;
     println!(rt; "proof file: {cases} calls that fail")?;
     Ok(())
 }

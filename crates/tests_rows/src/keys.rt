@@ -13,12 +13,12 @@ fn sorted(rt: HostRuntime, rows: &[(u32, u32, u32)]) -> Result<Vec<Key>, Fail> {
 }
 
 /// The rows of these keys.
-fn places_of(alloc: Global, keys: &[Key]) -> Result<Vec<u32>, Fail> {
-    let mut places = Vec::new(alloc);
+fn rows_of(alloc: Global, keys: &[Key]) -> Result<Vec<u32>, Fail> {
+    let mut rows = Vec::new(alloc);
     for key in keys {
-        places.push(key.row)?;
+        rows.push(key.row)?;
     }
-    Ok(places)
+    Ok(rows)
 }
 
 /// The row of the key before one, if it is of the same group.
@@ -38,10 +38,10 @@ fn repeat_in(rt: HostRuntime, rows: &[(u32, u32, u32)]) -> Result<Option<u32>, F
 const FOUR_ROWS: [(u32, u32, u32); 4] = [(1, 0, 0), (0, 9, 1), (1, 0, 2), (0, 7, 3)];
 
 #[test]
-fn sorts_by_group_order_and_place(rt: HostRuntime) -> Result<(), Fail> {
+fn sorts_by_group_order_and_row(rt: HostRuntime) -> Result<(), Fail> {
     let keys = sorted(rt, FOUR_ROWS.as_slice())?;
-    let places = places_of(rt.alloc(), keys.as_slice())?;
-    assert_eq!(rt; places.as_slice(), [3, 1, 0, 2].as_slice());
+    let rows = rows_of(rt.alloc(), keys.as_slice())?;
+    assert_eq!(rt; rows.as_slice(), [3, 1, 0, 2].as_slice());
     Ok(())
 }
 
@@ -56,7 +56,7 @@ fn finds_the_row_before_in_a_group(rt: HostRuntime) -> Result<(), Fail> {
 }
 
 #[test]
-fn finds_the_first_repeat_by_place(rt: HostRuntime) -> Result<(), Fail> {
+fn finds_the_first_repeat_by_row(rt: HostRuntime) -> Result<(), Fail> {
     let found = repeat_in(rt, &[(2, 1, 0), (0, 0, 1), (2, 1, 2), (0, 0, 3)])?;
     assert_eq!(rt; found, Some(2));
     let found = repeat_in(rt, &[(2, 1, 0), (0, 1, 1), (2, 0, 2)])?;

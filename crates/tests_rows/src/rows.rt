@@ -60,7 +60,7 @@ fn named_columns(alloc: Global) -> Result<Rows, Fail> {
 }
 
 /// The indexes of these columns in it.
-fn places_in_it(
+fn indexes_in_it(
     alloc: Global,
     columns: [Column; 3],
 ) -> Result<(Option<usize>, Option<usize>, Option<usize>), Fail> {
@@ -75,8 +75,8 @@ fn places_in_it(
 
 #[test]
 fn names_columns(rt: HostRuntime) -> Result<(), Fail> {
-    let places = places_in_it(rt.alloc(), [Column::StopId, Column::Step, Column::Run])?;
-    assert_eq!(rt; places, (Some(0), Some(1), None));
+    let indexes = indexes_in_it(rt.alloc(), [Column::StopId, Column::Step, Column::Run])?;
+    assert_eq!(rt; indexes, (Some(0), Some(1), None));
     Ok(())
 }
 
@@ -103,8 +103,8 @@ fn row_of_it(alloc: Global, name: &str) -> Result<(u64, bool, bool), Fail> {
         return Err("no row".into());
     }
     let there = read_name(rows.field_at(0, Some(0))) == Some(name);
-    let lacking = read_name(rows.field_at(0, None)).is_none();
-    Ok((rows.line(0), there, lacking))
+    let absent = read_name(rows.field_at(0, None)).is_none();
+    Ok((rows.line(0), there, absent))
 }
 
 #[test]

@@ -24,7 +24,7 @@ fn list_of(alloc: Global) -> Result<(TextList, u32), Fail> {
 }
 
 /// Where a list has a text, if it has that text there.
-fn place_in(list: &TextList, text: &str) -> Option<usize> {
+fn index_in(list: &TextList, text: &str) -> Option<usize> {
     let number = list.number(text)?;
     (number < list.len() && list.get(number) == text).then_some(number as usize)
 }
@@ -49,7 +49,7 @@ fn are_all<F: Fn(&str) -> Option<usize>>(len: u32, place: F) -> bool
 
 /// Whether a list has each text at its place, and no other.
 fn lists_all(list: &TextList) -> bool {
-    are_all(list.len(), |text: &str| place_in(list, text))
+    are_all(list.len(), |text: &str| index_in(list, text))
 }
 
 /// The same of an index.
@@ -84,7 +84,7 @@ fn finds_the_texts_of_a_list(rt: HostRuntime) -> Result<(), Fail> {
 }
 
 /// Whether an index that takes these texts, all different, numbers each by its position.
-fn numbers_by_place<'a>(index: &mut TextIndex<'a>, texts: &[&'a str]) -> Result<bool, Fail> {
+fn numbers_by_index<'a>(index: &mut TextIndex<'a>, texts: &[&'a str]) -> Result<bool, Fail> {
     for i in 0..texts.len() {
         if index.len() >= 100 || index.add(texts[i])? as usize != i {
             return Ok(false);
@@ -96,9 +96,9 @@ fn numbers_by_place<'a>(index: &mut TextIndex<'a>, texts: &[&'a str]) -> Result<
 #[test]
 fn numbers_texts_as_they_appear(rt: HostRuntime) -> Result<(), Fail> {
     let mut index = TextIndex::new(rt.alloc(), HashKey::fixed());
-    let numbered = numbers_by_place(&mut index, &TEXTS)?;
+    let numbered = numbers_by_index(&mut index, &TEXTS)?;
     assert!(rt; numbered);
-    let known = numbers_by_place(&mut index, &TEXTS)?;
+    let known = numbers_by_index(&mut index, &TEXTS)?;
     assert!(rt; known);
     assert!(rt; finds_all(&index));
     let list = index.list(rt.alloc())?;

@@ -10,17 +10,17 @@ use Rattle.plan_model.specs.NameLists.{AreDistinct}
 use Rattle.text_index.specs.Numbers.{number_of}
 
 -- the first index where a test holds
-pub place_found : {X : Type 0} (t : X → Bool) (xs : List X) (from j : ℕ) (d : X) → ((k : ℕ) → k < j → t (slice_index_or xs k d) ≡ false)
+pub position_found : {X : Type 0} (t : X → Bool) (xs : List X) (from j : ℕ) (d : X) → ((k : ℕ) → k < j → t (slice_index_or xs k d) ≡ false)
     → j < length xs → t (slice_index_or xs j d) ≡ true → position_from t from xs ≡ Some (from + j)
-place_found t [] from j d before within holds = absurd (omega (arith, within))
-place_found t (x ∷ xs) from zero d before within holds = rw holds (ap (λ (k : ℕ). Some k) (let e : from ≡ from + 0 = omega arith in e))
-place_found t (x ∷ xs) from (suc j) d before within holds =
-    rw (before 0 (omega arith)) (place_found t xs (from + 1) j d (λ k less. before (suc k) (omega (arith, less))) (omega (arith, within)) holds
+position_found t [] from j d before within holds = absurd (omega (arith, within))
+position_found t (x ∷ xs) from zero d before within holds = rw holds (ap (λ (k : ℕ). Some k) (let e : from ≡ from + 0 = omega arith in e))
+position_found t (x ∷ xs) from (suc j) d before within holds =
+    rw (before 0 (omega arith)) (position_found t xs (from + 1) j d (λ k less. before (suc k) (omega (arith, less))) (omega (arith, within)) holds
     ∙ ap (λ (k : ℕ). Some k) (let e : from + 1 + j ≡ from + suc j = omega arith in e))
 
-pub place_none : {X : Type 0} (t : X → Bool) (xs : List X) (from : ℕ) (d : X) → ((k : ℕ) → k < length xs → t (slice_index_or xs k d) ≡ false) → position_from t from xs ≡ None
-place_none t [] from d none = refl
-place_none t (x ∷ xs) from d none = rw (none 0 (omega arith)) (place_none t xs (from + 1) d (λ k less. none (suc k) (omega (arith, less))))
+pub position_none : {X : Type 0} (t : X → Bool) (xs : List X) (from : ℕ) (d : X) → ((k : ℕ) → k < length xs → t (slice_index_or xs k d) ≡ false) → position_from t from xs ≡ None
+position_none t [] from d none = refl
+position_none t (x ∷ xs) from d none = rw (none 0 (omega arith)) (position_none t xs (from + 1) d (λ k less. none (suc k) (omega (arith, less))))
 
 pub false_if : (b : Bool) → (b ≡ true → ⊥) → b ≡ false
 false_if true no_way = absurd (no_way refl)
@@ -42,12 +42,12 @@ by_name : (found : Option ℕ) (names : List (List ℕ)) (name : List ℕ) → I
     → found ≡ position_from (λ own. bytes_eq own name) 0 names
 by_name (Some i) names name there none distinct =
     let at = get_within names i name [] there in
-    sym (ap (λ (k : ℕ). Some k) (let e : 0 + i ≡ i = omega arith in e)) ∙ sym (place_found (λ own. bytes_eq own name) names 0 i []
+    sym (ap (λ (k : ℕ). Some k) (let e : 0 + i ≡ i = omega arith in e)) ∙ sym (position_found (λ own. bytes_eq own name) names 0 i []
     (λ k less. false_if (bytes_eq (slice_index_or names k []) name) (λ same. distinct k i less at.0
     ((bytes_decides (slice_index_or names k []) name).0 same ∙ sym at.1)))
     at.0 ((bytes_decides (slice_index_or names i []) name).1 at.1))
 by_name None names name there none distinct =
-    sym (place_none (λ own. bytes_eq own name) names 0 [] (λ k within. false_if (bytes_eq (slice_index_or names k []) name)
+    sym (position_none (λ own. bytes_eq own name) names 0 [] (λ k within. false_if (bytes_eq (slice_index_or names k []) name)
     (λ same. none (k, within, get_or_default names k name [] within ∙ (bytes_decides (slice_index_or names k []) name).0 same))))
 
 pub number_is : (found : Option ℕ) (names : List (List ℕ)) (text name : List ℕ) → name ≡ text → IsUtf8 text

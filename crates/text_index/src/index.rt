@@ -59,7 +59,7 @@ impl<'a> TextIndex<'a> {
     pub fn add(&mut self, text: &'a str) -> Result<u32, NoMemory>
         requires { length self.old < 2 ^ 32 - 1 }
         ensures added { OnOk result ((b : Bool) × Adds self.old self.new text.now b) }
-        ensures place { IfOk result (λ number. number_in text.now self.new ≡ Some number) }
+        ensures number { IfOk result (λ number. number_in text.now self.new ≡ Some number) }
         ensures found { IfOk result (λ number. slice_get self.new number ≡ Some text.now) }
         ensures err { OnErr result (self.new ≡ self.old) }
     {
@@ -69,7 +69,7 @@ impl<'a> TextIndex<'a> {
 
     /// The number of a text; `None` if it is not in the list.
     pub fn number(&self, text: &str) -> Option<u32>
-        ensures place { result ≡ number_in text.now self.now }
+        ensures number { result ≡ number_in text.now self.now }
         ensures inside { IfSome result (λ number. number < length self.now) }
         ensures found { IfSome result (λ number. slice_get self.now number ≡ Some text.now) }
         ensures none { IfNone result (¬ Contains self.now text.now) }

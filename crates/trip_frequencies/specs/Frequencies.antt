@@ -16,7 +16,7 @@ use Rattle.csv_rows.specs.First.{first_below}
 use Rattle.csv_rows.specs.Keys.{has_twin}
 use Rattle.csv_rows.specs.Lists.{list_below}
 use Rattle.csv_rows.specs.Names.{name_in}
-use Rattle.csv_rows.specs.RowFaults.{first_lack}
+use Rattle.csv_rows.specs.RowFaults.{first_missing}
 use Rattle.csv_rows.specs.Tables.{row_count, number_in, index_of, field_at}
 use Rattle.trip_frequencies.specs.declared.frequencies.FrequencyRow.{FrequencyRow}
 use Rattle.trip_frequencies.specs.declared.frequencies.TripFrequency.{TripFrequency}
@@ -76,7 +76,7 @@ repeated_start rows i = if has_twin (trip_of_row rows) (start_of_row rows) i the
 -- the first fault of the frequencies
 unfoldable pub frequencies_fault : List (List ℕ) → List (List (List ℕ)) → Option FeedFault
 frequencies_fault trips t =
-    option_or (first_lack Frequencies t (TripId ∷ StartTime ∷ EndTime ∷ HeadwaySecs ∷ []))
+    option_or (first_missing Frequencies t (TripId ∷ StartTime ∷ EndTime ∷ HeadwaySecs ∷ []))
     (option_or (first_below (bad_frequency trips t) (row_count t))
     (first_below (repeated_start (frequency_rows trips t)) (length (frequency_rows trips t))))
 

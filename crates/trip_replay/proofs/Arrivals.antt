@@ -11,7 +11,7 @@ use Rattle.plan_model.specs.Strategy.{IsSafe, AreSafe, IsSafeFor}
 use Rattle.trip_replay.specs.declared.Ridden.{Ridden}
 use Rattle.trip_replay.specs.declared.Trace.{Trace}
 use Rattle.trip_replay.specs.Positions.{has_delay}
-use Rattle.trip_replay.specs.Walk.{ride_with_delay, walk, walk_kid, trace_of}
+use Rattle.trip_replay.specs.Walk.{ride_with_delay, walk, walk_child, trace_of}
 use Rattle.trip_replay.specs.Late.{ArePossible, IsLateBy, Arrives}
 
 module _ (n : NetworkModel) (target deadline : ℕ) (late : ℕ → ℕ) (possible : ArePossible n late) where
@@ -24,10 +24,10 @@ module _ (n : NetworkModel) (target deadline : ℕ) (late : ℕ → ℕ) (possib
     late_by : All (IsLateBy late) trace.rides
 
   -- and from the outcomes of a ride on
-  record KidArrives (kids : Kids) (row : List Outcome) (i j : ℕ) (behind : List Ridden) : Type 0 where
+  record ChildArrives (kids : Kids) (row : List Outcome) (i j : ℕ) (behind : List Ridden) : Type 0 where
     delays : List ℕ
     trace : Trace
-    trip : walk_kid n kids row i j (late j) delays behind ≡ Ok trace
+    trip : walk_child n kids row i j (late j) delays behind ≡ Ok trace
     in_time : trace.arrival.0 ≤ deadline
     late_by : All (IsLateBy late) trace.rides
 
@@ -36,21 +36,21 @@ module _ (n : NetworkModel) (target deadline : ℕ) (late : ℕ → ℕ) (possib
     arrive (Done a) p x behind safe own = record { delays = []; trace = trace_of behind a; trip = refl; in_time = let is = safe.0 in omega (arith, is, safe.2); late_by = own }
     arrive (Stuck q y) p x behind safe own = absurd safe
     arrive (Ride i j kids) p x behind safe own =
-        let k = arrive_kid kids (outcomes n j) (to_of n j) (arr_of n j) i j behind safe.3 (possible j safe.1.exit) own in
+        let k = arrive_child kids (outcomes n j) (to_of n j) (arr_of n j) i j behind safe.3 (possible j safe.1.exit) own in
         record { delays = late j ∷ k.delays; trace = k.trace; trip = k.trip; in_time = k.in_time; late_by = k.late_by }
 
-    arrive_kid : (kids : Kids) (row : List Outcome) (p scheduled i j : ℕ) (behind : List Ridden) → AreSafe n target (Some deadline) kids row p scheduled
-        → has_delay row (late j) ≡ true → All (IsLateBy late) behind → KidArrives kids row i j behind
-    arrive_kid Nil [] p scheduled i j behind safe has own = absurd (cc)
-    arrive_kid Nil (o ∷ row) p scheduled i j behind safe has own = absurd safe
-    arrive_kid (Kid w tree kids) [] p scheduled i j behind safe has own = absurd safe
-    arrive_kid (Kid w tree kids) (o ∷ row) p scheduled i j behind safe has own = elim (cases_eq o.delay (late j)) [
+    arrive_child : (kids : Kids) (row : List Outcome) (p scheduled i j : ℕ) (behind : List Ridden) → AreSafe n target (Some deadline) kids row p scheduled
+        → has_delay row (late j) ≡ true → All (IsLateBy late) behind → ChildArrives kids row i j behind
+    arrive_child Nil [] p scheduled i j behind safe has own = absurd (cc)
+    arrive_child Nil (o ∷ row) p scheduled i j behind safe has own = absurd safe
+    arrive_child (Kid w tree kids) [] p scheduled i j behind safe has own = absurd safe
+    arrive_child (Kid w tree kids) (o ∷ row) p scheduled i j behind safe has own = elim (cases_eq o.delay (late j)) [
       | inl is ↦
           let a = arrive tree p (scheduled + o.delay) (behind ++ ride_with_delay n i j (late j) ∷ []) safe.1
           (All-push (IsLateBy late) behind (ride_with_delay n i j (late j)) own refl) in
           record { delays = a.delays; trace = a.trace; trip = rw (eq-eqb o.delay (late j) is) a.trip; in_time = a.in_time; late_by = a.late_by }
       | inr differ ↦
-          let k = arrive_kid kids row p scheduled i j behind safe.2 (rw (ne_eqb o.delay (late j) differ) at has) own in
+          let k = arrive_child kids row p scheduled i j behind safe.2 (rw (ne_eqb o.delay (late j) differ) at has) own in
           record { delays = k.delays; trace = k.trace; trip = rw (ne_eqb o.delay (late j) differ) k.trip; in_time = k.in_time; late_by = k.late_by }
     ]
 
@@ -59,5 +59,5 @@ arrives n q (Done a) late safe possible =
     record { delays = []; trace = trace_of [] a; trip = refl; in_time = let is = safe.0 in omega (arith, is, safe.2); late_by = All-nil (IsLateBy late) }
 arrives n q (Stuck p y) late safe possible = absurd safe
 arrives n q (Ride i j kids) late safe possible =
-    let k = arrive_kid n q.target.0 q.deadline.0 late possible kids (outcomes n j) (to_of n j) (arr_of n j) i j [] safe.3 (possible j safe.1.exit) (All-nil (IsLateBy late)) in
+    let k = arrive_child n q.target.0 q.deadline.0 late possible kids (outcomes n j) (to_of n j) (arr_of n j) i j [] safe.3 (possible j safe.1.exit) (All-nil (IsLateBy late)) in
     record { delays = late j ∷ k.delays; trace = k.trace; trip = k.trip; in_time = k.in_time; late_by = k.late_by }

@@ -18,12 +18,12 @@ use Rattle.plan_graph.specs.declared.GraphRow.{GraphRow}
 use Rattle.plan_graph.specs.declared.PlaceTable.{PlaceTable}
 use Rattle.plan_graph.specs.declared.PlanGraph.{PlanGraph}
 use Rattle.plan_graph.specs.PickedRows.{pick_row, pick_at, rows_of_place}
-use Rattle.plan_graph.specs.Placed.{StandsSafely, kids_of}
+use Rattle.plan_graph.specs.Placed.{StandsSafely, children_of}
 use Rattle.plan_graph.specs.Ready.{IsLegOf, Stands, StandsIn}
 use Rattle.plan_graph.specs.Tidy.{IsFitRow, IsFitTable, IsFitStart, IsPickedIn, IsTidy}
 use Rattle.plan_graph.specs.Unfold.{unfold_plan}
 use Rattle.plan_graph.proofs.Picked.{pick_here, pick_further, row_of_pick, rows_of_place-by, table_here, table_further}
-use Rattle.plan_graph.proofs.Places.{next_after, safe_kid}
+use Rattle.plan_graph.proofs.Places.{next_after, safe_child}
 use Rattle.plan_graph.proofs.Tables.{first_pick, one_found}
 use Rattle.trip_replay.specs.Onward.{AreUpTo, late_end, LeadsInTime, ArrivesByRows}
 
@@ -71,7 +71,7 @@ module _ (n : NetworkModel) (target : ℕ) (by : Option ℕ) (choice : Leg → �
   placed_in rides next other below (o ∷ row) safe inside (inr more) = placed_in rides next other below row safe.2 (λ l t. inside l (inr t)) more
 
   placed_ride : (rides : ℕ) (next other : Leg) → ArePlacedAfter rides next other → IsLegOf n next
-      → AreSafe n target by (kids_of n target choice rides next) (outcomes_of n next) (end_of n next) (arr_of n next.exit.0)
+      → AreSafe n target by (children_of n target choice rides next) (outcomes_of n next) (end_of n next) (arr_of n next.exit.0)
       → ((l : Leg) → Stands l (ride_of n (onward rides) next) → Stands l whole) → Stands other (ride_of n (onward rides) next) → Placed other
   placed_ride rides next other below is_leg safe inside (inl here) =
       let e = here.0 in
@@ -156,7 +156,7 @@ module _ (n : NetworkModel) (v : IsValid n) (q : Query) (tables : List PlaceTabl
       in_time leg own there =
           let w = up_to leg.exit.0 own.is_leg.exit in
           let y = arrival_of n leg w.0.delay in
-          let one = safe_kid n q.target.0 (Some q.deadline.0) choice (unfold_after n q.target.0 choice own.rides leg) (outcomes_of n leg) (end_of n leg)
+          let one = safe_child n q.target.0 (Some q.deadline.0) choice (unfold_after n q.target.0 choice own.rides leg) (outcomes_of n leg) (end_of n leg)
           (arr_of n leg.exit.0) own.safe w.0 w.1 in
           let done = subst (λ (tree : Tree). IsSafe n q.target.0 (Some q.deadline.0) tree (end_of n leg) y)
           (done_after n q.target.0 (Some q.deadline.0) choice whole own.rides leg y there) one in

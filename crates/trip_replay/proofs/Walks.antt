@@ -23,7 +23,7 @@ use Rattle.trip_replay.specs.declared.Trace.{Trace}
 use Rattle.trip_replay.specs.declared.Position.{Position}
 use Rattle.trip_replay.specs.declared.ReplayFault.{ReplayFault}
 use Rattle.trip_replay.specs.declared.ReplayFault.TheVariants as fault
-use Rattle.trip_replay.specs.Walk.{ride_with_delay, walk, walk_kid, IsAnswer, IsSafeAnswer}
+use Rattle.trip_replay.specs.Walk.{ride_with_delay, walk, walk_child, IsAnswer, IsSafeAnswer}
 
 pub delay_some : (n : NetworkModel) (leg : Leg) (delay x : ℕ) (test : Bool) → has_delay (outcomes_of n leg) delay ≡ test
     → (if test then Some (arr_of n leg.exit.0 + delay) else None) ≡ Some x → (has_delay (outcomes_of n leg) delay ≡ true) × (arr_of n leg.exit.0 + delay ≡ x)
@@ -47,13 +47,13 @@ place_after-push n source (ride ∷ rides) r = place_after-push n (to_of n ride.
 -- ---- the walk down the tree of a graph
 
 -- the walk after a ride, by whether the delay is one of its outcomes
-pub kid_walk : (n : NetworkModel) (f : ℕ → Tree) (scheduled : ℕ) (row : List Outcome) (i j delay : ℕ) (delays : List ℕ) (behind : List Ridden)
-    → walk_kid n (kids_after f scheduled row) row i j delay delays behind ≡
+pub child_walk : (n : NetworkModel) (f : ℕ → Tree) (scheduled : ℕ) (row : List Outcome) (i j delay : ℕ) (delays : List ℕ) (behind : List Ridden)
+    → walk_child n (kids_after f scheduled row) row i j delay delays behind ≡
     (if has_delay row delay then walk n (f (scheduled + delay)) delays (behind ++ ride_with_delay n i j delay ∷ []) else Err (fault.NotADelay (length behind + 1)))
-kid_walk n f scheduled [] i j delay delays behind = refl
-kid_walk n f scheduled (o ∷ row) i j delay delays behind = elim (cases_eq o.delay delay) [
+child_walk n f scheduled [] i j delay delays behind = refl
+child_walk n f scheduled (o ∷ row) i j delay delays behind = elim (cases_eq o.delay delay) [
   | inl is ↦ rw (eq-eqb o.delay delay is) (ap (λ (d : ℕ). walk n (f (scheduled + d)) delays (behind ++ ride_with_delay n i j delay ∷ [])) is)
-  | inr differ ↦ rw (ne_eqb o.delay delay differ) (kid_walk n f scheduled row i j delay delays behind)
+  | inr differ ↦ rw (ne_eqb o.delay delay differ) (child_walk n f scheduled row i j delay delays behind)
 ]
 
 module _ (n : NetworkModel) (target : ℕ) (choice : Leg → ℕ → Option Leg) (s : Position) (behind : List Ridden) (delays : List ℕ) (i : ℕ) where
@@ -67,7 +67,7 @@ module _ (n : NetworkModel) (target : ℕ) (choice : Leg → ℕ → Option Leg)
       (behind ++ ride_with_delay n leg.enter.0 leg.exit.0 (slice_index_or delays i d) ∷ []) else Err (fault.NotADelay (length behind + 1)))
   rides_on leg d away is within =
       rw (ne_eqb s.place.0 target away, is, drop_more delays i d within)
-      (kid_walk n (unfold_after n target choice s.remaining leg) (arr_of n leg.exit.0) (outcomes_of n leg) leg.enter.0 leg.exit.0 (slice_index_or delays i d)
+      (child_walk n (unfold_after n target choice s.remaining leg) (arr_of n leg.exit.0) (outcomes_of n leg) leg.enter.0 leg.exit.0 (slice_index_or delays i d)
       (drop (i + 1) delays) behind)
 
   delay_none : (leg : Leg) (delay : ℕ) (test : Bool) → has_delay (outcomes_of n leg) delay ≡ test
@@ -102,22 +102,22 @@ module _ (n : NetworkModel) (target deadline : ℕ) where
     safe_walk (Done a) p x (delay ∷ delays) behind safe = tt
     safe_walk (Stuck q y) p x delays behind safe = absurd safe
     safe_walk (Ride i j kids) p x [] behind safe = tt
-    safe_walk (Ride i j kids) p x (delay ∷ delays) behind safe = safe_kids kids (outcomes n j) (to_of n j) (arr_of n j) i j delay delays behind safe.3
+    safe_walk (Ride i j kids) p x (delay ∷ delays) behind safe = safe_children kids (outcomes n j) (to_of n j) (arr_of n j) i j delay delays behind safe.3
 
-    safe_kids : (kids : Kids) (row : List Outcome) (p scheduled i j delay : ℕ) (delays : List ℕ) (behind : List Ridden)
-        → AreSafe n target (Some deadline) kids row p scheduled → IsSafeAnswer deadline (walk_kid n kids row i j delay delays behind)
-    safe_kids Nil row p scheduled i j delay delays behind safe = tt
-    safe_kids (Kid w tree kids) [] p scheduled i j delay delays behind safe = absurd safe
-    safe_kids (Kid w tree kids) (o ∷ row) p scheduled i j delay delays behind safe =
-        safe_by (o.delay == delay) (walk n tree delays (behind ++ ride_with_delay n i j delay ∷ [])) (walk_kid n kids row i j delay delays behind)
-        (safe_walk tree p (scheduled + o.delay) delays (behind ++ ride_with_delay n i j delay ∷ []) safe.1) (safe_kids kids row p scheduled i j delay delays behind safe.2)
+    safe_children : (kids : Kids) (row : List Outcome) (p scheduled i j delay : ℕ) (delays : List ℕ) (behind : List Ridden)
+        → AreSafe n target (Some deadline) kids row p scheduled → IsSafeAnswer deadline (walk_child n kids row i j delay delays behind)
+    safe_children Nil row p scheduled i j delay delays behind safe = tt
+    safe_children (Kid w tree kids) [] p scheduled i j delay delays behind safe = absurd safe
+    safe_children (Kid w tree kids) (o ∷ row) p scheduled i j delay delays behind safe =
+        safe_by (o.delay == delay) (walk n tree delays (behind ++ ride_with_delay n i j delay ∷ [])) (walk_child n kids row i j delay delays behind)
+        (safe_walk tree p (scheduled + o.delay) delays (behind ++ ride_with_delay n i j delay ∷ []) safe.1) (safe_children kids row p scheduled i j delay delays behind safe.2)
 
 safe_start : (n : NetworkModel) (q : Query) (tree : Tree) (delays : List ℕ) → IsSafeFor n q tree → IsSafeAnswer q.deadline.0 (walk n tree delays [])
 safe_start n q (Done a) [] safe = let is = safe.0 in omega (arith, is, safe.2)
 safe_start n q (Done a) (delay ∷ delays) safe = tt
 safe_start n q (Stuck p y) delays safe = absurd safe
 safe_start n q (Ride i j kids) [] safe = tt
-safe_start n q (Ride i j kids) (delay ∷ delays) safe = safe_kids n q.target.0 q.deadline.0 kids (outcomes n j) (to_of n j) (arr_of n j) i j delay delays [] safe.3
+safe_start n q (Ride i j kids) (delay ∷ delays) safe = safe_children n q.target.0 q.deadline.0 kids (outcomes n j) (to_of n j) (arr_of n j) i j delay delays [] safe.3
 
 pub safe_answer : (n : NetworkModel) (q : Query) (tree : Tree) (delays : List ℕ) (result : Result Trace ReplayFault)
     → IsAnswer result (walk n tree delays []) → IsSafeFor n q tree → IsSafeAnswer q.deadline.0 result
@@ -132,7 +132,7 @@ next_leg n tables fit place x remaining None is some = tt
 next_leg n tables fit place x remaining (Some leg) is some = (picked_leg n tables fit place x leg (sym is), omega (arith, some))
 
 -- a leg that is next leaves fewer rides
-pub next_step : (n : NetworkModel) (most before remaining new_left : ℕ) (next : Option Leg) → IfSome next (λ leg. IsLegOf n leg × (new_left < remaining))
-    → before + remaining < most → IfSome next (λ leg. IsLegOf n leg × (before + 1 + new_left < most))
-next_step n most before remaining new_left None said few = tt
-next_step n most before remaining new_left (Some leg) said few = (said.0, omega (arith, said.1, few))
+pub next_step : (n : NetworkModel) (most before remaining new_remaining : ℕ) (next : Option Leg) → IfSome next (λ leg. IsLegOf n leg × (new_remaining < remaining))
+    → before + remaining < most → IfSome next (λ leg. IsLegOf n leg × (before + 1 + new_remaining < most))
+next_step n most before remaining new_remaining None said few = tt
+next_step n most before remaining new_remaining (Some leg) said few = (said.0, omega (arith, said.1, few))

@@ -27,16 +27,16 @@ abbrev mutual
   walk network (Done x) (delay ∷ delays) behind = Err (fault.TooMany (length behind))
   walk network (Stuck p x) delays behind = Err (fault.Stuck (record { 0 = p }) (record { 0 = x }))
   walk network (Ride i j kids) [] behind = Err (fault.TooFew (length behind))
-  walk network (Ride i j kids) (delay ∷ delays) behind = walk_kid network kids (outcomes network j) i j delay delays behind
+  walk network (Ride i j kids) (delay ∷ delays) behind = walk_child network kids (outcomes network j) i j delay delays behind
 
   -- on at the child of the outcome with this delay
-  pub walk_kid : NetworkModel → Kids → List Outcome → ℕ → ℕ → ℕ → List ℕ → List Ridden → Result Trace ReplayFault
-  walk_kid network Nil row i j delay delays behind = Err (fault.NotADelay (length behind + 1))
-  walk_kid network (Kid w tree kids) [] i j delay delays behind = Err (fault.NotADelay (length behind + 1))
-  walk_kid network (Kid w tree kids) (o ∷ row) i j delay delays behind =
+  pub walk_child : NetworkModel → Kids → List Outcome → ℕ → ℕ → ℕ → List ℕ → List Ridden → Result Trace ReplayFault
+  walk_child network Nil row i j delay delays behind = Err (fault.NotADelay (length behind + 1))
+  walk_child network (Kid w tree kids) [] i j delay delays behind = Err (fault.NotADelay (length behind + 1))
+  walk_child network (Kid w tree kids) (o ∷ row) i j delay delays behind =
       if o.delay == delay
       then walk network tree delays (behind ++ ride_with_delay network i j delay ∷ [])
-      else walk_kid network kids row i j delay delays behind
+      else walk_child network kids row i j delay delays behind
 
 -- there was no memory, or it is this
 abbrev pub IsAnswer : Result Trace ReplayFault → Result Trace ReplayFault → Type 0

@@ -7,5 +7,5 @@ pub loop-row-preserved : goal.loop-row-preserved
 loop-row-preserved c =
     let loop = c.loop-row in
     ap (put_rows (drop (loop.row-index + 1) c.args.rows.now)) c.in_ok-insert.ensures.keys
-    ∙ sym (at_drop_more (λ left. put_rows left loop.table.keys) c.args.rows.now loop.row-index _ c.loop-row-test.true)
+    ∙ sym (at_drop_more (λ remaining. put_rows remaining loop.table.keys) c.args.rows.now loop.row-index _ c.loop-row-test.true)
     ∙ loop.invariant

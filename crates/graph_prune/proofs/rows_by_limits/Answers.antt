@@ -13,17 +13,17 @@ more : (n : NetworkModel) (place : ℕ) (rows : List GraphRow) (i : ℕ) (none :
     → now ++ by_limits n place (drop (i + 1) rows) next ≡ old ++ by_limits n place (drop i rows) last
 more n place rows i none old now limit last next less is step =
     step ∙ ap (λ by. old ++ with_limit by (get_or rows i none).leg (by_limits n place (drop (i + 1) rows)) last) is
-    ∙ sym (ap (λ left. old ++ by_limits n place left last) (drop_more rows i none less))
+    ∙ sym (ap (λ remaining. old ++ by_limits n place remaining last) (drop_more rows i none less))
 
 pub loop-row-preserved : goal.loop-row-preserved
 loop-row-preserved c =
     let loop = c.loop-row in
-    let left = by_limits c.args.network.now c.args.place.0 (drop (loop.row-index + 1) c.args.rows.now) in
-    more c.args.network.now c.args.place.0 c.args.rows.now loop.row-index _ loop.all.items _ _ _ _ c.loop-row-test.true c.limit.ensures (c.in_ok-last.ensures left) ∙ loop.invariant
+    let remaining = by_limits c.args.network.now c.args.place.0 (drop (loop.row-index + 1) c.args.rows.now) in
+    more c.args.network.now c.args.place.0 c.args.rows.now loop.row-index _ loop.all.items _ _ _ _ c.loop-row-test.true c.limit.ensures (c.in_ok-last.ensures remaining) ∙ loop.invariant
 
 pub returns : goal.returns
 returns c =
     let loop = c.loop-row in
     let last = option_map (λ moment. moment.0) loop.last in
-    let none = ap (λ left. loop.all.items ++ by_limits c.args.network.now c.args.place.0 left last) (drop_all loop.row-index c.args.rows.now c.loop-row-test.false) in
+    let none = ap (λ remaining. loop.all.items ++ by_limits c.args.network.now c.args.place.0 remaining last) (drop_all loop.row-index c.args.rows.now c.loop-row-test.false) in
     sym (append-nil loop.all.items) ∙ sym none ∙ loop.invariant

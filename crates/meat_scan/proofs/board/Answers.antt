@@ -3,7 +3,7 @@ use Rattle.plan_model.specs.Network.{from_of}
 use Rattle.plan_model.specs.Ways.{ways_into}
 use Rattle.plan_model.proofs.Boarding.{ways_into-distinct}
 use Rattle.meat_scan.specs.ScanTables.{has_way, spare_at}
-use Rattle.meat_scan.proofs.WaySteps.{from_in, room_left, rows_next, spare_next}
+use Rattle.meat_scan.proofs.WaySteps.{from_in, room_remains, rows_next, spare_next}
 use Rattle.meat_scan.proofs.board.Goals as goal
 
 pub put_leg-requires : goal.put_leg-requires
@@ -15,7 +15,7 @@ put_leg-requires g c =
     let inside = from_in network c.get-connection.ensures.valid r c.loop-k.k way there c.way_at-way.ensures in
     let from : from_of network c.args.site.now.id.0 ≡ r = ap (λ connection. connection.from.0) (sym c.get-connection.ensures.connection) in
     let room = subst (λ to. cond (has_way network way.from.0 to) 1 0 ≤ spare_at c.args.profiles.now way.from.0) from (c.requires way.from.0 inside) in
-    room_left network c.get-connection.ensures.valid r c.loop-k.k there (omega arith) way c.way_at-way.ensures _ _ room (c.loop-k.invariant.spare way.from.0)
+    room_remains network c.get-connection.ensures.valid r c.loop-k.k there (omega arith) way c.way_at-way.ensures _ _ room (c.loop-k.invariant.spare way.from.0)
 
 pub loop-k-preserved : goal.loop-k-preserved
 loop-k-preserved g c =

@@ -3,7 +3,7 @@ use Rattle.std.proofs.lemmas.Bool.Decides.{nat_tests}
 use Rattle.std.proofs.lemmas.List.{nil_from_length}
 use Rattle.stop_times.specs.declared.rows.StopRow.{StopRow}
 use Rattle.gtfs_tables.specs.Timed.{rows_of, kept_at}
-use Rattle.connections.specs.Steps.{AreDepartures}
+use Rattle.connections.specs.Steps.{DepartOnDay}
 use Rattle.connections.proofs.ReachLemmas.{departures_are, over-next}
 use Rattle.connections.proofs.reach.latest_of.Goals as goal
 
@@ -11,7 +11,7 @@ pub last_departure-requires : goal.last_departure-requires
 last_departure-requires c =
     let f = c.args.feed.now in let trip = c.loop-trip.trip in
     let inside : trip < length f.trip_ids = omega (arith, c.loop-trip-test.true, c.trip_count-trip-end.ensures.count) in
-    subst AreDepartures (sym c.stop_times.ensures) (departures_are (rows_of f trip) (length f.stop_ids) (c.trip_count-trip-end.ensures.timed trip inside))
+    subst DepartOnDay (sym c.stop_times.ensures) (departures_are (rows_of f trip) (length f.stop_ids) (c.trip_count-trip-end.ensures.timed trip inside))
 
 pub loop-trip-preserved : goal.loop-trip-preserved
 loop-trip-preserved c =

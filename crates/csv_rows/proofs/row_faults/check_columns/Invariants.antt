@@ -1,6 +1,6 @@
 use Rattle.std.proofs.Common.{◌≡◌, drop}
-use Rattle.csv_rows.specs.RowFaults.{first_lack}
+use Rattle.csv_rows.specs.RowFaults.{first_missing}
 use Rattle.csv_rows.proofs.row_faults.check_columns.Given as goal
 
 abbrev pub invariant-loop-i : goal.invariant-loop-i
-invariant-loop-i l = first_lack l.table l.rows l.required ≡ first_lack l.table l.rows (drop l.i l.required)
+invariant-loop-i l = first_missing l.table l.rows l.required ≡ first_missing l.table l.rows (drop l.i l.required)

@@ -15,4 +15,4 @@ returns-clause-routes c =
 pub returns-clause-number : goal.returns-clause-number
 returns-clause-number c =
     let P : Option (Bor (List ℕ)) → Type 0 = λ o. IsNumber c.add.new.self (Some c.in_ok-number.number) (option_map (λ s. s.now) o) in
-    subst P (sym c.in-Some.is) (number-is c.add.new.self c.in-Some.id.now c.in_ok-number.number c.in_ok-number.ensures.place)
+    subst P (sym c.in-Some.is) (number-is c.add.new.self c.in-Some.id.now c.in_ok-number.number c.in_ok-number.ensures.number)

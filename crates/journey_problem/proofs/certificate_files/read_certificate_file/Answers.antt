@@ -10,10 +10,10 @@ returns-in_err-bytes-clause-fault g c = if_raised _ c.from_residual.result c.fro
     (unloaded (g.F.Files.state c.args.files.now).files c.args.limits.now c.args.start.0 c.args.path.now c.args.problem.now _
     c.in_err-bytes.ensures.stage c.in_err-bytes.ensures.bytes)
 
-pub returns-clause-proof : goal.returns-clause-proof
-returns-clause-proof g c =
+pub returns-clause-certificate : goal.returns-clause-certificate
+returns-clause-certificate g c =
     read (g.F.Files.state c.args.files.now).files c.args.limits.now c.args.start.0 c.args.path.now c.args.problem.now c.in_ok-bytes.bytes.items c.as_slice.result.now
-    c.as_slice.ensures.value c.in_ok-bytes.ensures.bytes c.certificate_of_bytes.result c.certificate_of_bytes.ensures.proof
+    c.as_slice.ensures.value c.in_ok-bytes.ensures.bytes c.certificate_of_bytes.result c.certificate_of_bytes.ensures.certificate
 
 pub returns-clause-fault : goal.returns-clause-fault
 returns-clause-fault g c =

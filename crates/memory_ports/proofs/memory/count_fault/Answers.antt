@@ -1,6 +1,6 @@
 use Rattle.std.proofs.Common.{arith, sym, ◌∙◌, ap, List, ℕ, nat_eq}
 use Rattle.std.specs.List.{list_any}
-use Rattle.file_ports.proofs.NamedLemmas.{stands}
+use Rattle.file_ports.proofs.NamedLemmas.{entry_at}
 use Rattle.memory_ports.proofs.FailingLemmas.{fails_none, fails_found, count_here, count_elsewhere, names_stay, count_later}
 use Rattle.memory_ports.proofs.memory.count_fault.Goals as goal
 
@@ -9,14 +9,14 @@ returns-in_default-clause-reported c = fails_none c.args.failing.now.items c.der
 
 pub returns-then-not-names_call-clause-reported : goal.returns-then-not-names_call-clause-reported
 returns-then-not-names_call-clause-reported c =
-    let s = stands c.args.failing.now.items c.deref.result.now c.args.path.now c.in-Some.index c.index_mut.result.now _ c.index_of.ensures
+    let s = entry_at c.args.failing.now.items c.deref.result.now c.args.path.now c.in-Some.index c.index_mut.result.now _ c.index_of.ensures
     c.deref.ensures.value c.in-Some.is c.index_mut.ensures.value in
     fails_found _ _ c.args.call _ c.index_mut.result.now _ s
     (sym c.if-not-names_call.true ∙ c.names_call.ensures ∙ ap (λ (xs : List ℕ). list_any (λ k. nat_eq k c.args.call) xs) c.deref-2.ensures.value)
 
 pub returns : goal.returns
 returns c =
-    let s = stands c.args.failing.now.items c.deref.result.now c.args.path.now c.in-Some.index c.index_mut.result.now _ c.index_of.ensures
+    let s = entry_at c.args.failing.now.items c.deref.result.now c.args.path.now c.in-Some.index c.index_mut.result.now _ c.index_of.ensures
     c.deref.ensures.value c.in-Some.is c.index_mut.ensures.value in
     record {
       reported =

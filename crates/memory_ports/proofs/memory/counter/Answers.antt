@@ -3,8 +3,8 @@ use Rattle.file_ports.proofs.NamedLemmas.{at_path, searched}
 use Rattle.memory_ports.proofs.FailingLemmas.{push_stands, fresh_counter}
 use Rattle.memory_ports.proofs.memory.counter.Goals as goal
 
-pub returns-clause-place : goal.returns-clause-place
-returns-clause-place c =
+pub returns-clause-index : goal.returns-clause-index
+returns-clause-index c =
     ap (λ es. position (at_path c.args.path.now) es) c.in_ok-push.ensures.items
     ∙ push_stands c.args.failing.now.items c.args.path.now (record { path = c.in_ok-path.path; value = record { calls = c.new.result; faults = 0 } })
     c.in_ok-path.ensures.ok (searched c.args.failing.now.items c.deref.result.now c.args.path.now _ _ c.index_of.ensures c.deref.ensures.value c.in_default.is)

@@ -7,7 +7,7 @@ use Rattle.stop_times.proofs.table_rows.rows_after.Given as goal
 
 abbrev pub invariant-loop-order : goal.invariant-loop-order
 invariant-loop-order l = record {
-  left : drop (length l.timed.items + 1) (l.initial.row ∷ l.initial.records) ≡ l.records;
+  remaining : drop (length l.timed.items + 1) (l.initial.row ∷ l.initial.records) ≡ l.records;
   inside : length l.timed.items ≤ length l.initial.records;
   few : length l.timed.items ≤ l.limits.stop_times;
   rows : l.timed.items ≡ list_below (λ i. value_or no_row (timed_at l.named.trips l.named.stops l.named.places.now (l.initial.row ∷ l.initial.records) i)) (length l.timed.items);

@@ -1,9 +1,9 @@
 use Rattle.std.proofs.Common.{◌∙◌, ap}
 use Rattle.csv_rows.specs.Tables.{number_in, header}
-use Rattle.csv_rows.proofs.PlaceLemmas.{place_is}
+use Rattle.csv_rows.proofs.HeaderLemmas.{index_is}
 use Rattle.csv_rows.proofs.rows.Rows.index_of.Goals as goal
 
 pub returns : goal.returns
 returns c =
-    place_is c.column.result c.name.result.now (header c.args.self.now) c.column.ensures.found c.column.ensures.first c.column.ensures.none
+    index_is c.column.result c.name.result.now (header c.args.self.now) c.column.ensures.found c.column.ensures.first c.column.ensures.none
     ∙ ap (λ name. number_in name (header c.args.self.now)) c.name.ensures

@@ -1,8 +1,8 @@
 use Rattle.std.proofs.Common.{rules, codes, sym, ◌∙◌}
-use Rattle.file_ports.specs.Steady.{folder_of as others_on, left_of}
+use Rattle.file_ports.specs.Steady.{folder_of as others_on, remaining_of}
 use Rattle.feed_maker.specs.StopTimes.{lines_of}
 use Rattle.feed_maker.specs.MadeTables.{stop_times_text}
-use Rattle.feed_maker.proofs.HandLemmas.{opens_behind}
+use Rattle.feed_maker.proofs.OpenLemmas.{opens_behind}
 use Rattle.feed_maker.proofs.files.MadeFilesFiles.open_file.Goals as goal
 
 pub returns-clause-opened : goal.returns-clause-opened
@@ -11,7 +11,7 @@ returns-clause-opened c =
     record {
       opens =
           opens_behind c.args.path.now (codes "feed/stop_times.txt") (stop_times_text (lines_of old.times)) (others_on old.others)
-          c.open_file.result (left_of c.open_file.new.self) (sym c.eq.ensures ∙ c.if-eq.false) c.open_file.ensures.opened.opens;
+          c.open_file.result (remaining_of c.open_file.new.self) (sym c.eq.ensures ∙ c.if-eq.false) c.open_file.ensures.opened.opens;
       in_hand = search rules;
       cause = search rules;
     }

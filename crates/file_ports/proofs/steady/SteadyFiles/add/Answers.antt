@@ -1,6 +1,6 @@
 use Rattle.std.proofs.Common.{ap, ◌∙◌, vec_items}
 use Rattle.file_ports.specs.Ports.{FileMap, file_at}
-use Rattle.file_ports.proofs.HandLemmas.{put_file}
+use Rattle.file_ports.proofs.OpenLemmas.{put_file}
 use Rattle.file_ports.proofs.steady.SteadyFiles.add.Goals as goal
 
 pub returns-clause-ok : goal.returns-clause-ok

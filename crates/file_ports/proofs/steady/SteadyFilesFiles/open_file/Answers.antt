@@ -1,14 +1,14 @@
 use Rattle.std.proofs.Common.{rules, true, sym, ◌∙◌, ap, ◌≡◌, position, vec_items}
 use Rattle.file_ports.proofs.NamedLemmas.{at_path}
-use Rattle.file_ports.proofs.HandLemmas.{opened_left, opened_hand, absent}
+use Rattle.file_ports.proofs.OpenLemmas.{opened_remaining, opened_path, absent}
 use Rattle.file_ports.proofs.steady.SteadyFilesFiles.open_file.Goals as goal
 
 pub returns-in-Some-clause-opened : goal.returns-in-Some-clause-opened
 returns-in-Some-clause-opened c =
     let found = ap (λ z. position (at_path c.args.path.now) z) (sym c.deref.ensures.value) ∙ sym c.index_of-self.ensures in
-    let all = opened_hand (true ≡ true) c.args.self.now.held.items c.args.path.now c.index_of-self.result c.in-Some.field-0 found c.in-Some.is in
+    let all = opened_path (true ≡ true) c.args.self.now.held.items c.args.path.now c.index_of-self.result c.in-Some.field-0 found c.in-Some.is in
     record {
-      opens = opened_left vec_items c.args.self.now.held.items c.args.path.now c.index_of-self.result c.in-Some.field-0 found c.in-Some.is;
+      opens = opened_remaining vec_items c.args.self.now.held.items c.args.path.now c.index_of-self.result c.in-Some.field-0 found c.in-Some.is;
       in_hand = (all.0, all.1);
       cause = search rules;
     }

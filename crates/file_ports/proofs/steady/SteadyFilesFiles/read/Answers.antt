@@ -1,14 +1,14 @@
 use Rattle.std.proofs.Common.{rules, sym, ◌∙◌, ◌≡◌, length, drop, ◌+◌, vec_items}
-use Rattle.file_ports.specs.Steady.{left_of}
-use Rattle.file_ports.proofs.HandLemmas.{holds, hand_left, if_some_at, read_count, moved, at_end, consumes_known, end_known}
+use Rattle.file_ports.specs.Steady.{remaining_of}
+use Rattle.file_ports.proofs.OpenLemmas.{holds, open_remaining, if_some_at, read_count, moved, at_end, consumes_known, end_known}
 use Rattle.file_ports.proofs.steady.SteadyFilesFiles.read.Goals as goal
 
 pub returns-clause-reads : goal.returns-clause-reads
 returns-clause-reads c =
-    let h = holds c.args.self.now.held.items c.args.self.now.hand c.in-Some.index c.index-file.result.now c.in-Some.is c.requires.in_hand c.index-file.ensures in
+    let h = holds c.args.self.now.held.items c.args.self.now.current c.in-Some.index c.index-file.result.now c.in-Some.is c.requires.in_hand c.index-file.ensures in
     let same_len : c.len.result ≡ length c.deref.result.now = c.len.ensures ∙ sym c.deref.ensures.len in
-    let old = hand_left vec_items _ c.args.self.now.offset _ _ c.index-file.result.now h in
-    let new = hand_left vec_items _ (c.min-from.result + c.copy_front-count.result) _ _ c.index-file.result.now h in
+    let old = open_remaining vec_items _ c.args.self.now.offset _ _ c.index-file.result.now h in
+    let new = open_remaining vec_items _ (c.min-from.result + c.copy_front-count.result) _ _ c.index-file.result.now h in
     record {
       in_hand = search rules;
       bound = search rules;
@@ -23,7 +23,7 @@ returns-clause-reads c =
 
 pub returns-clause-count : goal.returns-clause-count
 returns-clause-count c =
-    let h = holds c.args.self.now.held.items c.args.self.now.hand c.in-Some.index c.index-file.result.now c.in-Some.is c.requires.in_hand c.index-file.ensures in
-    if_some_at (left_of c.args.self.now) (drop c.args.self.now.offset c.index-file.result.now.value.items) _ (hand_left vec_items _ c.args.self.now.offset _ _ c.index-file.result.now h)
+    let h = holds c.args.self.now.held.items c.args.self.now.current c.in-Some.index c.index-file.result.now c.in-Some.is c.requires.in_hand c.index-file.ensures in
+    if_some_at (remaining_of c.args.self.now) (drop c.args.self.now.offset c.index-file.result.now.value.items) _ (open_remaining vec_items _ c.args.self.now.offset _ _ c.index-file.result.now h)
     (read_count c.index-file.result.now.value.items c.deref.result.now c.args.self.now.offset c.min-from.result _ _ _ _ c.deref.ensures.value
     c.min-from.ensures (c.len.ensures ∙ sym c.deref.ensures.len) c.copy_front-count.ensures.count)

@@ -4,9 +4,9 @@ use Rattle.plan_model.specs.Bounds.{certainty}
 use Rattle.late_chance.specs.Chances.{itself}
 use Rattle.late_chance.proofs.chance.LateChanceScore.blend.Given as goal
 
-abbrev pub invariant-loop-kid : goal.invariant-loop-kid
-invariant-loop-kid l = record {
-  copied : l.spans.items ≡ map itself (take l.kid-index l.kids);
-  count : array_vec_len l.spans ≡ l.kid-index;
+abbrev pub invariant-loop-child : goal.invariant-loop-child
+invariant-loop-child l = record {
+  copied : l.spans.items ≡ map itself (take l.child-index l.kids);
+  count : array_vec_len l.spans ≡ l.child-index;
   within : All (λ s. s.hi ≤ certainty) l.spans.items;
 }

@@ -1,29 +1,29 @@
 use Rattle.std.proofs.Common.{refl, ◌∙◌, ap, ◌||◌, ◌&&◌, bytes_eq, nat_eq}
-use Rattle.file_ports.proofs.NamedLemmas.{stands}
+use Rattle.file_ports.proofs.NamedLemmas.{entry_at}
 use Rattle.memory_ports.proofs.FailingLemmas.{recalled_count, recalled_more, recalled_same, on_any_err}
 use Rattle.memory_ports.proofs.memory.MemoryFiles.fail.Goals as goal
 
 pub returns-in_err-push-clause-err : goal.returns-in_err-push-clause-err
 returns-in_err-push-clause-err c =
-    let s = stands c.counter.new.failing.items c.counter.new.failing.items c.args.path.now c.in_ok-index.index c.index_mut.result.now _ refl refl
-    c.in_ok-index.ensures.place c.index_mut.ensures.value in
+    let s = entry_at c.counter.new.failing.items c.counter.new.failing.items c.args.path.now c.in_ok-index.index c.index_mut.result.now _ refl refl
+    c.in_ok-index.ensures.index c.index_mut.ensures.value in
     on_any_err c.from_residual-in_err-push.result (λ p k. recalled_same _ _ p _ k c.push.new.self c.index_mut.result.now s c.in_err-push.ensures.items ∙ c.in_ok-index.ensures.same.fails p k)
 
 pub returns-in_err-push-clause-counts : goal.returns-in_err-push-clause-counts
 returns-in_err-push-clause-counts c =
-    let s = stands c.counter.new.failing.items c.counter.new.failing.items c.args.path.now c.in_ok-index.index c.index_mut.result.now _ refl refl
-    c.in_ok-index.ensures.place c.index_mut.ensures.value in
+    let s = entry_at c.counter.new.failing.items c.counter.new.failing.items c.args.path.now c.in_ok-index.index c.index_mut.result.now _ refl refl
+    c.in_ok-index.ensures.index c.index_mut.ensures.value in
     λ p. recalled_count _ _ p _ c.push.new.self c.index_mut.result.now s ∙ c.in_ok-index.ensures.same.counts p
 
 pub returns-clause-ok : goal.returns-clause-ok
 returns-clause-ok c =
-    let s = stands c.counter.new.failing.items c.counter.new.failing.items c.args.path.now c.in_ok-index.index c.index_mut.result.now _ refl refl
-    c.in_ok-index.ensures.place c.index_mut.ensures.value in
+    let s = entry_at c.counter.new.failing.items c.counter.new.failing.items c.args.path.now c.in_ok-index.index c.index_mut.result.now _ refl refl
+    c.in_ok-index.ensures.index c.index_mut.ensures.value in
     λ p k. recalled_more _ _ p _ c.args.call k c.push.new.self c.index_mut.result.now s c.in_ok-push.ensures.items
     ∙ ap (λ b. b || (bytes_eq c.args.path.now p && nat_eq c.args.call k)) (c.in_ok-index.ensures.same.fails p k)
 
 pub returns-clause-counts : goal.returns-clause-counts
 returns-clause-counts c =
-    let s = stands c.counter.new.failing.items c.counter.new.failing.items c.args.path.now c.in_ok-index.index c.index_mut.result.now _ refl refl
-    c.in_ok-index.ensures.place c.index_mut.ensures.value in
+    let s = entry_at c.counter.new.failing.items c.counter.new.failing.items c.args.path.now c.in_ok-index.index c.index_mut.result.now _ refl refl
+    c.in_ok-index.ensures.index c.index_mut.ensures.value in
     λ p. recalled_count _ _ p _ c.push.new.self c.index_mut.result.now s ∙ c.in_ok-index.ensures.same.counts p

@@ -15,7 +15,7 @@ loop-n-preserved c =
     let day = c.day_after-day.result in
     let back = to_z-of_z w32 day (record { sfits = c.day_after-day.type_inv }) in
     let s = c.args.self.now in
-    let number = c.number-number.ensures.place ∙ ap (λ (x : ServiceParts). number_in c.args.service.now x.ids) c.self.view_is in
+    let number = c.number-number.ensures.number ∙ ap (λ (x : ServiceParts). number_in c.args.service.now x.ids) c.self.view_is in
     let asked = c.runs_at.ensures ∙ ap (runs_at s.periods s.exceptions _) number ∙ ap p back in
     elim c.if-runs_at.branch [
       | then-runs_at+in_ok-push w ↦

@@ -2,14 +2,14 @@ use Rattle.std.proofs.Common.{◌≡◌, ◌∙◌, refl, sym, ap, if◌then◌e
 use Rattle.csv.specs.Reading.{reader_state}
 use Rattle.csv.specs.Records.{fields_of}
 use Rattle.csv_rows.specs.Spaces.{trimmed_text}
-use Rattle.stop_times.specs.RecordsLeft.{records_after, source}
+use Rattle.stop_times.specs.RecordsRemaining.{records_after, source}
 use Rattle.stop_times.proofs.RecordLemmas.{took_first-read, took-none}
 use Rattle.stop_times.proofs.records.Records.next.Goals as goal
 use Rattle.stop_times.proofs.records.Records.next.Goals.{in-Ok-true, in-Ok-false, in-Err}
 
-left : (done : Bool) (rows : List (List (List ℕ))) → done ≡ false → (if done then [] else rows) ≡ rows
-left true rows off = absurd (cc)
-left false rows off = refl
+remaining : (done : Bool) (rows : List (List (List ℕ))) → done ≡ false → (if done then [] else rows) ≡ rows
+remaining true rows off = absurd (cc)
+remaining false rows off = refl
 
 pub invariant_of-self : goal.invariant_of-self
 invariant_of-self c = λ off.
@@ -26,10 +26,10 @@ returns-clause-some c =
           let took = took_first-read c.self.inside.reader c.read_byte_record.new.self (fields_of c.read_byte_record.new.row) is (w.in-Ok-true.ensures.ready is.trim) read in
           rw (w.result-is, w.self-is) (λ found.
           sym c.self.view_is
-          ∙ left c.self.inside.is_done (records_after (reader_state c.self.inside.reader) (source c.self.inside.reader)) c.if-self.false
+          ∙ remaining c.self.inside.is_done (records_after (reader_state c.self.inside.reader) (source c.self.inside.reader)) c.if-self.false
           ∙ took.records
           ∙ ap (λ (rows : List (List (List ℕ))). map trimmed_text (fields_of c.read_byte_record.new.row) ∷ rows)
-          (sym (left c.self.inside.is_done (records_after (reader_state c.read_byte_record.new.self) (source c.read_byte_record.new.self)) c.if-self.false)))
+          (sym (remaining c.self.inside.is_done (records_after (reader_state c.read_byte_record.new.self) (source c.read_byte_record.new.self)) c.if-self.false)))
       | in-Ok-false w ↦ rw w.result-is (λ found. absurd (cc))
       | in-Err w ↦ rw w.result-is tt
     ]
@@ -43,7 +43,7 @@ returns-clause-none c =
           let read = rw w.in-Ok-false.field-0-test at (w.in-Ok-false.ensures.reads is.trim is.ready) in
           rw w.result-is (λ found.
           sym c.self.view_is
-          ∙ left c.self.inside.is_done (records_after (reader_state c.self.inside.reader) (source c.self.inside.reader)) c.if-self.false
+          ∙ remaining c.self.inside.is_done (records_after (reader_state c.self.inside.reader) (source c.self.inside.reader)) c.if-self.false
           ∙ took-none c.self.inside.reader c.read_byte_record.new.self (fields_of c.read_byte_record.new.row) is read)
       | in-Err w ↦ rw w.result-is tt
     ]

@@ -26,6 +26,6 @@ returns-clause-found c =
     let stored = c.in_ok-number.ensures.stored in
     text_of_stored c.insert_full.new.self.keys c.in_ok-number.number stored.0 c.args.text.now stored.1 stored.2
 
-pub returns-clause-place : goal.returns-clause-place
-returns-clause-place c =
+pub returns-clause-number : goal.returns-clause-number
+returns-clause-number c =
     sym (number_is (Some c.in_ok-number.number) c.args.text.now (key_texts c.insert_full.new.self.keys) (invariant_of-self-2 c).distinct (returns-clause-found c) tt)

@@ -1,7 +1,7 @@
 use Rattle.std.proofs.Common.{◌≡◌, ℕ, None, Some, List, Contains, slice_get, sym, subst, ◌∙◌, ap}
 use Rattle.csv_rows.specs.Tables.{number_in}
 use Rattle.csv_rows.proofs.IdLemmas.{number_is}
-use Rattle.csv_rows.proofs.KeyTexts.{key_absent, key_place}
+use Rattle.csv_rows.proofs.KeyTexts.{key_absent, key_position}
 use Rattle.text_index.specs.KeyTexts.{key_texts}
 use Rattle.text_index.proofs.index.TextIndex.number.Goals as goal
 
@@ -11,8 +11,8 @@ returns-in-None-clause-none c =
     let text = c.args.text.now in
     subst (λ (w : List (List ℕ)). ¬ Contains w text) c.self.view_is (key_absent text keys (sym c.in-None.ensures.found))
 
-pub returns-in-None-clause-place : goal.returns-in-None-clause-place
-returns-in-None-clause-place c =
+pub returns-in-None-clause-number : goal.returns-in-None-clause-number
+returns-in-None-clause-number c =
     let keys = c.self.inside.numbers.keys in
     let text = c.args.text.now in
     number_is None text (key_texts keys) c.self.invariant.distinct tt (key_absent text keys (sym c.in-None.ensures.found)) ∙ ap (number_in text) c.self.view_is
@@ -21,11 +21,11 @@ pub returns-in-Some-clause-found : goal.returns-in-Some-clause-found
 returns-in-Some-clause-found c =
     let keys = c.self.inside.numbers.keys in
     let text = c.args.text.now in
-    subst (λ (w : List (List ℕ)). slice_get w c.in-Some.number ≡ Some text) c.self.view_is (key_place text keys c.in-Some.number (sym c.in-Some.ensures.index))
+    subst (λ (w : List (List ℕ)). slice_get w c.in-Some.number ≡ Some text) c.self.view_is (key_position text keys c.in-Some.number (sym c.in-Some.ensures.index))
 
-pub returns-in-Some-clause-place : goal.returns-in-Some-clause-place
-returns-in-Some-clause-place c =
+pub returns-in-Some-clause-number : goal.returns-in-Some-clause-number
+returns-in-Some-clause-number c =
     let keys = c.self.inside.numbers.keys in
     let text = c.args.text.now in
-    number_is (Some c.in-Some.number) text (key_texts keys) c.self.invariant.distinct (key_place text keys c.in-Some.number (sym c.in-Some.ensures.index)) tt
+    number_is (Some c.in-Some.number) text (key_texts keys) c.self.invariant.distinct (key_position text keys c.in-Some.number (sym c.in-Some.ensures.index)) tt
     ∙ ap (number_in text) c.self.view_is

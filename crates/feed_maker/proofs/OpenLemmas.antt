@@ -12,11 +12,11 @@ other_path x y true h n =
     absurd (let k : true ≡ false = sym same ∙ n in cc)
 
 -- it is opened like the only one
-pub opens_behind : {E : Type 0} (path first text : List ℕ) (others : FileMap) (result : Result Presence E) (left : Option (List ℕ)) → bytes_eq path first ≡ false
-    → Opens (Some others) path result left → Opens (Some ((first, text) ∷ others)) path result left
-opens_behind path first text others (Ok Present) left n h =
+pub opens_behind : {E : Type 0} (path first text : List ℕ) (others : FileMap) (result : Result Presence E) (remaining : Option (List ℕ)) → bytes_eq path first ≡ false
+    → Opens (Some others) path result remaining → Opens (Some ((first, text) ∷ others)) path result remaining
+opens_behind path first text others (Ok Present) remaining n h =
     let e = ap (λ (b : Bool). if b then Some text else file_at others path) (other_path path first (bytes_eq first path) refl n) in
     (h.0 ∙ sym e, h.1)
-opens_behind path first text others (Ok Absent) left n h =
+opens_behind path first text others (Ok Absent) remaining n h =
     ap (λ (b : Bool). if b then Some text else file_at others path) (other_path path first (bytes_eq first path) refl n) ∙ h
-opens_behind path first text others (Err e) left n h = h
+opens_behind path first text others (Err e) remaining n h = h

@@ -18,8 +18,8 @@ abbrev pub records_after : State → Option (List ℕ) → List (List (List ℕ)
 records_after s None = []
 records_after s (Some text) = map (λ row. map trimmed_text row) (records_from default_config (length text + 1) s text)
 
-abbrev pub records_left : Inside → List (List (List ℕ))
-records_left r = if r.is_done then [] else records_after (reader_state r.reader) (source r.reader)
+abbrev pub records_remaining : Inside → List (List (List ℕ))
+records_remaining r = if r.is_done then [] else records_after (reader_state r.reader) (source r.reader)
 
 -- the reader is between two records, and takes the next one as it is
 pub record IsReading (reader : Reader (Bor (List ℕ))) : Type 0 where
