@@ -1,22 +1,12 @@
 -- What rows say, one more at a time.
-use Rattle.std.proofs.Common.{◌≡◌, ℕ, ◌+◌, ◌≤◌, ◌&&◌, Bool, true, false, cond, [], ◌∷◌, ◌++◌, length, count_by, Option, Some, None, IfSome, is_none, nat_eq}
-use Rattle.std.proofs.Common.{◌==◌, if◌then◌else◌, refl, sym, ap, ◌∙◌, subst, arith}
+use Rattle.change_times.proofs.Common.{◌≡◌, ℕ, ◌+◌, ◌≤◌, ◌&&◌, Bool, true, false, cond, [], ◌∷◌, ◌++◌, length, count_by, Option, Some, None, IfSome, is_none, nat_eq, ◌==◌, if◌then◌else◌, refl}
+use Rattle.change_times.proofs.Common.{sym, ap, ◌∙◌, subst, arith, nat_tests, Records, FeedParts, Transfer, transfer_columns, transfer_in, transfer_at, transfer_reported_by, greatest_below}
+use Rattle.change_times.proofs.Common.{TransfersSoFar, seconds_between, link_between, walks_of, most_to, AreCollected, ways_at, change_seconds, greatest_link, ChangeParts, AreCollectedChanges}
 use Rattle.std.specs.Map.{lookup}
 use Rattle.std.proofs.lemmas.List.Sums.{sum_by-append}
-use Rattle.std.proofs.lemmas.Bool.Decides.{nat_tests}
 use Rattle.csv_rows.specs.Lists.{list_below}
 use Rattle.csv_rows.proofs.ListLemmas.{list_below-zero, list_below-next}
-use Rattle.table_files.specs.Required.{Records}
-use Rattle.gtfs_tables.specs.Feeds.{FeedParts}
-use Rattle.change_times.specs.declared.transfers.Transfer.{Transfer}
 use Rattle.change_times.specs.declared.transfers.TransferColumns.{TransferColumns}
-use Rattle.change_times.specs.Transfers.{transfer_columns, transfer_in, transfer_at, transfer_reported_by}
-use Rattle.change_times.specs.Greatest.{greatest_below}
-use Rattle.change_times.specs.declared.changes.TransfersSoFar.{TransfersSoFar}
-use Rattle.change_times.specs.Walks.{seconds_between, link_between, walks_of, most_to}
-use Rattle.change_times.specs.TransfersSoFar.{AreCollected}
-use Rattle.change_times.specs.Links.{ways_at}
-use Rattle.change_times.specs.Changes.{change_seconds, greatest_link, ChangeParts, AreCollectedChanges}
 use Rattle.change_times.proofs.GreatestLemmas.{IsShort, greatest-zero}
 use Rattle.change_times.proofs.LinkLemmas.{ways-none}
 

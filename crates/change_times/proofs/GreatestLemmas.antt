@@ -1,6 +1,5 @@
 -- The greatest of what is there.
-use Rattle.std.proofs.Common.{◌≡◌, ℕ, zero, suc, ◌+◌, ◌≤◌, max, Option, Some, None, IfSome, refl, sym, ap, ◌∙◌, subst, arith, add-one}
-use Rattle.change_times.specs.Greatest.{greater, greatest_below}
+use Rattle.change_times.proofs.Common.{◌≡◌, ℕ, zero, suc, ◌+◌, ◌≤◌, max, Option, Some, None, IfSome, refl, sym, ap, ◌∙◌, subst, arith, add-one, greater, greatest_below}
 
 pub greatest-zero : (f : ℕ → Option ℕ) → greatest_below f 0 ≡ None
 unfolding greatest_below

@@ -1,3 +1,4 @@
+mod Common
 mod GreatestLemmas
 mod LinkLemmas
 mod SoundLemmas

@@ -1,17 +1,9 @@
 -- The links into places, built one place after the other.
-use Rattle.std.proofs.Common.{◌≡◌, ℕ, zero, suc, ◌+◌, ◌-◌, ◌<◌, max, List, [], ◌∷◌, ◌++◌, length, take, get_or, set, Option, Some, None, refl, sym, ap, ◌∙◌}
-use Rattle.std.proofs.Common.{subst, arith, add-one, length-append, get_or-set_same, get_or-set_other, inl, inr, OnOk, Result, Ok, Err, append-nil}
-use Rattle.std.proofs.lemmas.Bool.{cases_eq}
-use Rattle.std.proofs.lemmas.Bool.Decides.{nat_tests}
+use Rattle.change_times.proofs.Common.{◌≡◌, ℕ, zero, suc, ◌+◌, ◌-◌, ◌<◌, max, List, [], ◌∷◌, ◌++◌, length, take, get_or, set, Option, Some, None, refl, sym, ap, ◌∙◌, subst, arith, add-one}
+use Rattle.change_times.proofs.Common.{length-append, get_or-set_same, get_or-set_other, inl, inr, OnOk, Result, Ok, Err, cases_eq, nat_tests, get_or_default, get_or_push, take_more, All-append}
+use Rattle.change_times.proofs.Common.{All-get_or, All-nil, All-push, All-weaker, Way, Walk, Transfer, greater, link_from, ways_below, ComeBefore, walk_to, walks_of, most_to, link_between}
+use Rattle.std.proofs.Common.{append-nil}
 use Rattle.std.proofs.Math.Seq.{set-append_seam}
-use Rattle.std.proofs.lemmas.List.{get_or_default, get_or_push, take_more}
-use Rattle.std.proofs.lemmas.List.Elements.{All-append, All-get_or, All-nil, All-push, All-weaker}
-use Rattle.plan_model.specs.declared.model.Way.{Way}
-use Rattle.change_times.specs.declared.links.Walk.{Walk}
-use Rattle.change_times.specs.declared.transfers.Transfer.{Transfer}
-use Rattle.change_times.specs.Greatest.{greater}
-use Rattle.change_times.specs.Links.{link_from, ways_below, ComeBefore}
-use Rattle.change_times.specs.Walks.{walk_to, walks_of, most_to, link_between}
 use Rattle.change_times.proofs.GreatestLemmas.{greater-none, greater-assoc}
 
 pub ways-zero : (f : ℕ → Option ℕ) → ways_below f 0 ≡ []

@@ -1,18 +1,7 @@
 -- Ways that rise, come from others and take a second to a day.
-use Rattle.std.proofs.Common.{◌≡◌, ◌≢◌, ℕ, zero, suc, ◌+◌, ◌<◌, ◌≤◌, max, List, [], ◌∷◌, ◌++◌, length, get_or, All, Option, Some, None, sym, ap, ◌∙◌}
-use Rattle.std.proofs.Common.{subst, arith, length-append, ⊎_elim}
-use Rattle.std.proofs.lemmas.Bool.{cases_lt}
-use Rattle.std.proofs.lemmas.List.{append-nil, get_or_append_left, get_or_past, get_or_push}
-use Rattle.std.proofs.lemmas.List.Elements.{All-get_or, All-nil, All-push}
-use Rattle.plan_model.specs.declared.model.Way.{Way}
-use Rattle.change_times.specs.Links.{link_from, ways_below, ways_at}
-use Rattle.plan_model.specs.Network.{AreLinksInto}
-use Rattle.change_times.specs.declared.changes.TransfersSoFar.{TransfersSoFar}
-use Rattle.table_files.specs.Required.{Records}
-use Rattle.gtfs_tables.specs.Feeds.{FeedParts}
-use Rattle.change_times.specs.Transfers.{transfer_reported_by}
-use Rattle.change_times.specs.TransfersSoFar.{AreCollected}
-use Rattle.change_times.specs.Walks.{walks_of, most_to, link_between}
+use Rattle.change_times.proofs.Common.{◌≡◌, ◌≢◌, ℕ, zero, suc, ◌+◌, ◌<◌, ◌≤◌, max, List, [], ◌∷◌, ◌++◌, length, get_or, All, Option, Some, None, sym, ap, ◌∙◌, subst, arith, length-append, ⊎_elim}
+use Rattle.change_times.proofs.Common.{cases_lt, append-nil, get_or_append_left, get_or_past, get_or_push, All-get_or, All-nil, All-push, Way, link_from, ways_below, ways_at, AreLinksInto}
+use Rattle.change_times.proofs.Common.{TransfersSoFar, Records, FeedParts, transfer_reported_by, AreCollected, walks_of, most_to, link_between}
 use Rattle.change_times.proofs.ChangeLemmas.{no_own_link}
 use Rattle.change_times.proofs.GreatestLemmas.{IsShort, greatest-none}
 use Rattle.change_times.proofs.LinkLemmas.{ways-zero, ways-next, ways_before}

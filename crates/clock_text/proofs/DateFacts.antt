@@ -1,16 +1,7 @@
 -- Dates from 1970 on.
-use Rattle.std.proofs.Common.{◌≡◌, ℕ, ◌<◌, ◌≤◌, ◌⊎◌, inl, inr, arith, rules, pos, negsuc, ℤ, ◌≤ℤ◌, ◌<ℤ◌, true, refl, sym, ap, subst, ◌∙◌, Some, None}
-use Rattle.std.proofs.Common.{if◌then◌else◌, unsigned_abs}
-use Rattle.std.proofs.lemmas.Bool.{cases_order}
-use Rattle.std.proofs.lemmas.Int.{by_lt_z}
-use Rattle.jiff_core.proofs.DateLemmas.{epoch_day-lt}
-use Rattle.std.proofs.lemmas.Bool.Decides.{nat_tests}
-use Rattle.jiff_core.specs.Calendar.{days_from_civil, day_count, days_in_month, IsEpochDay}
-use Rattle.jiff_core.specs.Date.{epoch_day}
-use Rattle.jiff_core.specs.declared.civil.date.Date.{Date}
-use Rattle.clock_text.specs.Times.{has_date, day_of}
-use Rattle.jiff_core.proofs.SignedLemmas.{signed_arith}
-use Rattle.jiff_core.proofs.CalendarLemmas.{days_from_civil-day_count, day_count-later_year, day_count-day_of_year, day_count-epoch}
+use Rattle.clock_text.proofs.Common.{◌≡◌, ℕ, ◌<◌, ◌≤◌, ◌⊎◌, inl, inr, arith, rules, pos, negsuc, ℤ, ◌≤ℤ◌, ◌<ℤ◌, true, refl, sym, ap, subst, ◌∙◌, Some, None, if◌then◌else◌, unsigned_abs}
+use Rattle.clock_text.proofs.Common.{cases_order, by_lt_z, epoch_day-lt, nat_tests, days_from_civil, day_count, days_in_month, IsEpochDay, epoch_day, Date, has_date, day_of, signed_arith}
+use Rattle.clock_text.proofs.Common.{days_from_civil-day_count, day_count-later_year, day_count-day_of_year, day_count-epoch}
 
 -- a later year counts more days
 year_counts : (y m d : ℕ) → 1 ≤ d → (1970 ≡ y) ⊎ ((1970 < y) ⊎ (y < 1970)) → 1970 ≤ y → day_count (pos 1970) 1 1 ≤ day_count (pos y) m d

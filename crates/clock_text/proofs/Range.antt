@@ -1,9 +1,6 @@
 -- Moments of a text are before the year 10000.
-use Rattle.std.proofs.Common.{◌≡◌, ℕ, ◌+◌, ◌*◌, ◌<◌, ◌≤◌, List, arith, subst, ℤ, pos, negsuc, ◌≤ℤ◌, Some, unsigned_abs}
-use Rattle.jiff_core.specs.Calendar.{days_from_civil}
-use Rattle.jiff_core.proofs.SignedLemmas.{signed_arith}
-use Rattle.jiff_core.proofs.CalendarLemmas.{days_from_civil-day_count, day_count_bounds}
-use Rattle.clock_text.specs.Times.{Parts, parts_at, seconds_of_parts, moment_at}
+use Rattle.clock_text.proofs.Common.{◌≡◌, ℕ, ◌+◌, ◌*◌, ◌<◌, ◌≤◌, List, arith, subst, ℤ, pos, negsuc, ◌≤ℤ◌, Some, unsigned_abs, days_from_civil, signed_arith, days_from_civil-day_count}
+use Rattle.clock_text.proofs.Common.{day_count_bounds, Parts, parts_at, seconds_of_parts, moment_at}
 use Rattle.clock_text.proofs.DateFacts.{after_epoch}
 use Rattle.clock_text.proofs.OneText.{Holds, parts_hold, if_cases}
 

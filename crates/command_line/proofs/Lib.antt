@@ -1,2 +1,3 @@
+mod Common
 pub mod Pairs
 pub mod Lines

@@ -1,7 +1,7 @@
 -- A line is a command and its settings, and the other way round.
-use Rattle.std.proofs.Common.{◌≡◌, ◌≢◌, ℕ, suc, List, [], ◌∷◌, arith, refl, ap, sym, ◌∙◌, Option, Some, None, Bool, true, false, IsTrue, slice_get, is_none}
-use Rattle.std.proofs.Common.{if◌then◌else◌, All, AllPairs, flat_map, find, bytes_eq}
-use Rattle.std.specs.List.{position_or_len}
+use Rattle.command_line.proofs.Common.{◌≡◌, ◌≢◌, ℕ, suc, List, [], ◌∷◌, arith, refl, ap, sym, ◌∙◌, Option, Some, None, Bool, true, false, IsTrue, slice_get, is_none, if◌then◌else◌, All, AllPairs}
+use Rattle.command_line.proofs.Common.{flat_map, find, bytes_eq, position_or_len, OptionName, Cut, Feed, Delays, From, To, At, Alpha, Horizon, Graph, Late, Size, Proof, By, Until, Last}
+use Rattle.command_line.proofs.Common.{option_name, option_named, all_options, Setting, spelled, value_of, value_in, is_new, are_settings}
 use Rattle.std.proofs.lemmas.Bool.{false≢true, and_parts, false_from_ne_true}
 use Rattle.std.proofs.lemmas.Option.{get_or_from_slice_get, slice_get_within}
 use Rattle.std.proofs.lemmas.List.Folds.{find_at}
@@ -10,10 +10,6 @@ use Rattle.std.proofs.lemmas.List.Sums.{passes_at_first}
 use Rattle.std.proofs.lemmas.Slice.Eq.{bytes_eq-Decides}
 use Rattle.std.proofs.lemmas.List.Elements.{All-nil, All-cons}
 use Rattle.std.proofs.lemmas.List.Kept.{AllPairs-cons}
-use Rattle.command_line.specs.declared.options.OptionName.{OptionName}
-use Rattle.command_line.specs.declared.options.OptionName.TheVariants.{Cut, Feed, Delays, From, To, At, Alpha, Horizon, Graph, Late, Size, Proof, By, Until, Last}
-use Rattle.command_line.specs.Options.{option_name, option_named, all_options}
-use Rattle.command_line.specs.Settings.{Setting, spelled, value_of, value_in, is_new, are_settings}
 
 -- the word of an option names it
 named : (option : OptionName) → option_named (option_name option) ≡ Some option

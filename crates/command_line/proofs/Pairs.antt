@@ -1,10 +1,7 @@
 -- Words as a name, a value and the others.
-use Rattle.std.proofs.Common.{◌≡◌, ℕ, suc, ◌-◌, ◌<◌, ◌≤◌, List, [], ◌∷◌, length, map, string_bytes, arith, refl, ap, sym, ◌∙◌, Option, Some, None, Bool, true}
-use Rattle.std.proofs.Common.{false, take, drop, get_or, String, is_none, is_some, not, option_map, ◌&&◌, ◌==◌, bytes_eq, Global}
+use Rattle.command_line.proofs.Common.{◌≡◌, ℕ, suc, ◌-◌, ◌<◌, ◌≤◌, List, [], ◌∷◌, length, map, string_bytes, arith, refl, ap, sym, ◌∙◌, Option, Some, None, Bool, true, false, take, drop, get_or}
+use Rattle.command_line.proofs.Common.{String, is_none, is_some, not, option_map, ◌&&◌, ◌==◌, bytes_eq, Global, OptionName, option_name, option_named, value_of, is_new, are_settings}
 use Rattle.std.proofs.Math.Seq.{take-length}
-use Rattle.command_line.specs.declared.options.OptionName.{OptionName}
-use Rattle.command_line.specs.Options.{option_name, option_named}
-use Rattle.command_line.specs.Settings.{value_of, is_new, are_settings}
 
 -- the words after the first two
 abbrev pub others : List (String Global) → List (List ℕ)

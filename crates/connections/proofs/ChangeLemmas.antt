@@ -1,8 +1,5 @@
 -- The change seconds of places, one after the other.
-use Rattle.std.proofs.Common.{◌≡◌, ℕ, ◌<◌, ◌≤◌, List, [], ◌∷◌, ◌++◌, length, sym, subst, arith, ⊎_elim, length-append}
-use Rattle.std.proofs.lemmas.Bool.{cases_lt}
-use Rattle.std.proofs.lemmas.List.{get_or_append_left, get_or_push}
-use Rattle.connections.specs.FeedNetworks.{AreChanges}
+use Rattle.connections.proofs.Common.{◌≡◌, ℕ, ◌<◌, ◌≤◌, List, [], ◌∷◌, ◌++◌, length, sym, subst, arith, ⊎_elim, length-append, cases_lt, get_or_append_left, get_or_push, AreChanges}
 
 abbrev Fits : ℕ → Type 0
 Fits x = (1 ≤ x) × (x ≤ 86400)

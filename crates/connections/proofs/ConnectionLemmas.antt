@@ -1,33 +1,13 @@
 -- The connections of runs are in order, fit their places and classes, and each run has one.
-use Rattle.std.proofs.Common.{◌≡◌, ℕ, suc, ◌+◌, ◌-◌, ◌<◌, ◌≤◌, ◌⊎◌, inl, inr, ℤ, pos, negsuc, ◌≤ℤ◌, List, length, map, get_or, slice_index, Some, All, refl}
-use Rattle.std.proofs.Common.{sym, ap, ◌∙◌, subst, arith, ⊎_elim, AllPairs, unsigned_abs}
-use Rattle.std.proofs.lemmas.Int.{ints}
-use Rattle.std.proofs.lemmas.List.{get_or_default, length-map}
-use Rattle.std.proofs.lemmas.List.Elements.{All-weaker, All-get_or, All-map, Contains-get_or}
+use Rattle.connections.proofs.Common.{◌≡◌, ℕ, suc, ◌+◌, ◌-◌, ◌<◌, ◌≤◌, ◌⊎◌, inl, inr, ℤ, pos, negsuc, ◌≤ℤ◌, List, length, map, get_or, slice_index, Some, All, refl, sym, ap, ◌∙◌, subst, arith}
+use Rattle.connections.proofs.Common.{⊎_elim, AllPairs, unsigned_abs, ints, get_or_default, length-map, All-weaker, All-get_or, All-map, Contains-get_or, AllPairs-map, end_of_arrivals}
+use Rattle.connections.proofs.Common.{end_of_steps, most_connections, Connection, NameLists, IsTrimmed, NamesFit, IsValid, connection, no_connection, change_of, row_of, NetworkModel}
+use Rattle.connections.proofs.Common.{plain_network, DelayLists, StopRow, FeedParts, AreIds, rows_of, kept_at, AreTimed, IsTimed, Origin, Window, Run, join_below, IsWindow, departs, steps_of}
+use Rattle.connections.proofs.Common.{run_at, run_steps, AreRunsOf, HaveConnections, AreChanges, AreRunNames, arrives, connection_from, run_connections, connections_below, class_of_trip, route_of}
 use Rattle.plan_model.proofs.Links.{AreLinks-none}
-use Rattle.plan_model.proofs.Lists.{AllPairs-map}
-use Rattle.plan_model.specs.Bounds.{end_of_arrivals, end_of_steps, most_connections}
-use Rattle.plan_model.specs.declared.model.Connection.{Connection}
 use Rattle.plan_model.specs.declared.model.Outcome.{Outcome}
-use Rattle.plan_model.specs.NameLists.{NameLists, IsTrimmed, NamesFit}
-use Rattle.plan_model.specs.Network.{IsValid, connection, no_connection, change_of, row_of}
-use Rattle.plan_model.specs.NetworkModel.{NetworkModel, plain_network}
-use Rattle.delay_table.specs.DelayLists.{DelayLists}
 use Rattle.delay_table.proofs.ClassBounds.{class_for-inside}
 use Rattle.delay_table.specs.Slots.{AreDelays}
-use Rattle.stop_times.specs.declared.rows.StopRow.{StopRow}
-use Rattle.gtfs_tables.specs.Feeds.{FeedParts}
-use Rattle.csv_rows.specs.Ids.{AreIds}
-use Rattle.gtfs_tables.specs.Timed.{rows_of, kept_at, AreTimed, IsTimed}
-use Rattle.connections.specs.declared.origins.Origin.{Origin}
-use Rattle.connections.specs.declared.window.Window.{Window}
-use Rattle.connections.specs.declared.runs.Run.{Run}
-use Rattle.connections.specs.Joins.{join_below}
-use Rattle.connections.specs.Window.{IsWindow}
-use Rattle.connections.specs.Steps.{departs, steps_of}
-use Rattle.connections.specs.TripRuns.{run_at, run_steps}
-use Rattle.connections.specs.FeedRuns.{AreRunsOf, HaveConnections}
-use Rattle.connections.specs.FeedNetworks.{AreChanges, AreRunNames, arrives, connection_from, run_connections, connections_below, class_of_trip, route_of}
 use Rattle.connections.proofs.JoinLemmas.{All-join, AllPairs-join, Contains-join, join-many}
 use Rattle.connections.proofs.NameLemmas.{names_trimmed}
 use Rattle.connections.proofs.ReachLemmas.{onward_to}

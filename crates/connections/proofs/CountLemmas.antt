@@ -1,27 +1,10 @@
 -- How many connections runs have, and their connections, run by run.
-use Rattle.std.proofs.Common.{◌≡◌, ℕ, zero, suc, ◌+◌, ◌≤◌, ◌&&◌, Bool, true, false, List, [], ◌∷◌, length, map, take, get_or, if◌then◌else◌, refl, sym, ap, ◌∙◌}
-use Rattle.std.proofs.Common.{arith, add-one, length-append, sum_by, nat_lt, lt-ltb, take_all}
-use mathlib.Core.Path.{fun_ext}
-use Rattle.std.proofs.lemmas.List.{length-map}
-use Rattle.std.proofs.lemmas.List.Sums.{sum_by-append, sum_by-cons, sum_by_more}
-use Rattle.delay_table.specs.DelayLists.{DelayLists}
-use Rattle.trip_frequencies.specs.declared.frequencies.FrequencyRow.{FrequencyRow}
-use Rattle.gtfs_tables.specs.Feeds.{FeedParts}
-use Rattle.gtfs_tables.specs.TripRepeats.{repeat_at}
-use Rattle.gtfs_tables.specs.Timed.{rows_of}
-use Rattle.service_days.specs.Services.{ServiceParts}
-use Rattle.connections.specs.declared.origins.ServiceDay.{ServiceDay}
-use Rattle.connections.specs.declared.window.Window.{Window}
-use Rattle.connections.specs.declared.repeats.Repeat.{Repeat}
-use Rattle.connections.specs.declared.runs.Run.{Run}
-use Rattle.connections.specs.Joins.{join_below, only_if, sum_below}
-use Rattle.connections.specs.Origins.{origin_of_day}
-use Rattle.connections.specs.Window.{day_at}
-use Rattle.connections.specs.Steps.{is_active_trip, steps_of}
-use Rattle.connections.specs.RepeatedRuns.{origin_at, row_repeats, rows_repeats, in_order}
-use Rattle.connections.specs.TripRuns.{frequencies_of, own_run, repeat_run, runs_of_trip, trip_runs, day_runs, runs_below, window_runs, run_at, no_run, run_steps}
-use Rattle.connections.specs.Counts.{steps_sum, rows_sum, runs_sum, day_sum, days_sum, count_in}
-use Rattle.connections.specs.FeedNetworks.{connection_from, run_connections, connections_below, class_of_trip}
+use Rattle.connections.proofs.Common.{◌≡◌, ℕ, zero, suc, ◌+◌, ◌≤◌, ◌&&◌, Bool, true, false, List, [], ◌∷◌, length, map, take, get_or, if◌then◌else◌, refl, sym, ap, ◌∙◌, arith, add-one}
+use Rattle.connections.proofs.Common.{length-append, sum_by, nat_lt, lt-ltb, fun_ext, length-map, sum_by-append, sum_by-cons, sum_by_more, DelayLists, FrequencyRow, FeedParts, repeat_at, rows_of}
+use Rattle.connections.proofs.Common.{ServiceParts, ServiceDay, Window, Repeat, Run, join_below, only_if, sum_below, origin_of_day, day_at, is_active_trip, steps_of, origin_at, row_repeats}
+use Rattle.connections.proofs.Common.{rows_repeats, in_order, frequencies_of, own_run, repeat_run, runs_of_trip, trip_runs, day_runs, runs_below, window_runs, run_at, no_run, run_steps, steps_sum}
+use Rattle.connections.proofs.Common.{rows_sum, runs_sum, day_sum, days_sum, count_in, connection_from, run_connections, connections_below, class_of_trip}
+use Rattle.std.proofs.Common.{take_all}
 use Rattle.connections.proofs.JoinLemmas.{join-zero, join-suc}
 use Rattle.connections.proofs.OrderLemmas.{in_order_sum}
 

@@ -1,19 +1,12 @@
 -- The text of a date is eight digits, and the names of runs.
-use Rattle.std.proofs.Common.{◌≡◌, ℕ, zero, suc, ◌<◌, ◌&&◌, nat_eq, true, List, [], ◌∷◌, ◌++◌, length, take, drop, Some, ℤ, pos, negsuc, ◌+ℤ◌, ◌≤ℤ◌, refl, sym, ◌∙◌, subst, arith, IsAscii}
-use Rattle.std.specs.List.{list_all}
-use Rattle.std.specs.Char.{is_ascii_digit}
-use Rattle.std.proofs.lemmas.Bool.Decides.{nat_tests}
-use Rattle.std.proofs.lemmas.Int.{ints}
+use Rattle.connections.proofs.Common.{◌≡◌, ℕ, zero, suc, ◌<◌, ◌&&◌, nat_eq, true, List, [], ◌∷◌, ◌++◌, length, take, drop, Some, ℤ, pos, negsuc, ◌+ℤ◌, ◌≤ℤ◌, refl, sym, ◌∙◌, subst, arith, IsAscii}
+use Rattle.connections.proofs.Common.{list_all, is_ascii_digit, nat_tests, ints, and_parts, eqb-true, and_from, date_at, day_of, HasDate, ServiceDay, IsDay}
 use Rattle.std.proofs.lemmas.List.Folds.{list_all-append}
-use Rattle.std.proofs.lemmas.Bool.{and_parts, eqb-true, and_from}
 use Rattle.jiff_core.specs.Calendar.{days_from_civil, day_count, days_of_years, days_of_months}
 use Rattle.clock_text.specs.Digits.{value_of}
-use Rattle.clock_text.specs.Times.{date_at, day_of, HasDate}
 use Rattle.clock_text.specs.Civil.{parts_of_day}
 use Rattle.clock_text.proofs.OneText.{if_cases}
 use Rattle.clock_text.proofs.Walk.{found}
-use Rattle.connections.specs.declared.origins.ServiceDay.{ServiceDay}
-use Rattle.connections.specs.FeedRuns.{IsDay}
 
 -- the days of 1969 are its last seven
 days_before : (k : ℕ) → k < 7 → HasDate (negsuc k)

@@ -1,12 +1,7 @@
 -- Lists joined one after the other.
-use Rattle.std.proofs.Common.{◌≡◌, ℕ, zero, suc, ◌+◌, ◌-◌, ◌<◌, ◌≤◌, Bool, true, false, List, [], ◌∷◌, ◌++◌, length, get_or, All, Contains, refl, sym, ap}
-use Rattle.std.proofs.Common.{subst, arith, inl, inr, ⊎_elim, add-one, append-nil, append_assoc, length-append, AllPairs}
-use Rattle.std.proofs.lemmas.Bool.{cases_lt, cases_eq}
-use Rattle.std.proofs.lemmas.List.Elements.{All-nil, All-cons, All-append, All-get_or, All-weaker, Contains-append_left, Contains-append_right}
-use Rattle.plan_model.proofs.Lists.{AllPairs-append, AllPairs-nil, AllPairs-one}
-use Rattle.csv_rows.specs.Lists.{list_below}
-use Rattle.csv_rows.proofs.ListLemmas.{list_below-zero, list_below-next, length-list_below}
-use Rattle.connections.specs.Joins.{join_below, only_if}
+use Rattle.connections.proofs.Common.{◌≡◌, ℕ, zero, suc, ◌+◌, ◌-◌, ◌<◌, ◌≤◌, Bool, true, false, List, [], ◌∷◌, ◌++◌, length, get_or, All, Contains, refl, sym, ap, subst, arith, inl, inr, ⊎_elim}
+use Rattle.connections.proofs.Common.{add-one, append-nil, append_assoc, length-append, AllPairs, cases_lt, cases_eq, All-nil, All-cons, All-append, All-get_or, All-weaker, Contains-append_left}
+use Rattle.connections.proofs.Common.{Contains-append_right, AllPairs-append, AllPairs-nil, AllPairs-one, list_below, list_below-zero, list_below-next, length-list_below, join_below, only_if}
 
 pub join-zero : {A : Type 0} (f : ℕ → List A) → join_below f 0 ≡ []
 unfolding join_below

@@ -1,19 +1,6 @@
 -- What the connections of the runs of a row that leave one kept row add up to.
-use Rattle.std.proofs.Common.{◌≡◌, ℕ, ◌-◌, ◌*◌, ◌&&◌, min, nat_lt, Bool, List, ap, ◌∙◌, arith, ltb-true, lt-ltb}
-use Rattle.std.proofs.lemmas.Bool.{and_parts, and_from}
-use Rattle.trip_frequencies.specs.declared.frequencies.FrequencyRow.{FrequencyRow}
-use Rattle.stop_times.specs.declared.rows.StopRow.{StopRow}
-use Rattle.stop_times.specs.StopTimeBounds.{end_of_times}
-use Rattle.gtfs_tables.specs.TripRepeats.{IsFrequency}
-use Rattle.gtfs_tables.specs.Timed.{kept_at}
-use Rattle.plan_model.specs.declared.model.PlaceId.{PlaceId}
-use Rattle.run_repeat.specs.Runs.{departure}
-use Rattle.connections.specs.declared.origins.ServiceDay.{ServiceDay}
-use Rattle.connections.specs.declared.window.Window.{Window}
-use Rattle.connections.specs.Window.{holds}
-use Rattle.connections.specs.Steps.{DepartOnDay, departs}
-use Rattle.connections.specs.RepeatedRuns.{origin_at}
-use Rattle.connections.specs.Counts.{leaving_sum}
+use Rattle.connections.proofs.Common.{◌≡◌, ℕ, ◌-◌, ◌*◌, ◌&&◌, min, nat_lt, Bool, List, ap, ◌∙◌, arith, ltb-true, lt-ltb, and_parts, and_from, FrequencyRow, StopRow, end_of_times, IsFrequency}
+use Rattle.connections.proofs.Common.{kept_at, PlaceId, departure, ServiceDay, Window, holds, DepartOnDay, departs, origin_at, leaving_sum}
 use Rattle.connections.proofs.RepeatLemmas.{AreLeaving, between, inside, to_few}
 use Rattle.connections.proofs.SumLemmas.{between-sum}
 

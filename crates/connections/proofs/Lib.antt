@@ -1,3 +1,4 @@
+mod Common
 pub mod JoinLemmas
 pub mod StepLemmas
 pub mod OrderLemmas

@@ -1,14 +1,7 @@
 -- The links of a network, and its names with them.
-use Rattle.std.proofs.Common.{◌≡◌, ℕ, ◌<◌, List, [], length, get_or, sym, ap, ◌∙◌, subst, arith, slice_index_or}
+use Rattle.connections.proofs.Common.{◌≡◌, ℕ, ◌<◌, List, [], length, get_or, sym, ap, ◌∙◌, subst, arith, slice_index_or, list_below, get-list_below, Connection, Way, NameLists, NamesFit}
+use Rattle.connections.proofs.Common.{AreLinksInto, connection, no_connection, NetworkModel, ChangeParts, links_of, LinksComeFrom}
 use Rattle.std.proofs.Math.Logic.{∥∥₁_map}
-use Rattle.csv_rows.specs.Lists.{list_below}
-use Rattle.csv_rows.proofs.ListLemmas.{get-list_below}
-use Rattle.plan_model.specs.declared.model.Connection.{Connection}
-use Rattle.plan_model.specs.declared.model.Way.{Way}
-use Rattle.plan_model.specs.NameLists.{NameLists, NamesFit}
-use Rattle.plan_model.specs.Network.{AreLinksInto, connection, no_connection}
-use Rattle.plan_model.specs.NetworkModel.{NetworkModel}
-use Rattle.change_times.specs.Changes.{ChangeParts, links_of, LinksComeFrom}
 
 -- the links of changes, one list for each of this many places, are links of a network with this many
 pub links_fit : (places : ℕ) (c : ChangeParts) → ((to : ℕ) → AreLinksInto 4294967296 to (links_of c to)) → LinksComeFrom places c → (links : List (List Way))

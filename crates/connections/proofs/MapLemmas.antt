@@ -1,12 +1,6 @@
 -- What is made of the steps of a run in a window, one more at a time.
-use Rattle.std.proofs.Common.{◌≡◌, ℕ, ◌+◌, Bool, true, false, List, [], ◌∷◌, ◌++◌, map, sym, ap, ◌∙◌, append_assoc, append-nil}
-use Rattle.std.proofs.lemmas.List.{map-append}
-use Rattle.stop_times.specs.declared.rows.StopRow.{StopRow}
-use Rattle.connections.specs.declared.origins.Origin.{Origin}
-use Rattle.connections.specs.declared.window.Window.{Window}
-use Rattle.connections.specs.Joins.{only_if}
-use Rattle.connections.specs.Window.{holds}
-use Rattle.connections.specs.Steps.{steps_below, departs}
+use Rattle.connections.proofs.Common.{◌≡◌, ℕ, ◌+◌, Bool, true, false, List, [], ◌∷◌, ◌++◌, map, sym, ap, ◌∙◌, append_assoc, append-nil, map-append, StopRow, Origin, Window, only_if, holds}
+use Rattle.connections.proofs.Common.{steps_below, departs}
 use Rattle.connections.proofs.StepLemmas.{steps-next}
 
 module _ {A : Type 0} (f : ℕ → A) (w : Window) (rows : List StopRow) (o : Origin) (k : ℕ) (first old new : List A) (e : old ≡ first ++ map f (steps_below w rows o k)) where

@@ -1,25 +1,12 @@
 -- The names of runs: no two runs have one name, and none begins or ends with a space.
-use Rattle.std.proofs.Common.{Contains, ◌≡◌, ◌≢◌, ℕ, zero, suc, ◌+◌, ◌-◌, ◌<◌, true, false, List, [], ◌∷◌, ◌++◌, length, take, drop, get_or, slice_index_or, Some, None, Option, ℤ, All}
-use Rattle.std.proofs.Common.{decimal, append_assoc, ◌^◌, refl, sym, ap, ap₂, ◌∙◌, subst, arith, below_more, length-append}
-use Rattle.std.specs.List.{list_all}
-use Rattle.std.specs.Char.{is_ascii_digit}
-use Rattle.std.proofs.lemmas.Bool.{and_parts, and_from}
-use Rattle.std.proofs.lemmas.Bool.Decides.{nat_tests}
-use Rattle.std.proofs.lemmas.List.{get_or_append_left, get_or-append_right, get_or_default, get_or_push, take_at, drop_at, take_all, take_more}
-use Rattle.std.proofs.lemmas.List.Elements.{All-get_or}
+use Rattle.connections.proofs.Common.{Contains, ◌≡◌, ◌≢◌, ℕ, zero, suc, ◌+◌, ◌-◌, ◌<◌, true, false, List, [], ◌∷◌, ◌++◌, length, take, drop, get_or, slice_index_or, Some, None, Option, ℤ, All}
+use Rattle.connections.proofs.Common.{decimal, append_assoc, ◌^◌, refl, sym, ap, ap₂, ◌∙◌, subst, arith, below_more, length-append, list_all, is_ascii_digit, and_parts, and_from, nat_tests}
+use Rattle.connections.proofs.Common.{get_or_append_left, get_or-append_right, get_or_default, get_or_push, take_at, drop_at, take_all, take_more, All-get_or, date_at, IsTrimmed, FeedParts}
+use Rattle.connections.proofs.Common.{AreIds, Repeat, Run, run_at, IsRunOfFeed, AreRunsOf, IsSmallRepeat, start_text, IsRunName, AreRunNames}
 use Rattle.std.specs.Str.Parse.{AllDigits}
 use Rattle.std.specs.Int.{IsInRange}
 use Rattle.std.proofs.lemmas.Fmt.{decimal_is_IsNumeral, decimal_injective}
 use Rattle.std.proofs.lemmas.Str.Parse.{digit_from_value}
-use Rattle.clock_text.specs.Times.{date_at}
-use Rattle.plan_model.specs.NameLists.{IsTrimmed}
-use Rattle.gtfs_tables.specs.Feeds.{FeedParts}
-use Rattle.csv_rows.specs.Ids.{AreIds}
-use Rattle.connections.specs.declared.repeats.Repeat.{Repeat}
-use Rattle.connections.specs.declared.runs.Run.{Run}
-use Rattle.connections.specs.TripRuns.{run_at}
-use Rattle.connections.specs.FeedRuns.{IsRunOfFeed, AreRunsOf, IsSmallRepeat}
-use Rattle.connections.specs.FeedNetworks.{start_text, IsRunName, AreRunNames}
 use Rattle.delay_table.proofs.NumberedFacts.{one_index}
 use Rattle.connections.proofs.DateLemmas.{date_text}
 

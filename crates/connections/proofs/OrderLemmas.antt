@@ -1,18 +1,12 @@
 -- Runs of rows of frequencies in their order: a list has one order.
-use Rattle.std.proofs.Common.{◌≡◌, ℕ, ◌+◌, ◌≤◌, Bool, true, false, List, [], ◌∷◌, get_or, All, refl, sym, ap, ap₂, ◌∙◌, arith, sum_by, if◌then◌else◌, AllPairs}
-use Rattle.std.proofs.Common.{Ordering, is_lt, nat_cmp, IsSorted, IsPermutation}
+use Rattle.connections.proofs.Common.{◌≡◌, ℕ, ◌+◌, ◌≤◌, Bool, true, false, List, [], ◌∷◌, get_or, All, refl, sym, ap, ap₂, ◌∙◌, arith, sum_by, if◌then◌else◌, AllPairs, Ordering, is_lt, nat_cmp}
+use Rattle.connections.proofs.Common.{IsSorted, IsPermutation, cond_both, nat_tests, All-cons, All-head, All-tail, All-weaker, sum_by-cons, sum_by-le, AllPairs-nil, AllPairs-one, AllPairs-first}
+use Rattle.connections.proofs.Common.{AllPairs-tail, Repeat, repeat_precedes, with_repeat, in_order}
 use Rattle.std.specs.Ordering.{ordering_then}
 use Rattle.std.specs.Cmp.{IsStrictWeakOrder}
-use Rattle.std.proofs.lemmas.Bool.{cond_both}
-use Rattle.std.proofs.lemmas.Bool.Decides.{nat_tests}
-use Rattle.std.proofs.lemmas.List.Elements.{All-cons, All-head, All-tail, All-weaker}
 use Rattle.std.proofs.lemmas.List.Kept.{AllPairs-cons}
 use Rattle.std.proofs.lemmas.List.Sorted.{sorted_far, sum_by-IsPermutation, All-permutation, IsPermutation-refl, IsPermutation-cons}
 use Rattle.std.proofs.lemmas.List.Sorted.{IsPermutation-trans, IsPermutation-append_left, IsPermutation-append_comm}
-use Rattle.std.proofs.lemmas.List.Sums.{sum_by-cons, sum_by-le}
-use Rattle.plan_model.proofs.Lists.{AllPairs-nil, AllPairs-one, AllPairs-first, AllPairs-tail}
-use Rattle.connections.specs.declared.repeats.Repeat.{Repeat}
-use Rattle.connections.specs.RepeatedRuns.{repeat_precedes, with_repeat, in_order}
 
 -- the order of the program is that of the definition
 abbrev pub repeat_cmp : Repeat → Repeat → Ordering

@@ -1,23 +1,8 @@
 -- Trips that do not depart in a window, by their first and their last departure.
-use Rattle.std.proofs.Common.{◌≡◌, ℕ, zero, suc, ◌+◌, ◌-◌, ◌<◌, ◌≤◌, Bool, true, false, List, [], ◌∷◌, length, arith, ap, refl, sym, subst, inl, inr, ℤ, pos, ◌<ℤ◌, nat_lt, if◌then◌else◌}
-use Rattle.std.proofs.lemmas.Bool.{cases_eq}
-use Rattle.std.proofs.lemmas.Bool.Decides.{nat_tests}
-use Rattle.std.proofs.lemmas.Int.{ints}
-use Rattle.stop_times.specs.StopTimeBounds.{end_of_times}
-use Rattle.stop_times.specs.declared.rows.StopRow.{StopRow}
-use Rattle.trip_frequencies.specs.declared.frequencies.FrequencyRow.{FrequencyRow}
-use Rattle.gtfs_tables.specs.Feeds.{FeedParts}
-use Rattle.gtfs_tables.specs.Timed.{AreTimed, rows_of, kept_at}
-use Rattle.service_days.specs.Services.{ServiceParts}
-use Rattle.connections.specs.declared.origins.Origin.{Origin}
-use Rattle.connections.specs.declared.window.Window.{Window}
-use Rattle.connections.specs.declared.origins.ServiceDay.{ServiceDay}
-use Rattle.connections.specs.Joins.{only_if}
-use Rattle.connections.specs.Origins.{moment_of, origin_of_day}
-use Rattle.connections.specs.Window.{holds}
-use Rattle.connections.specs.Steps.{DepartInOrder, DepartOnDay, departs, has_connection, steps_of, is_active_trip}
-use Rattle.connections.specs.TripRuns.{frequencies_of, own_run, runs_of_trip, trip_runs, day_runs}
-use Rattle.connections.specs.Reach.{AreOverBy, NoneRuns}
+use Rattle.connections.proofs.Common.{◌≡◌, ℕ, zero, suc, ◌+◌, ◌-◌, ◌<◌, ◌≤◌, Bool, true, false, List, [], ◌∷◌, length, arith, ap, refl, sym, subst, inl, inr, ℤ, pos, ◌<ℤ◌, nat_lt, if◌then◌else◌}
+use Rattle.connections.proofs.Common.{cases_eq, nat_tests, ints, end_of_times, StopRow, FrequencyRow, FeedParts, AreTimed, rows_of, kept_at, ServiceParts, Origin, Window, ServiceDay, only_if}
+use Rattle.connections.proofs.Common.{moment_of, origin_of_day, holds, DepartInOrder, DepartOnDay, departs, has_connection, steps_of, is_active_trip, frequencies_of, own_run, runs_of_trip}
+use Rattle.connections.proofs.Common.{trip_runs, day_runs, AreOverBy, NoneRuns}
 use Rattle.connections.proofs.JoinLemmas.{join-none}
 use Rattle.connections.proofs.StepLemmas.{some_step, steps_none}
 

@@ -1,24 +1,10 @@
 -- The runs of a row of frequencies that depart in a window, gathered from the last kept row to the first.
-use Rattle.std.proofs.Common.{◌≡◌, ℕ, ℤ, pos, suc, ◌+◌, ◌-◌, ◌*◌, ◌<◌, ◌≤◌, ◌<ℤ◌, ◌≤ℤ◌, max, nat_lt, nat_le, Bool, true, false, List, ◌++◌, length, All, refl}
-use Rattle.std.proofs.Common.{sym, ap, ◌∙◌, arith, ⊎_elim, if◌then◌else◌, AllPairs, le-ltb, leb-true, ltb-true}
-use Rattle.std.proofs.Common.{le-leb, lt-ltb}
-use Rattle.std.proofs.Math.Nat.{le-mul_of_pos_right, mul-le-mul_right, suc-mul}
-use Rattle.std.proofs.lemmas.Bool.{cases_lt, false_from_ne_true, and_parts, and_from, lt-leb}
-use Rattle.std.proofs.lemmas.Int.{ints, by_lt_z}
-use Rattle.csv_rows.specs.Lists.{list_below}
-use Rattle.trip_frequencies.specs.declared.frequencies.FrequencyRow.{FrequencyRow}
-use Rattle.stop_times.specs.declared.rows.StopRow.{StopRow}
-use Rattle.stop_times.specs.StopTimeBounds.{end_of_times}
+use Rattle.connections.proofs.Common.{◌≡◌, ℕ, ℤ, pos, suc, ◌+◌, ◌-◌, ◌*◌, ◌<◌, ◌≤◌, ◌<ℤ◌, ◌≤ℤ◌, max, nat_lt, nat_le, Bool, true, false, List, ◌++◌, length, All, refl, sym, ap, ◌∙◌, arith, ⊎_elim}
+use Rattle.connections.proofs.Common.{if◌then◌else◌, AllPairs, le-ltb, leb-true, ltb-true, le-leb, lt-ltb, le-mul_of_pos_right, mul-le-mul_right, suc-mul, cases_lt, false_from_ne_true, and_parts}
+use Rattle.connections.proofs.Common.{and_from, lt-leb, ints, by_lt_z, list_below, FrequencyRow, StopRow, end_of_times, IsFrequency, AreRepeats, repeat_at, AreBelow, IsRunOf, departure}
+use Rattle.connections.proofs.Common.{ServiceDay, Repeat, Window, join_below, only_if, holds, DepartOnDay, departs, has_connection, repeat_of, origin_at, is_repeat, row_repeats, rows_repeats}
+use Rattle.connections.proofs.Common.{in_order}
 use Rattle.trip_frequencies.specs.Frequencies.{no_frequency}
-use Rattle.gtfs_tables.specs.TripRepeats.{IsFrequency, AreRepeats, repeat_at}
-use Rattle.run_repeat.specs.Runs.{AreBelow, IsRunOf, departure}
-use Rattle.connections.specs.declared.origins.ServiceDay.{ServiceDay}
-use Rattle.connections.specs.declared.repeats.Repeat.{Repeat}
-use Rattle.connections.specs.declared.window.Window.{Window}
-use Rattle.connections.specs.Joins.{join_below, only_if}
-use Rattle.connections.specs.Window.{holds}
-use Rattle.connections.specs.Steps.{DepartOnDay, departs, has_connection}
-use Rattle.connections.specs.RepeatedRuns.{repeat_of, origin_at, is_repeat, row_repeats, rows_repeats, in_order}
 use Rattle.connections.proofs.JoinLemmas.{join-same, join-rest, join-on, All-join, AllPairs-join, All-only_if, AllPairs-only_if}
 use Rattle.connections.proofs.OrderLemmas.{Differ, All-in_order}
 use Rattle.connections.proofs.ReachLemmas.{has_connection_true}

@@ -1,9 +1,6 @@
 -- The class of a connection by the number of its route among those that the delays name.
-use Rattle.std.proofs.Common.{◌≡◌, ℕ, ◌<◌, List, length, Option, Some, None, IfSome, IfNone, Contains, sym, ap, ◌∙◌}
-use Rattle.csv_rows.specs.Tables.{number_in}
-use Rattle.csv_rows.proofs.IdLemmas.{number-here, number-contained}
-use Rattle.delay_table.specs.DelayLists.{DelayLists, class_for}
-use Rattle.delay_table.specs.Groups.{routes_of, numbered_route}
+use Rattle.connections.proofs.Common.{◌≡◌, ℕ, ◌<◌, List, length, Option, Some, None, IfSome, IfNone, Contains, sym, ap, ◌∙◌, number_in, number-here, number-contained, DelayLists, class_for}
+use Rattle.connections.proofs.Common.{routes_of, numbered_route}
 
 -- a route that has a number is one of them
 pub route_inside : (route : List ℕ) (routes : List (List ℕ)) (o : Option ℕ) → o ≡ number_in route routes → IfSome o (λ n. n < length routes)

@@ -1,30 +1,12 @@
 -- The runs that depart in a window, by service day, position of the trip, and how they start.
-use Rattle.std.proofs.Common.{◌≡◌, ℕ, ◌<ℤ◌, ◌<◌, ◌⊎◌, inl, inr, Bool, true, false, List, [], ◌∷◌, length, map, All, refl, sym, ◌∙◌, subst, arith, ⊎_elim}
-use Rattle.std.proofs.Common.{if◌then◌else◌, AllPairs, ltb-true}
-use Rattle.std.proofs.lemmas.Int.{ints}
-use Rattle.std.proofs.lemmas.List.Elements.{All-weaker, All-nil, All-get_or, All-map}
-use Rattle.std.proofs.lemmas.Option.{same_Some}
-use Rattle.trip_frequencies.specs.declared.frequencies.FrequencyRow.{FrequencyRow}
-use Rattle.stop_times.specs.declared.rows.StopRow.{StopRow}
-use Rattle.gtfs_tables.specs.Feeds.{FeedParts}
-use Rattle.gtfs_tables.specs.TripRepeats.{AreRepeats, AreRepeating}
-use Rattle.gtfs_tables.specs.Timed.{rows_of}
-use Rattle.service_days.specs.Services.{ServiceParts}
-use Rattle.connections.specs.declared.origins.ServiceDay.{ServiceDay}
-use Rattle.connections.specs.declared.repeats.Repeat.{Repeat}
-use Rattle.connections.specs.declared.runs.Run.{Run}
-use Rattle.connections.specs.declared.window.Window.{Window}
-use Rattle.connections.specs.Joins.{join_below, only_if}
-use Rattle.connections.specs.Origins.{origin_of_day}
-use Rattle.connections.specs.Window.{day_at, IsWindow}
-use Rattle.connections.specs.Steps.{is_active_trip, has_connection, steps_of}
-use Rattle.connections.specs.RepeatedRuns.{rows_repeats, in_order}
-use Rattle.connections.specs.TripRuns.{frequencies_of, own_run, repeat_run, runs_of_trip, trip_runs, day_runs, runs_below, window_runs, no_run, run_steps, days}
-use Rattle.connections.specs.FeedRuns.{IsRunOfFeed, AreRunsOf, HaveConnections}
+use Rattle.connections.proofs.Common.{◌≡◌, ℕ, ◌<ℤ◌, ◌<◌, ◌⊎◌, inl, inr, Bool, true, false, List, [], ◌∷◌, length, map, All, refl, sym, ◌∙◌, subst, arith, ⊎_elim, if◌then◌else◌, AllPairs, ltb-true}
+use Rattle.connections.proofs.Common.{ints, All-weaker, All-nil, All-get_or, All-map, same_Some, FrequencyRow, StopRow, FeedParts, AreRepeats, AreRepeating, rows_of, ServiceParts, ServiceDay}
+use Rattle.connections.proofs.Common.{Repeat, Run, Window, join_below, only_if, origin_of_day, day_at, IsWindow, is_active_trip, has_connection, steps_of, rows_repeats, in_order, frequencies_of}
+use Rattle.connections.proofs.Common.{own_run, repeat_run, runs_of_trip, trip_runs, day_runs, runs_below, window_runs, no_run, run_steps, days, IsRunOfFeed, AreRunsOf, HaveConnections}
+use Rattle.connections.proofs.Common.{AllPairs-map, AllPairs-nil}
 use Rattle.connections.proofs.JoinLemmas.{All-join, AllPairs-join, All-only_if, AllPairs-only_if}
 use Rattle.connections.proofs.OrderLemmas.{All-in_order, pairs_in_order}
 use Rattle.connections.proofs.RepeatLemmas.{row_repeats_all, rows_repeats_all, rows_repeats_pairs}
-use Rattle.plan_model.proofs.Lists.{AllPairs-map, AllPairs-nil}
 
 -- by day, then by trip, and of one trip and day apart by how they start
 abbrev pub Precedes : Run → Run → Type 0

@@ -1,16 +1,6 @@
 -- The steps of a trip in a window.
-use Rattle.std.proofs.Common.{◌≡◌, ℕ, ◌+◌, ◌<◌, ◌≤◌, ◌≤ℤ◌, ℤ, pos, true, false, List, [], ◌++◌, length, get_or, All, refl, ⊎_elim, append_assoc, append-nil}
-use Rattle.std.proofs.Common.{arith, AllPairs, int_le}
-use Rattle.std.proofs.lemmas.Int.{ints}
-use Rattle.std.proofs.lemmas.List.{map-append, nil_from_length}
-use Rattle.std.proofs.lemmas.List.Elements.{All-get_or}
-use Rattle.std.proofs.lemmas.Bool.{and_parts, cases_lt}
-use Rattle.stop_times.specs.declared.rows.StopRow.{StopRow}
-use Rattle.connections.specs.declared.origins.Origin.{Origin}
-use Rattle.connections.specs.declared.window.Window.{Window}
-use Rattle.connections.specs.Joins.{only_if}
-use Rattle.connections.specs.Window.{holds}
-use Rattle.connections.specs.Steps.{steps_below, departs}
+use Rattle.connections.proofs.Common.{◌≡◌, ℕ, ◌+◌, ◌<◌, ◌≤◌, ◌≤ℤ◌, ℤ, pos, true, false, List, [], ◌++◌, length, get_or, All, refl, ⊎_elim, append_assoc, append-nil, arith, AllPairs, int_le, ints}
+use Rattle.connections.proofs.Common.{map-append, nil_from_length, All-get_or, and_parts, cases_lt, StopRow, Origin, Window, only_if, holds, steps_below, departs}
 use Rattle.connections.proofs.JoinLemmas.{join-zero, join-next, All-join, AllPairs-join, Contains-join, All-only_if, AllPairs-only_if}
 
 le_is : (a b : ℤ) → int_le a b ≡ true → a ≤ℤ b

@@ -1,39 +1,12 @@
 -- Sums over the steps, the trips and the days of a window.
-use Rattle.std.proofs.Common.{◌≡◌, ℕ, zero, suc, ◌+◌, ◌-◌, ◌*◌, ◌^◌, ◌<◌, ◌≤◌, min, Bool, true, false, List, [], ◌∷◌, length, get_or, if◌then◌else◌, refl, sym}
-use Rattle.std.proofs.Common.{ap, ◌∙◌, arith, ⊎_elim, sum_by, nat_lt, ◌&&◌, pos, ◌≤ℤ◌}
-use Rattle.std.proofs.Math.Nat.{le-mul_of_pos_right, suc-mul, add-mul, zero-mul}
-use mathlib.Core.Path.{fun_ext}
-use Rattle.std.proofs.lemmas.Bool.{cases_lt, cases_Bool, cond_both, and_parts}
-use Rattle.std.proofs.lemmas.Int.{ints}
-use Rattle.std.proofs.lemmas.List.{get_or_past}
-use Rattle.std.proofs.lemmas.List.Sums.{sum_by-cons}
-use Rattle.std.proofs.lemmas.List.Elements.{All-get_or}
-use Rattle.plan_model.specs.declared.model.PlaceId.{PlaceId}
-use Rattle.plan_model.specs.declared.model.Way.{Way}
-use Rattle.change_times.specs.Changes.{ChangeParts, links_of}
-use Rattle.plan_model.specs.Network.{AreLinksInto}
+use Rattle.connections.proofs.Common.{◌≡◌, ℕ, zero, suc, ◌+◌, ◌-◌, ◌*◌, ◌^◌, ◌<◌, ◌≤◌, min, Bool, true, false, List, [], ◌∷◌, length, get_or, if◌then◌else◌, refl, sym, ap, ◌∙◌, arith, ⊎_elim}
+use Rattle.connections.proofs.Common.{sum_by, nat_lt, ◌&&◌, pos, ◌≤ℤ◌, le-mul_of_pos_right, suc-mul, add-mul, zero-mul, fun_ext, cases_lt, cases_Bool, cond_both, and_parts, ints, get_or_past}
+use Rattle.connections.proofs.Common.{sum_by-cons, All-get_or, PlaceId, Way, ChangeParts, links_of, AreLinksInto, FrequencyRow, StopRow, FeedParts, end_of_times, IsFrequency, AreRepeats}
+use Rattle.connections.proofs.Common.{AreRepeating, IsSmall, repeat_at, rows_of, kept_at, AreTimed, IsTimed, departure, ServiceParts, ServiceDay, Origin, Repeat, Window, only_if, sum_below}
+use Rattle.connections.proofs.Common.{origin_of_day, holds, day_at, IsWindow, departs, is_active_trip, steps_below, steps_of, origin_at, repeat_of, is_repeat, row_repeats, frequencies_of, days}
+use Rattle.connections.proofs.Common.{each_of, steps_sum, row_sum, rows_sum, runs_sum, leaving_sum, trip_sum, day_sum, days_sum, window_sum, count_in, entries_in, HaveWays, NoneRuns}
 use Rattle.connections.specs.declared.counts.Counted.TheVariants.{Entries}
-use Rattle.trip_frequencies.specs.declared.frequencies.FrequencyRow.{FrequencyRow}
-use Rattle.stop_times.specs.declared.rows.StopRow.{StopRow}
-use Rattle.gtfs_tables.specs.Feeds.{FeedParts}
-use Rattle.stop_times.specs.StopTimeBounds.{end_of_times}
-use Rattle.gtfs_tables.specs.TripRepeats.{IsFrequency, AreRepeats, AreRepeating, IsSmall, repeat_at}
-use Rattle.gtfs_tables.specs.Timed.{rows_of, kept_at, AreTimed, IsTimed}
 use Rattle.stop_times.specs.Visits.{no_visit}
-use Rattle.run_repeat.specs.Runs.{departure}
-use Rattle.service_days.specs.Services.{ServiceParts}
-use Rattle.connections.specs.declared.origins.ServiceDay.{ServiceDay}
-use Rattle.connections.specs.declared.origins.Origin.{Origin}
-use Rattle.connections.specs.declared.repeats.Repeat.{Repeat}
-use Rattle.connections.specs.declared.window.Window.{Window}
-use Rattle.connections.specs.Joins.{only_if, sum_below}
-use Rattle.connections.specs.Origins.{origin_of_day}
-use Rattle.connections.specs.Window.{holds, day_at, IsWindow}
-use Rattle.connections.specs.Steps.{departs, is_active_trip, steps_below, steps_of}
-use Rattle.connections.specs.RepeatedRuns.{origin_at, repeat_of, is_repeat, row_repeats}
-use Rattle.connections.specs.TripRuns.{frequencies_of, days}
-use Rattle.connections.specs.Counts.{each_of, steps_sum, row_sum, rows_sum, runs_sum, leaving_sum, trip_sum, day_sum, days_sum, window_sum, count_in, entries_in, HaveWays}
-use Rattle.connections.specs.Reach.{NoneRuns}
 use Rattle.connections.proofs.CountLemmas.{sum-zero, sum-suc, sum_by-ones, sum_by-join, length-join, sum_by-at, sum-connections}
 use Rattle.connections.proofs.StepLemmas.{holds_parts}
 

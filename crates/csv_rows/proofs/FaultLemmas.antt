@@ -1,11 +1,7 @@
 -- In which table a fault is, and the first of several.
-use Rattle.std.proofs.Common.{◌≡◌, ℕ, ◌<◌, Option, Some, None, IfSome, Result, Ok, Err, IfErr, MatchResult, sym, ap, ◌∙◌, subst, IsErr, IsErrAnd}
-use Rattle.std.specs.Prelude.{⊤}
-use Rattle.std.specs.Option.{option_or}
-use Rattle.csv_rows.specs.declared.feed_tables.Table.{Table}
-use Rattle.csv_rows.specs.declared.feed_tables.FeedFault.{FeedFault}
-use Rattle.csv_rows.specs.First.{first_below}
-use Rattle.csv_rows.specs.RowFaults.{IsFirstFault, ReportsFirst}
+use Rattle.csv_rows.proofs.Common.{◌≡◌, ℕ, ◌<◌, Option, Some, None, IfSome, Result, Ok, Err, IfErr, sym, ap, ◌∙◌, subst, IsErr, IsErrAnd, ⊤, option_or, Table, FeedFault, first_below, IsFirstFault}
+use Rattle.csv_rows.proofs.Common.{ReportsFirst}
+use Rattle.std.proofs.Common.{MatchResult}
 use Rattle.csv_rows.proofs.FirstLemmas.{first-at}
 
 -- what a step that failed says of its error holds of what `?` passes on

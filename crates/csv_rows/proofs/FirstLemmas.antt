@@ -1,11 +1,7 @@
 -- The first fault below a number, step by step, and that it is the least of all that hold.
-use Rattle.std.proofs.Common.{◌≡◌, ℕ, zero, suc, ◌+◌, ◌<◌, Bool, true, false, ◌||◌, ◌&&◌, Option, Some, None, option_map, if◌then◌else◌, refl, sym, ap, ap₂}
-use Rattle.std.proofs.Common.{◌∙◌, subst, arith, ⊎_elim, eq-or-lt_of_le, add-one, ◌⊎◌, inl, inr, Decides}
-use Rattle.std.proofs.lemmas.Option.{cond_some, none-some}
-use Rattle.std.proofs.lemmas.Bool.{cases_Bool, and_from, and_parts, false_from_ne_true}
-use Rattle.std.proofs.lemmas.Bool.Decides.{Decides-below_or}
-use Rattle.std.specs.Option.{option_or}
-use Rattle.csv_rows.specs.First.{first_below, any_below}
+use Rattle.csv_rows.proofs.Common.{◌≡◌, ℕ, zero, suc, ◌+◌, ◌<◌, Bool, true, false, ◌||◌, ◌&&◌, Option, Some, None, option_map, if◌then◌else◌, refl, sym, ap, ap₂, ◌∙◌, subst, arith, ⊎_elim}
+use Rattle.csv_rows.proofs.Common.{eq-or-lt_of_le, add-one, ◌⊎◌, inl, inr, Decides, cond_some, none-some, cases_Bool, and_from, and_parts, false_from_ne_true, Decides-below_or, option_or}
+use Rattle.csv_rows.proofs.Common.{first_below, any_below}
 
 pub first-zero : {F : Type 0} (f : ℕ → Option F) → first_below f 0 ≡ None
 unfolding first_below

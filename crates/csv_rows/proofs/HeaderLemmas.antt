@@ -1,8 +1,5 @@
 -- The index of a name in a header.
-use Rattle.std.proofs.Common.{◌≡◌, ℕ, ◌<◌, false, List, [], length, slice_index_or, Option, Some, None, IfSome, IfNone, sym, bytes_eq}
-use Rattle.std.proofs.lemmas.Slice.Eq.{bytes_eq-Decides}
-use Rattle.std.proofs.lemmas.Bool.{false_from_ne_true}
-use Rattle.csv_rows.specs.Tables.{number_in}
+use Rattle.csv_rows.proofs.Common.{◌≡◌, ℕ, ◌<◌, false, List, [], length, slice_index_or, Option, Some, None, IfSome, IfNone, sym, bytes_eq, bytes_eq-Decides, false_from_ne_true, number_in}
 use Rattle.csv_rows.proofs.FirstLemmas.{absent_by, found_by}
 
 pub bytes_ne : (a b : List ℕ) → (a ≡ b → ⊥) → bytes_eq a b ≡ false

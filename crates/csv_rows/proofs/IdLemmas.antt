@@ -1,27 +1,13 @@
 -- Ids by their numbers, and ids that come twice.
-use Rattle.std.proofs.Common.{◌≡◌, ℕ, ◌+◌, ◌<◌, ◌≤◌, ◌==◌, ◌&&◌, Bool, true, false, List, [], ◌∷◌, ◌++◌, length, slice_index_or, Option, Some, None, IfSome}
-use Rattle.std.proofs.Common.{IfNone, Contains, refl, sym, ap, ap₂, ◌∙◌, subst, arith, ⊎_elim, bytes_eq, if◌then◌else◌, add-one, length-append, slice_get}
-use Rattle.std.proofs.Common.{Result, Ok, Err, IfOk, OnErr, ◌-◌, ◌^◌, eq-eqb, ne_eqb}
-use Rattle.std.proofs.lemmas.Grind.{common_steps}
-use Rattle.std.proofs.lemmas.Bool.{both_ways, cases_lt, cases_Bool}
-use Rattle.std.proofs.lemmas.List.{get_or_default, get_or_append_left, get_or_push}
-use Rattle.std.proofs.lemmas.Option.{slice_get_cases, none-some}
-use Rattle.std.proofs.lemmas.Slice.Eq.{bytes_eq-Decides}
-use Rattle.std.specs.Option.{option_or}
-use Rattle.csv_rows.specs.declared.feed_tables.Table.{Table}
-use Rattle.csv_rows.specs.declared.feed_tables.FeedFault.{FeedFault}
-use Rattle.csv_rows.specs.declared.feed_tables.FeedFault.TheVariants.{DuplicateKey}
-use Rattle.csv_rows.specs.First.{first_below, any_below}
-use Rattle.csv_rows.specs.Tables.{number_in}
+use Rattle.csv_rows.proofs.Common.{◌≡◌, ℕ, ◌+◌, ◌<◌, ◌≤◌, ◌==◌, ◌&&◌, Bool, true, false, List, [], ◌∷◌, ◌++◌, length, slice_index_or, Option, Some, None, IfSome, IfNone, Contains, refl, sym, ap}
+use Rattle.csv_rows.proofs.Common.{ap₂, ◌∙◌, subst, arith, ⊎_elim, bytes_eq, if◌then◌else◌, add-one, length-append, slice_get, Result, Ok, Err, IfOk, OnErr, ◌-◌, ◌^◌, eq-eqb, ne_eqb, common_steps}
+use Rattle.csv_rows.proofs.Common.{both_ways, cases_lt, cases_Bool, get_or_default, get_or_append_left, get_or_push, slice_get_cases, none-some, bytes_eq-Decides, option_or, Table, FeedFault}
+use Rattle.csv_rows.proofs.Common.{DuplicateKey, first_below, any_below, number_in, All-push, Contains-push, Adds, AreDistinct, IsTrimmed, repeated_id, list_below}
 use Rattle.csv_rows.proofs.FirstLemmas.{any-true, any-false, any-one, any-none, first-suc, index_by-some, index_by-none, first-same, none-each}
 use Rattle.csv_rows.proofs.HeaderLemmas.{index_is}
-use Rattle.std.proofs.lemmas.List.Elements.{All-push, Contains-push}
 use Rattle.plan_model.specs.declared.list.NoMemory.{NoMemory}
-use Rattle.plan_model.specs.NameLists.{Adds, AreDistinct, IsTrimmed}
 use Rattle.plan_model.proofs.Texts.{IsNameList-adds}
 use Rattle.csv_rows.specs.Ids.{AreIds}
-use Rattle.csv_rows.specs.RowFaults.{repeated_id}
-use Rattle.csv_rows.specs.Lists.{list_below}
 use Rattle.csv_rows.proofs.ListLemmas.{length-list_below, get-list_below}
 
 -- what is at an index where something is

@@ -1,15 +1,9 @@
 -- The keys of a set of borrowed texts.
-use Rattle.std.proofs.Common.{Bor, ◌≡◌, ℕ, ◌<◌, Bool, true, false, Some, List, [], ◌∷◌, ◌++◌, length, map, get_or, refl, sym, ap, ◌∙◌, arith, Contains, bytes_eq, slice_get}
-use Rattle.std.specs.Prelude.{position, if◌then◌else◌}
-use Rattle.std.specs.List.{list_any}
+use Rattle.csv_rows.proofs.Common.{Bor, ◌≡◌, ℕ, ◌<◌, Bool, true, false, Some, List, [], ◌∷◌, ◌++◌, length, map, get_or, refl, sym, ap, ◌∙◌, arith, Contains, bytes_eq, slice_get, position}
+use Rattle.csv_rows.proofs.Common.{list_any, Adds, false≢true, bytes_eq-Decides, get_or-map, length-map, map-append, position-Some, slice_get-get_or}
+use Rattle.std.specs.Prelude.{if◌then◌else◌}
 use Rattle.indexmap.specs.IndexSet.{insert_key}
-use Rattle.plan_model.specs.NameLists.{Adds}
-use Rattle.std.proofs.lemmas.Bool.{false≢true}
-use Rattle.std.proofs.lemmas.Slice.Eq.{bytes_eq-Decides}
-use Rattle.std.proofs.lemmas.List.{get_or-map, length-map, map-append}
-use Rattle.std.proofs.lemmas.List.Quantifiers.{position-Some}
 use Rattle.std.proofs.lemmas.List.Folds.{Any-from_list_any, list_any_at}
-use Rattle.std.proofs.lemmas.Option.{slice_get-get_or}
 
 bytes : Bor (List ℕ) → List ℕ
 bytes k = k.now

@@ -1,8 +1,6 @@
 -- The list of a function's values.
-use Rattle.std.proofs.Common.{◌≡◌, ℕ, zero, suc, ◌+◌, ◌-◌, ◌<◌, ◌≤◌, take, drop, length-drop, get_or-drop, List, [], ◌∷◌, ◌++◌, length, slice_index_or, refl}
-use Rattle.std.proofs.Common.{sym, ap, ◌∙◌, subst, arith, ⊎_elim, add-one, length-append, eq-or-lt_of_le, take_all, drop-drop}
-use Rattle.std.proofs.lemmas.List.{get_or_append_left, get_or_push, take_more}
-use Rattle.csv_rows.specs.Lists.{list_below}
+use Rattle.csv_rows.proofs.Common.{◌≡◌, ℕ, zero, suc, ◌+◌, ◌-◌, ◌<◌, ◌≤◌, take, drop, length-drop, get_or-drop, List, [], ◌∷◌, ◌++◌, length, slice_index_or, refl, sym, ap, ◌∙◌, subst, arith}
+use Rattle.csv_rows.proofs.Common.{⊎_elim, add-one, length-append, eq-or-lt_of_le, take_all, drop-drop, get_or_append_left, get_or_push, take_more, list_below}
 
 pub list_below-zero : {A : Type 0} (f : ℕ → A) → list_below f 0 ≡ []
 unfolding list_below

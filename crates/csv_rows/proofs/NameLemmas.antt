@@ -1,9 +1,6 @@
 -- Names that are not empty, and texts.
-use Rattle.std.proofs.Common.{◌≡◌, ℕ, Bool, true, false, ◌==◌, List, length, Option, Some, None, if◌then◌else◌, IsUtf8, sym, ap, ◌∙◌}
-use Rattle.std.specs.Str.{is_utf8}
+use Rattle.csv_rows.proofs.Common.{◌≡◌, ℕ, Bool, true, false, ◌==◌, List, length, Option, Some, None, if◌then◌else◌, IsUtf8, sym, ap, ◌∙◌, is_utf8, false_from_ne_true, name_in, text_in}
 use Rattle.std.proofs.lemmas.Str.{IsUtf8-from_is_utf8, is_utf8-from_IsUtf8}
-use Rattle.std.proofs.lemmas.Bool.{false_from_ne_true}
-use Rattle.csv_rows.specs.Names.{name_in, text_in}
 
 abbrev name_if : Bool → Bool → List ℕ → Option (List ℕ)
 name_if a b text = if a then None else if b then Some text else None

@@ -1,12 +1,6 @@
 -- Fields, and the rows that they make.
-use Rattle.std.proofs.Common.{◌≡◌, ℕ, ◌<◌, ◌==◌, Bool, List, [], length, slice_index_or, Option, Some, None, if◌then◌else◌, refl, sym, ap, ◌∙◌, arith, bytes_eq}
-use Rattle.std.proofs.Common.{IfSome, option_map, subst}
-use Rattle.std.proofs.lemmas.Bool.{cases_Bool}
-use Rattle.std.proofs.lemmas.Option.{same_Some}
-use Rattle.std.specs.Str.{is_utf8}
-use Rattle.std.specs.Option.{option_or}
-use Rattle.csv_rows.specs.Names.{name_in}
-use Rattle.csv_rows.specs.Tables.{number_in}
+use Rattle.csv_rows.proofs.Common.{◌≡◌, ℕ, ◌<◌, ◌==◌, Bool, List, [], length, slice_index_or, Option, Some, None, if◌then◌else◌, refl, sym, ap, ◌∙◌, arith, bytes_eq, IfSome, option_map, subst}
+use Rattle.csv_rows.proofs.Common.{cases_Bool, same_Some, is_utf8, option_or, name_in, number_in}
 use Rattle.csv_rows.proofs.FirstLemmas.{index_by-some}
 
 -- the first of two faults

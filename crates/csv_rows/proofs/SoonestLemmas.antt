@@ -1,9 +1,6 @@
 -- The soonest of the faults of rows, key by key, and that it is the first.
-use Rattle.std.proofs.Common.{◌≡◌, ℕ, ◌+◌, ◌<◌, ◌≤◌, nat_lt, Bool, true, false, ◌⊎◌, inl, inr, List, length, Option, Some, None, option_map, if◌then◌else◌, refl, sym, subst, arith, ⊎_elim, below_more}
-use Rattle.std.proofs.lemmas.Bool.{cases_Bool, ltb-true, ltb-false}
-use Rattle.csv_rows.specs.First.{first_below}
-use Rattle.csv_rows.specs.declared.keys.Key.{Key}
-use Rattle.csv_rows.specs.Keys.{key_at, AreSorted, sooner}
+use Rattle.csv_rows.proofs.Common.{◌≡◌, ℕ, ◌+◌, ◌<◌, ◌≤◌, nat_lt, Bool, true, false, ◌⊎◌, inl, inr, List, length, Option, Some, None, option_map, if◌then◌else◌, refl, sym, subst, arith, ⊎_elim}
+use Rattle.csv_rows.proofs.Common.{below_more, cases_Bool, ltb-true, ltb-false, first_below, Key, key_at, AreSorted, sooner}
 use Rattle.csv_rows.proofs.FirstLemmas.{first-none, first-at}
 
 -- of the rows of the first m keys this one is the first that has a fault, or none has

@@ -1,19 +1,12 @@
 -- Sorted keys.
-use Rattle.std.proofs.Common.{◌≡◌, ℕ, ◌+◌, ◌<◌, ◌≤◌, arith, ⊎_elim, Bool, true, false, eqb, List, length, refl, ap, ◌∙◌, subst, ◌++◌, ◌∷◌, [], All, AllPairs}
-use Rattle.std.proofs.Common.{Contains, Ordering, is_lt, nat_cmp, IsPermutation, IsSorted, ne_eqb}
+use Rattle.csv_rows.proofs.Common.{◌≡◌, ℕ, ◌+◌, ◌<◌, ◌≤◌, arith, ⊎_elim, Bool, true, false, eqb, List, length, refl, ap, ◌∙◌, subst, ◌++◌, ◌∷◌, [], All, AllPairs, Contains, Ordering, is_lt}
+use Rattle.csv_rows.proofs.Common.{nat_cmp, IsPermutation, IsSorted, ne_eqb, IsDistinct, All-push, All-weaker, Contains-append_left, Contains-push, all_pairs_push, get_or_default, cases_lt}
+use Rattle.csv_rows.proofs.Common.{eqb-false, nat_tests, Key, no_key, IsAtMost, IsRising, AreSorted}
 use Rattle.std.specs.Cmp.{IsTotalOrder}
 use Rattle.std.specs.Ordering.{ordering_then}
-use Rattle.std.specs.List.{IsDistinct}
 use Rattle.std.proofs.lemmas.Cmp.{nat_cmp_total, on_total, then_total}
-use Rattle.std.proofs.lemmas.List.Elements.{All-push, All-weaker, Contains-append_left, Contains-push}
-use Rattle.std.proofs.lemmas.List.Quantifiers.{all_pairs_push}
 use Rattle.std.proofs.lemmas.List.Sorted.{All-permutation, Contains-permutation, ranks_by, sorted_far}
 use Rattle.std.proofs.lemmas.Map.Keys.{IsDistinct-from_apart, IsDistinct-IsPermutation, apart_from_distinct}
-use Rattle.std.proofs.lemmas.List.{get_or_default}
-use Rattle.std.proofs.lemmas.Bool.{cases_lt, eqb-false}
-use Rattle.std.proofs.lemmas.Bool.Decides.{nat_tests}
-use Rattle.csv_rows.specs.declared.keys.Key.{Key}
-use Rattle.csv_rows.specs.Keys.{no_key, IsAtMost, IsRising, AreSorted}
 
 abbrev pub key_cmp : Key → Key → Ordering
 key_cmp a b = ordering_then (nat_cmp a.group b.group) (ordering_then (nat_cmp a.order b.order) (nat_cmp a.row b.row))

@@ -1,13 +1,6 @@
 -- Trimmed fields neither begin nor end with a space.
-use Rattle.std.proofs.Common.{◌≡◌, ℕ, zero, suc, Option, Some, None, ◌+◌, Bool, true, false}
-use Rattle.std.proofs.Common.{◌==◌, List, [], ◌∷◌, ◌++◌, map, reverse, slice_index_or, if◌then◌else◌, refl, sym, ap, ◌∙◌, arith}
-use Rattle.std.proofs.lemmas.Bool.{cases_Bool}
-use Rattle.std.proofs.lemmas.Grind.{common_steps}
-use Rattle.std.proofs.lemmas.Bool.Decides.{nat_tests}
-use Rattle.std.proofs.lemmas.List.{reverse-append, reverse-reverse}
-use Rattle.plan_model.specs.NameLists.{IsTrimmed}
-use Rattle.csv_rows.specs.Spaces.{drop_spaces, trimmed_text, AreTrimmed}
-use Rattle.csv_rows.specs.Tables.{field_at}
+use Rattle.csv_rows.proofs.Common.{◌≡◌, ℕ, zero, suc, Option, Some, None, ◌+◌, Bool, true, false, ◌==◌, List, [], ◌∷◌, ◌++◌, map, reverse, slice_index_or, if◌then◌else◌, refl, sym, ap, ◌∙◌, arith}
+use Rattle.csv_rows.proofs.Common.{cases_Bool, common_steps, nat_tests, reverse-append, reverse-reverse, IsTrimmed, drop_spaces, trimmed_text, AreTrimmed, field_at}
 
 not_space : (b : ℕ) → (b == 32) ≡ false → b ≡ 32 → ⊥
 not_space b h e = grind (arith, nat_tests)

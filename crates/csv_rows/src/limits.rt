@@ -7,16 +7,27 @@ use crate::feed_tables::Table;
 
 // The limits with which the largest accepted feed fits in 8 GB of memory.
 const MOST_BYTES: u64 = 1 << 30;
+
 const MOST_STOPS: u64 = 1 << 20;
+
 const MOST_ROUTES: u64 = 1 << 16;
+
 const MOST_TRIPS: u64 = 1 << 22;
+
 const MOST_STOP_TIMES: u64 = 1 << 25;
+
 const MOST_FREQUENCIES: u64 = 1 << 16;
+
 const MOST_CALENDAR: u64 = 1 << 20;
+
 const MOST_CALENDAR_DATES: u64 = 1 << 24;
+
 const MOST_TRANSFERS: u64 = 1 << 22;
+
 const MOST_CUT_ROWS: u64 = 1 << 23;
+
 const MOST_CONNECTIONS: u64 = 1 << 23;
+
 const MOST_ENTRIES: u64 = 1 << 26;
 
 /// The most that is read: bytes of one file, rows of each table, and connections of a window and their entries. None is above

@@ -1,9 +1,6 @@
 -- The longest change of each place, one row more.
-use Rattle.std.proofs.Common.{◌≡◌, ℕ, suc, ◌+◌, ◌<◌, ◌==◌, max, true, false, List, length, get_or, set, refl, sym, ap, ◌∙◌, subst, arith, ⊎_elim, add-one, get_or-set_same, get_or-set_other}
-use Rattle.std.proofs.lemmas.Bool.{cases_Bool, eqb-true, eqb-false}
-use Rattle.cut_file.specs.declared.rows.CutRow.{CutRow}
-use Rattle.cut_file.specs.CutKeys.{cut_row}
-use Rattle.cut_file.specs.CutNetworks.{longest, change_by, change_seconds_of}
+use Rattle.cut_file.proofs.Common.{◌≡◌, ℕ, suc, ◌+◌, ◌<◌, ◌==◌, max, true, false, List, length, get_or, set, refl, sym, ap, ◌∙◌, subst, arith, ⊎_elim, add-one, get_or-set_same, get_or-set_other}
+use Rattle.cut_file.proofs.Common.{cases_Bool, eqb-true, eqb-false, CutRow, cut_row, longest, change_by, change_seconds_of}
 
 pub longest-zero : (rows : List CutRow) (p : ℕ) → longest rows 0 p ≡ 0
 unfolding longest

@@ -1,18 +1,8 @@
 -- The first fault of a table, by the step that finds it.
-use Rattle.std.proofs.Common.{◌≡◌, ℕ, ◌<◌, ◌≤◌, List, length, Option, Some, None, slice_index_or, if◌then◌else◌, refl, sym, ap, ◌∙◌, subst, lt-ltb, le-ltb}
-use Rattle.std.specs.Option.{option_or}
-use Rattle.csv_rows.specs.First.{first_below}
-use Rattle.csv_rows.specs.declared.columns.Column.TheVariants.{Run, Step, From, To, Dep, Arr}
-use Rattle.csv_rows.specs.Tables.{row_count}
-use Rattle.cut_file.specs.declared.rows.CutRow.{CutRow}
+use Rattle.cut_file.proofs.Common.{◌≡◌, ℕ, ◌<◌, ◌≤◌, List, length, Option, Some, None, slice_index_or, if◌then◌else◌, refl, sym, ap, ◌∙◌, subst, lt-ltb, le-ltb, option_or, first_below, Run, Step}
+use Rattle.cut_file.proofs.Common.{From, To, Dep, Arr, row_count, CutRow, Key, CutFault, TooManyRows, missing_column, too_many_rows, bad_field, repeated_step, run_fault, first_cut_fault, row}
+use Rattle.cut_file.proofs.Common.{AreCutColumns, missing_in, index_fault, run_names, place_names, IsNumbered, AreCutKeys, no_row, IsCutRead}
 use Rattle.cut_file.specs.declared.rows.Columns.{Columns}
-use Rattle.csv_rows.specs.declared.keys.Key.{Key}
-use Rattle.cut_file.specs.declared.faults.CutFault.{CutFault}
-use Rattle.cut_file.specs.declared.faults.CutFault.TheVariants.{TooManyRows}
-use Rattle.cut_file.specs.Faults.{missing_column, too_many_rows, bad_field, repeated_step, run_fault, first_cut_fault, row}
-use Rattle.cut_file.specs.NumberedRows.{AreCutColumns, missing_in, index_fault, run_names, place_names, IsNumbered}
-use Rattle.cut_file.specs.CutKeys.{AreCutKeys, no_row}
-use Rattle.cut_file.specs.Read.{IsCutRead}
 
 pub missing_is : (t : List (List (List ℕ))) (c : Columns) → AreCutColumns t c → missing_column t ≡ missing_in c
 missing_is t c h =

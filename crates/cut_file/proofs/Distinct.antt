@@ -1,15 +1,9 @@
 -- Numbers of names: one for each name.
-use Rattle.std.proofs.Common.{◌≡◌, ℕ, zero, suc, ◌==◌, Bool, true, false, List, [], ◌∷◌, ◌++◌, slice_get, Some, is_some, if◌then◌else◌, refl, sym, ap, ◌∙◌}
-use Rattle.std.proofs.Common.{subst, arith, ⊎_elim, Contains, bytes_eq, eq-eqb, ne_eqb}
-use Rattle.std.proofs.lemmas.Bool.{cases_Bool}
-use Rattle.std.proofs.lemmas.Slice.Eq.{bytes_eq-Decides}
-use Rattle.std.proofs.lemmas.Option.{slice_get_within, get_or_from_slice_get, same_Some}
-use Rattle.plan_model.specs.NameLists.{AreDistinct}
+use Rattle.cut_file.proofs.Common.{◌≡◌, ℕ, zero, suc, ◌==◌, Bool, true, false, List, [], ◌∷◌, ◌++◌, slice_get, Some, is_some, if◌then◌else◌, refl, sym, ap, ◌∙◌, subst, arith, ⊎_elim, Contains}
+use Rattle.cut_file.proofs.Common.{bytes_eq, eq-eqb, ne_eqb, cases_Bool, bytes_eq-Decides, slice_get_within, get_or_from_slice_get, same_Some, AreDistinct, number_in, row, add_new, run_names}
+use Rattle.cut_file.proofs.Common.{place_names}
 use Rattle.plan_model.proofs.Texts.{AreDistinct-push}
-use Rattle.csv_rows.specs.Tables.{number_in}
 use Rattle.delay_table.proofs.NumberedFacts.{one_index}
-use Rattle.cut_file.specs.Faults.{row}
-use Rattle.cut_file.specs.NumberedRows.{add_new, run_names, place_names}
 use Rattle.cut_file.proofs.NumberFacts.{there_place}
 
 push_if : (names : List (List ℕ)) (x : List ℕ) (b : Bool) → (b ≡ false → Contains names x → ⊥) → AreDistinct names → AreDistinct (if b then names else names ++ x ∷ [])

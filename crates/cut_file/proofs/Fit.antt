@@ -1,20 +1,7 @@
 -- The names of a cut file fit its network.
-use Rattle.std.proofs.Common.{◌≡◌, ℕ, ◌<◌, List, length, slice_get, Some, sym, ap, ◌∙◌, subst, arith, ⊎_elim, All}
-use Rattle.std.proofs.lemmas.Option.{get_or_from_slice_get}
-use Rattle.plan_model.specs.NetworkModel.{NetworkModel}
-use Rattle.plan_model.specs.NameLists.{NameLists, IsTrimmed, NamesFit}
-use Rattle.plan_model.specs.Network.{count}
-use Rattle.csv_rows.specs.declared.columns.Column.TheVariants.{Run, From, To}
-use Rattle.csv_rows.specs.Tables.{row_count, field, index_of}
-use Rattle.csv_rows.proofs.FirstLemmas.{none-each}
+use Rattle.cut_file.proofs.Common.{◌≡◌, ℕ, ◌<◌, List, length, slice_get, Some, sym, ap, ◌∙◌, subst, arith, ⊎_elim, All, get_or_from_slice_get, NetworkModel, NameLists, IsTrimmed, NamesFit, count}
+use Rattle.cut_file.proofs.Common.{Run, From, To, row_count, field, index_of, none-each, DelayLists, AreDelays, row, bad_field, place_names, Cut, IsFaultless, IsNetwork}
 use Rattle.csv_rows.proofs.SpaceLemmas.{IsTrimmed-field}
-use Rattle.delay_table.specs.DelayLists.{DelayLists}
-use Rattle.delay_table.specs.Slots.{AreDelays}
-use Rattle.cut_file.specs.Faults.{row, bad_field}
-use Rattle.cut_file.specs.NumberedRows.{place_names}
-use Rattle.cut_file.specs.Read.{Cut}
-use Rattle.cut_file.specs.Sound.{IsFaultless}
-use Rattle.cut_file.specs.CutNetworks.{IsNetwork}
 use Rattle.cut_file.proofs.FormFacts.{InForm, row_in_form}
 use Rattle.cut_file.proofs.Occurs.{run_occurs, place_occurs}
 use Rattle.cut_file.proofs.Valid.{none_of, is_at, key_of_run, run_inside}

@@ -1,20 +1,13 @@
 -- What the forms of the fields bound.
-use Rattle.std.proofs.Common.{◌≡◌, ℕ, ◌+◌, ◌<◌, ◌≤◌, Bool, true, ◌==◌, nat_lt, List, length, Option, Some, None, Result, Ok, Err, IfSome, if◌then◌else◌, refl}
-use Rattle.std.proofs.Common.{subst, arith, ltb-true}
-use Rattle.std.proofs.lemmas.Bool.{cases_Bool}
-use Rattle.csv_rows.specs.declared.columns.Column.{Column}
-use Rattle.csv_rows.specs.declared.columns.Column.TheVariants.{Class, Run, Step, From, To, Dep, Arr, Board, Exit, Change}
+use Rattle.cut_file.proofs.Common.{◌≡◌, ℕ, ◌+◌, ◌<◌, ◌≤◌, Bool, true, ◌==◌, nat_lt, List, length, Option, Some, None, Result, Ok, Err, IfSome, if◌then◌else◌, refl, subst, arith, ltb-true}
+use Rattle.cut_file.proofs.Common.{cases_Bool, Column, Class, Run, Step, From, To, Dep, Arr, Board, Exit, Change, same_Some, Row, row_from, row_at, bad_of, bad_field, row_of, row, field}
 use Rattle.clock_text.proofs.DigitLemmas.{whole_bound}
 use Rattle.csv_rows.proofs.RowLemmas.{name_text, optional-each}
 use Rattle.clock_text.specs.Digits.{optional_seconds_of, whole_of}
 use Rattle.clock_text.specs.Times.{moment_at}
-use Rattle.std.proofs.lemmas.Option.{same_Some}
 use Rattle.csv_rows.specs.Names.{name_in}
 use Rattle.cut_file.specs.CutForms.{before_end, moment_before_end, class_in, flag_in}
 use Rattle.cut_file.specs.declared.lines.TheConstants.{MOST_STEP}
-use Rattle.cut_file.specs.CutRows.{Row, row_from, row_at}
-use Rattle.cut_file.specs.Faults.{bad_of, bad_field, row_of, row}
-use Rattle.csv_rows.specs.Tables.{field}
 use Rattle.plan_model.specs.Bounds.{end_of_arrivals}
 use Rattle.plan_model.proofs.Results.{require-each}
 

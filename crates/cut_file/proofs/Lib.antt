@@ -1,3 +1,4 @@
+mod Common
 pub mod NumberFacts
 pub mod RowFacts
 pub mod Distinct

@@ -1,14 +1,8 @@
 -- The network that is made.
-use Rattle.std.proofs.Common.{◌≡◌, ℕ, ◌<◌, List, length, get_or, ap, ◌∙◌, refl, subst, arith}
+use Rattle.cut_file.proofs.Common.{◌≡◌, ℕ, ◌<◌, List, length, get_or, ap, ◌∙◌, refl, subst, arith, plain_network, change_of, DelayLists, CutRow, Key, Cut, AreConnections, IsNetwork, longest}
+use Rattle.cut_file.proofs.Common.{change_from}
 use Rattle.plan_model.specs.declared.model.Connection.{Connection}
 use Rattle.plan_model.specs.declared.model.Outcome.{Outcome}
-use Rattle.plan_model.specs.NetworkModel.{plain_network}
-use Rattle.plan_model.specs.Network.{change_of}
-use Rattle.delay_table.specs.DelayLists.{DelayLists}
-use Rattle.cut_file.specs.declared.rows.CutRow.{CutRow}
-use Rattle.csv_rows.specs.declared.keys.Key.{Key}
-use Rattle.cut_file.specs.Read.{Cut}
-use Rattle.cut_file.specs.CutNetworks.{AreConnections, IsNetwork, longest, change_from}
 
 pub make_network : (cut : Cut) (delays : DelayLists) (r : List CutRow) (k : List Key) (places : ℕ) (connections : List Connection) (change : List ℕ) (classes : List (List Outcome))
     → r ≡ cut.rows → k ≡ cut.keys → places ≡ length cut.places → length change ≡ places

@@ -1,18 +1,7 @@
 -- The fault of a row beside the row before it in its run, by the keys.
-use Rattle.std.proofs.lemmas.Bool.{cases_Bool}
-use Rattle.std.proofs.Common.{◌≡◌, ℕ, ◌+◌, ◌<◌, ◌==◌, nat_lt, Bool, true, false, not, ◌&&◌, ◌||◌, List, length, Option, Some, None, if◌then◌else◌, sym, ap, ap₂, ◌∙◌, subst, arith, bytes_eq}
-use Rattle.csv_rows.specs.First.{first_below, any_below}
-use Rattle.csv_rows.specs.Tables.{row_count}
-use Rattle.csv_rows.specs.declared.keys.Key.{Key}
-use Rattle.csv_rows.specs.Keys.{key_at, IsBefore}
-use Rattle.csv_rows.proofs.FirstLemmas.{any-same}
-use Rattle.csv_rows.proofs.KeyLemmas.{before_inside, asked, asked_before}
-use Rattle.cut_file.specs.declared.rows.CutRow.{CutRow}
-use Rattle.cut_file.specs.declared.faults.CutFault.{CutFault}
-use Rattle.cut_file.specs.declared.faults.CutFault.TheVariants.{Backward, Broken}
-use Rattle.cut_file.specs.Faults.{row, cut_precedes, cut_just_precedes, repeated_step, run_fault}
-use Rattle.cut_file.specs.CutKeys.{cut_row, run_of, step_of, beside}
-use Rattle.cut_file.specs.Read.{IsCutRead}
+use Rattle.cut_file.proofs.Common.{cases_Bool, ◌≡◌, ℕ, ◌+◌, ◌<◌, ◌==◌, nat_lt, Bool, true, false, not, ◌&&◌, ◌||◌, List, length, Option, Some, None, if◌then◌else◌, sym, ap, ap₂, ◌∙◌, subst, arith}
+use Rattle.cut_file.proofs.Common.{bytes_eq, first_below, any_below, row_count, Key, key_at, IsBefore, any-same, before_inside, asked, asked_before, CutRow, CutFault, Backward, Broken, row}
+use Rattle.cut_file.proofs.Common.{cut_precedes, cut_just_precedes, repeated_step, run_fault, cut_row, run_of, step_of, beside, IsCutRead}
 use Rattle.cut_file.proofs.Distinct.{same_name}
 use Rattle.cut_file.proofs.Repeats.{one_place_name, run_is, step_is, apart}
 

@@ -1,16 +1,7 @@
 -- The network of a cut file by the rows of its table.
-use Rattle.std.proofs.Common.{◌≡◌, ℕ, zero, suc, ◌<◌, ◌≤◌, max, List, length, slice_get, Option, Some, None, if◌then◌else◌, bytes_eq, refl, sym, ap, ap₂, ◌∙◌, subst, arith}
-use Rattle.std.proofs.lemmas.Option.{slice_get_within}
-use Rattle.plan_model.specs.NetworkModel.{NetworkModel}
-use Rattle.plan_model.specs.Network.{count, connection, no_connection}
-use Rattle.csv_rows.specs.Tables.{row_count}
-use Rattle.delay_table.specs.DelayLists.{DelayLists, class_for}
-use Rattle.cut_file.specs.Faults.{row}
-use Rattle.csv_rows.specs.Keys.{key_at}
-use Rattle.cut_file.specs.CutKeys.{cut_row}
-use Rattle.cut_file.specs.Read.{Cut, IsCutRead}
-use Rattle.cut_file.specs.CutNetworks.{IsNetwork, longest, change_seconds_of, change_from}
-use Rattle.cut_file.specs.CutNetwork.{IsRide, largest, IsCutNetwork}
+use Rattle.cut_file.proofs.Common.{◌≡◌, ℕ, zero, suc, ◌<◌, ◌≤◌, max, List, length, slice_get, Option, Some, None, if◌then◌else◌, bytes_eq, refl, sym, ap, ap₂, ◌∙◌, subst, arith, slice_get_within}
+use Rattle.cut_file.proofs.Common.{NetworkModel, count, connection, no_connection, row_count, DelayLists, class_for, row, key_at, cut_row, Cut, IsCutRead, IsNetwork, longest, change_seconds_of}
+use Rattle.cut_file.proofs.Common.{change_from, IsRide, largest, IsCutNetwork}
 use Rattle.cut_file.proofs.ChangeFacts.{longest-zero, longest-suc}
 use Rattle.cut_file.proofs.Repeats.{one_place_name}
 use Rattle.cut_file.proofs.Distinct.{same_name}

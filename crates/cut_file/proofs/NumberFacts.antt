@@ -1,18 +1,10 @@
 -- Names that are numbered as they come.
-use Rattle.std.proofs.Common.{◌≡◌, ℕ, zero, suc, ◌+◌, ◌≤◌, Bool, true, false, List, [], ◌∷◌, ◌++◌, length, get_or, slice_get, Option, Some, None, is_some}
-use Rattle.std.proofs.Common.{if◌then◌else◌, refl, sym, ap, ◌∙◌, subst, take, arith, Contains, length-append, bytes_eq}
-use Rattle.std.proofs.lemmas.Bool.{cases_Bool}
-use Rattle.std.proofs.lemmas.List.{get_or_default, take_more}
-use Rattle.std.proofs.lemmas.Option.{none-some, slice_get_within, get_or_from_slice_get}
-use Rattle.plan_model.specs.NameLists.{Adds, AreDistinct}
+use Rattle.cut_file.proofs.Common.{◌≡◌, ℕ, zero, suc, ◌+◌, ◌≤◌, Bool, true, false, List, [], ◌∷◌, ◌++◌, length, get_or, slice_get, Option, Some, None, is_some, if◌then◌else◌, refl, sym, ap, ◌∙◌}
+use Rattle.cut_file.proofs.Common.{subst, take, arith, Contains, length-append, bytes_eq, cases_Bool, get_or_default, take_more, none-some, slice_get_within, get_or_from_slice_get, Adds}
+use Rattle.cut_file.proofs.Common.{AreDistinct, number_in, absent_by, CutRow, Row, add_new, IsNumbered}
 use Rattle.text_index.proofs.KeyLemmas.{new_after_those_before}
-use Rattle.csv_rows.specs.Tables.{number_in}
-use Rattle.csv_rows.proofs.FirstLemmas.{absent_by}
 use Rattle.csv_rows.proofs.IdLemmas.{got, number-contained}
 use Rattle.csv_rows.proofs.HeaderLemmas.{bytes_ne}
-use Rattle.cut_file.specs.declared.rows.CutRow.{CutRow}
-use Rattle.cut_file.specs.CutRows.{Row}
-use Rattle.cut_file.specs.NumberedRows.{add_new, IsNumbered}
 
 -- the next of these names is new after those before it
 pub next_absent : (names taken : List (List ℕ)) (k : ℕ) (name : List ℕ) → AreDistinct names → taken ≡ take k names → slice_get names k ≡ Some name → ¬ Contains taken name

@@ -1,9 +1,6 @@
 -- Each number is that of some row.
-use Rattle.std.proofs.Common.{◌≡◌, ℕ, zero, suc, ◌*◌, ◌<◌, ◌≤◌, ◌⊎◌, inl, inr, Bool, true, false, List, [], ◌∷◌, ◌++◌, length, slice_get, Some, is_some}
-use Rattle.std.proofs.Common.{if◌then◌else◌, refl, sym, subst, arith, ⊎_elim, length-append, eq-or-lt_of_le}
-use Rattle.csv_rows.specs.Tables.{number_in}
-use Rattle.cut_file.specs.Faults.{row}
-use Rattle.cut_file.specs.NumberedRows.{add_new, run_names, place_names}
+use Rattle.cut_file.proofs.Common.{◌≡◌, ℕ, zero, suc, ◌*◌, ◌<◌, ◌≤◌, ◌⊎◌, inl, inr, Bool, true, false, List, [], ◌∷◌, ◌++◌, length, slice_get, Some, is_some, if◌then◌else◌, refl, sym, subst}
+use Rattle.cut_file.proofs.Common.{arith, ⊎_elim, length-append, eq-or-lt_of_le, number_in, row, add_new, run_names, place_names}
 use Rattle.cut_file.proofs.NumberFacts.{get_add, length_add}
 
 get_last : (names : List (List ℕ)) (x : List ℕ) → slice_get (names ++ x ∷ []) (length names) ≡ Some x

@@ -1,18 +1,7 @@
 -- The rows of a table by the keys of their runs and steps, and the first step that is repeated.
-use Rattle.std.proofs.Common.{◌≡◌, ℕ, ◌+◌, ◌<◌, ◌==◌, Bool, true, ◌&&◌, List, length, Option, Some, None, option_map, if◌then◌else◌, sym, ap, ap₂, ◌∙◌, subst, arith}
-use Rattle.plan_model.specs.NameLists.{AreDistinct}
-use Rattle.csv_rows.specs.First.{first_below}
-use Rattle.csv_rows.specs.Tables.{row_count}
-use Rattle.csv_rows.specs.declared.keys.Key.{Key}
-use Rattle.csv_rows.specs.Keys.{key_at, AreSorted, has_twin, twin_at}
-use Rattle.csv_rows.proofs.FirstLemmas.{any-same, first-same, first-reported}
-use Rattle.csv_rows.proofs.KeyLemmas.{AreApart, no_twins, rises}
-use Rattle.cut_file.specs.declared.rows.CutRow.{CutRow}
-use Rattle.cut_file.specs.declared.faults.CutFault.{CutFault}
-use Rattle.cut_file.specs.declared.faults.CutFault.TheVariants.{DuplicateStep}
-use Rattle.cut_file.specs.Faults.{row, same_run, repeated_step}
-use Rattle.cut_file.specs.CutKeys.{run_of, step_of}
-use Rattle.cut_file.specs.Read.{IsCutRead}
+use Rattle.cut_file.proofs.Common.{◌≡◌, ℕ, ◌+◌, ◌<◌, ◌==◌, Bool, true, ◌&&◌, List, length, Option, Some, None, option_map, if◌then◌else◌, sym, ap, ap₂, ◌∙◌, subst, arith, AreDistinct, first_below}
+use Rattle.cut_file.proofs.Common.{row_count, Key, key_at, AreSorted, has_twin, twin_at, any-same, first-same, first-reported, AreApart, no_twins, rises, CutRow, CutFault, DuplicateStep, row}
+use Rattle.cut_file.proofs.Common.{same_run, repeated_step, run_of, step_of, IsCutRead}
 use Rattle.cut_file.proofs.Distinct.{runs_distinct, places_distinct, same_name}
 
 module _ (t : List (List (List ℕ))) (runs places : List (List ℕ)) (rows : List CutRow) (keys : List Key) (r : IsCutRead t runs places rows keys) where

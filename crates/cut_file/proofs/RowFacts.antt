@@ -1,12 +1,6 @@
 -- The rows, one more at a time.
-use Rattle.std.proofs.Common.{◌≡◌, ℕ, ◌+◌, ◌<◌, List, [], ◌∷◌, ◌++◌, length, get_or, Some, None, Ok, Err, refl, sym, ap, ◌∙◌, subst, arith, add-one, below_more}
-use Rattle.std.proofs.lemmas.List.{get_or_append_left, get_or_push}
-use Rattle.csv_rows.specs.declared.columns.Column.{Column}
-use Rattle.cut_file.specs.declared.rows.CutRow.{CutRow}
-use Rattle.cut_file.specs.declared.faults.CutFault.TheVariants.{BadField}
-use Rattle.cut_file.specs.CutRows.{Row, row_at}
-use Rattle.cut_file.specs.Faults.{bad_of, bad_field, row_of, row}
-use Rattle.cut_file.specs.NumberedRows.{add_new, run_names, place_names, IsNumbered}
+use Rattle.cut_file.proofs.Common.{◌≡◌, ℕ, ◌+◌, ◌<◌, List, [], ◌∷◌, ◌++◌, length, get_or, Some, None, Ok, Err, refl, sym, ap, ◌∙◌, subst, arith, add-one, below_more, get_or_append_left}
+use Rattle.cut_file.proofs.Common.{get_or_push, Column, CutRow, BadField, Row, row_at, bad_of, bad_field, row_of, row, add_new, run_names, place_names, IsNumbered}
 use Rattle.cut_file.proofs.NumberFacts.{numbered_grows}
 
 pub bad_here : (t : List (List (List ℕ))) (i : ℕ) (column : Column) → row_at t i ≡ Err column → bad_field t i ≡ Some (BadField (i + 2) column)

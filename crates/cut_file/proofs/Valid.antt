@@ -1,32 +1,15 @@
 -- The network of a cut file with no fault is valid.
-use Rattle.std.proofs.Common.{◌≡◌, ℕ, zero, suc, ◌+◌, ◌-◌, ◌<◌, ◌≤◌, ◌==◌, inl, inr, nat_lt, Bool, false, ◌&&◌, List, [], length, slice_get, slice_index_or}
-use Rattle.std.proofs.Common.{Option, Some, None, IfSome, if◌then◌else◌, refl, sym, ap, ◌∙◌, subst, arith, ⊎_elim, ltb-false}
-use Rattle.std.proofs.lemmas.Bool.{cases_Bool}
-use Rattle.std.proofs.lemmas.Bool.{cases_lt, or_parts}
+use Rattle.cut_file.proofs.Common.{◌≡◌, ℕ, zero, suc, ◌+◌, ◌-◌, ◌<◌, ◌≤◌, ◌==◌, inl, inr, nat_lt, Bool, false, ◌&&◌, List, [], length, slice_get, slice_index_or, Option, Some, None, IfSome}
+use Rattle.cut_file.proofs.Common.{if◌then◌else◌, refl, sym, ap, ◌∙◌, subst, arith, ⊎_elim, ltb-false, cases_Bool, cases_lt, or_parts, slice_get_within, NetworkModel, IsValid, IsValidConnection}
+use Rattle.cut_file.proofs.Common.{AreLinks, count, connection, no_connection, first_below, any_below, DelayLists, AreDelays, row_count, none-both, none-each, CutRow, Key, key_at, IsBefore}
+use Rattle.cut_file.proofs.Common.{less_group, CutFault, TooManyRows, Backward, Broken, row, cut_just_precedes, goes_back, is_broken, missing_column, too_many_rows, bad_field, repeated_step}
+use Rattle.cut_file.proofs.Common.{run_fault, first_cut_fault, cut_row, misfit, beside, Cut, IsFaultless, IsConnection, IsNetwork, longest, change_by, change_from, change_seconds_of}
 use Rattle.std.proofs.lemmas.Bool.Decides.{nat_tests}
-use Rattle.std.proofs.lemmas.Option.{slice_get_within}
 use Rattle.plan_model.proofs.Links.{AreLinks-none}
-use Rattle.plan_model.specs.NetworkModel.{NetworkModel}
 use Rattle.plan_model.specs.DelayRows.{IsValidRow}
-use Rattle.plan_model.specs.Network.{IsValid, IsValidConnection, AreLinks, count, connection, no_connection, row_of, run_of, step_of}
+use Rattle.plan_model.specs.Network.{row_of, run_of, step_of}
 use Rattle.plan_model.proofs.Local.{FitsNext, IsLocallyValid, IsValid-from_local}
-use Rattle.csv_rows.specs.First.{first_below, any_below}
-use Rattle.delay_table.specs.DelayLists.{DelayLists}
-use Rattle.delay_table.specs.Slots.{AreDelays}
 use Rattle.delay_table.proofs.ClassBounds.{class_for-inside}
-use Rattle.csv_rows.specs.Tables.{row_count}
-use Rattle.csv_rows.proofs.FirstLemmas.{none-both, none-each}
-use Rattle.cut_file.specs.declared.rows.CutRow.{CutRow}
-use Rattle.csv_rows.specs.declared.keys.Key.{Key}
-use Rattle.csv_rows.specs.Keys.{key_at, IsBefore}
-use Rattle.csv_rows.proofs.KeyLemmas.{less_group}
-use Rattle.cut_file.specs.declared.faults.CutFault.{CutFault}
-use Rattle.cut_file.specs.declared.faults.CutFault.TheVariants.{TooManyRows, Backward, Broken}
-use Rattle.cut_file.specs.Faults.{row, cut_just_precedes, goes_back, is_broken, missing_column, too_many_rows, bad_field, repeated_step, run_fault, first_cut_fault}
-use Rattle.cut_file.specs.CutKeys.{cut_row, misfit, beside}
-use Rattle.cut_file.specs.Read.{Cut}
-use Rattle.cut_file.specs.Sound.{IsFaultless}
-use Rattle.cut_file.specs.CutNetworks.{IsConnection, IsNetwork, longest, change_by, change_from, change_seconds_of}
 use Rattle.cut_file.proofs.Repeats.{one_run, steps_rise}
 use Rattle.cut_file.proofs.Misfits.{misfit_is}
 use Rattle.cut_file.proofs.Distinct.{one_number}

@@ -1,21 +1,11 @@
 -- A journey that is at its target when it begins.
-use Rattle.std.proofs.Common.{◌≡◌, ℕ, ◌<◌, ◌≤◌, [], Option, None, true, refl, sym, subst, arith, ◌==◌}
-use Rattle.std.proofs.lemmas.Bool.Decides.{nat_tests}
+use Rattle.decision_graph.proofs.Common.{◌≡◌, ℕ, ◌<◌, ◌≤◌, [], Option, None, true, refl, sym, subst, arith, ◌==◌, nat_tests, Scoring, ScoreLaws, Leg, Query, NetworkModel, Tree, Done, Ride, Stuck}
+use Rattle.decision_graph.proofs.Common.{IsSafeFor, ExpandedGraph, RideTable, IsBestBy, IsNoneSafe, IsExpandedBy, HasSteadyChoice}
 use Rattle.std.proofs.lemmas.List.Elements.{All-nil}
-use Rattle.value_laws.specs.ScoreLaws.{Scoring, ScoreLaws}
-use Rattle.plan_model.specs.declared.model.Leg.{Leg}
-use Rattle.plan_model.specs.declared.model.Query.{Query}
-use Rattle.plan_model.specs.NetworkModel.{NetworkModel}
-use Rattle.plan_model.specs.Tree.{Tree, Done, Ride, Stuck}
-use Rattle.plan_model.specs.Strategy.{IsSafeFor}
 use Rattle.plan_model.specs.Unfold.{unfolding_of}
 use Rattle.plan_graph.specs.PickedRows.{Precedes, pick_after}
 use Rattle.plan_graph.specs.Ready.{Stands}
-use Rattle.plan_graph.specs.declared.ExpandedGraph.{ExpandedGraph}
-use Rattle.plan_graph.specs.declared.Ride.{Ride as RideTable}
-use Rattle.decision_graph.specs.GraphValues.{IsBestBy}
 use Rattle.plan_model.proofs.Lists.{Contains-nil, AllPairs-nil}
-use Rattle.decision_graph.specs.Expanded.{IsNoneSafe, IsExpandedBy, HasSteadyChoice}
 
 unfolds : (n : NetworkModel) (q : Query) (choice : Leg → ℕ → Option Leg) → q.source.0 ≡ q.target.0 → unfolding_of n q choice None ≡ Done q.start.0
 unfolds n q choice same =

@@ -1,22 +1,12 @@
 -- From what a scan promises to a best strategy.
-use Rattle.std.proofs.Common.{◌≡◌, ◌≢◌, List, Some, sym, ◌∙◌, subst}
-use Rattle.std.proofs.lemmas.Option.{MatchOption-at_some}
+use Rattle.decision_graph.proofs.Common.{◌≡◌, ◌≢◌, List, Some, sym, ◌∙◌, subst, MatchOption-at_some, Leg, Query, NetworkModel, Tree, ExpandedGraph, unfold_expanded, Scoring, FollowsRules}
+use Rattle.decision_graph.proofs.Common.{IsByRules, IsBestBy, IsNoneSafe, IsExpandedBy, HasSteadyChoice}
 use Rattle.plan_model.specs.declared.model.ConnectionId.{ConnectionId}
-use Rattle.plan_model.specs.declared.model.Leg.{Leg}
-use Rattle.plan_model.specs.declared.model.Query.{Query}
-use Rattle.plan_model.specs.NetworkModel.{NetworkModel}
 use Rattle.plan_model.specs.Order.{IsScanOrder}
-use Rattle.plan_model.specs.Tree.{Tree}
-use Rattle.plan_graph.specs.declared.ExpandedGraph.{ExpandedGraph}
-use Rattle.plan_graph.specs.Unfold.{unfold_expanded}
-use Rattle.value_laws.specs.ScoreLaws.{Scoring}
-use Rattle.meat_scan.specs.Rules.{FollowsRules, IsByRules}
 use Rattle.meat_scan.specs.ScanResult.{ScanResult, chosen_by, leg_choice}
 use Rattle.meat_scan.specs.Solves.{Solves, IsStartAnswer}
 use Rattle.meat_scan.proofs.Ruled.{by_rules}
 use Rattle.leg_extract.specs.Extracted.{IsExtracted}
-use Rattle.decision_graph.specs.GraphValues.{IsBestBy}
-use Rattle.decision_graph.specs.Expanded.{IsNoneSafe, IsExpandedBy, HasSteadyChoice}
 
 -- the graph of the choices of a scan, from its start leg on
 abbrev pub IsOfStart : {V : Type 0} → NetworkModel → Query → ScanResult V → ExpandedGraph → Type 0

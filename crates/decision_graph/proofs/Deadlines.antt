@@ -1,17 +1,10 @@
 -- Plans by one deadline and by another.
-use Rattle.std.proofs.Common.{◌≡◌, ℕ, ◌+◌, ◌*◌, ◌^◌, ◌<◌, ◌≤◌, Some, arith, inl, inr, mul-le-mul_right}
+use Rattle.decision_graph.proofs.Common.{◌≡◌, ℕ, ◌+◌, ◌*◌, ◌^◌, ◌<◌, ◌≤◌, Some, arith, inl, inr, mul-le-mul_right, Interval, NetworkModel, Query, IsSafeFor, IsLeastWorst, Tree, worst, height}
+use Rattle.decision_graph.proofs.Common.{PlanGraph, unfold_plan, IsPlanned}
 use Rattle.std.proofs.lemmas.Bool.{cases_lt}
 use Rattle.std.proofs.Math.Nat.{one-le-pow}
-use Rattle.interval_fixed.specs.Interval.{Interval}
-use Rattle.plan_model.specs.NetworkModel.{NetworkModel}
-use Rattle.plan_model.specs.declared.model.Query.{Query}
-use Rattle.plan_model.specs.Strategy.{IsSafeFor, IsLeastWorst}
-use Rattle.plan_model.specs.Tree.{Tree, worst, height}
 use Rattle.plan_model.specs.Expected.{Below, Covers}
-use Rattle.plan_graph.specs.declared.PlanGraph.{PlanGraph}
-use Rattle.plan_graph.specs.Unfold.{unfold_plan}
 use Rattle.plan_model.proofs.Laws.{reaches_from_safe, safe_from_reaches}
-use Rattle.decision_graph.specs.Planned.{IsPlanned}
 
 pub worst_kept : (n : NetworkModel) (q : Query) (graph : PlanGraph) (bounds : Interval) → IsPlanned n q graph bounds
     → IsLeastWorst n q.source.0 q.target.0 q.start.0 (Some q.deadline) → worst (unfold_plan graph n q) ≡ q.deadline.0

@@ -1,16 +1,8 @@
 -- What the chance as a score says of a graph is what its bounds say.
-use Rattle.std.proofs.Common.{◌≡◌, ℕ, ◌*◌, ◌≤◌, arith, true, refl, ◌∙◌, nat_le}
-use Rattle.std.proofs.lemmas.Bool.Decides.{nat_tests}
-use Rattle.interval_fixed.specs.Interval.{Interval}
+use Rattle.decision_graph.proofs.Common.{◌≡◌, ℕ, ◌*◌, ◌≤◌, arith, true, refl, ◌∙◌, nat_le, nat_tests, Interval, Query, NetworkModel, PlanGraph, unfold_plan, IsPlannedBy, IsLeastChance}
 use Rattle.plan_model.specs.Bounds.{certainty}
 use Rattle.plan_model.specs.Late.{late}
-use Rattle.plan_model.specs.declared.model.Query.{Query}
-use Rattle.plan_model.specs.NetworkModel.{NetworkModel}
-use Rattle.plan_graph.specs.declared.PlanGraph.{PlanGraph}
-use Rattle.plan_graph.specs.Unfold.{unfold_plan}
-use Rattle.decision_graph.specs.Planned.{IsPlannedBy}
 use Rattle.late_chance.specs.Chances.{promised, chance_scoring}
-use Rattle.decision_graph.specs.LeastChances.{IsLeastChance}
 
 none_late : (promise start : ℕ) → start ≤ promise → ◌≡◌ {A = Interval} (record { lo = certainty * late promise start; hi = certainty * late promise start }) (record { lo = 0; hi = 0 })
 none_late promise start by = let test : nat_le start promise ≡ true = grind (arith, nat_tests) in rw test refl

@@ -1,3 +1,4 @@
+mod Common
 pub mod BestStrategies
 pub mod AtOnce
 pub mod Tables

@@ -1,15 +1,7 @@
 -- What the mean as a score says of a graph is what its bounds say.
-use Rattle.std.proofs.Common.{ap}
-use Rattle.plan_model.specs.Tree.{Tree}
-use Rattle.plan_model.specs.declared.model.Query.{Query}
-use Rattle.plan_model.specs.NetworkModel.{NetworkModel}
-use Rattle.plan_graph.specs.declared.ExpandedGraph.{ExpandedGraph}
-use Rattle.plan_graph.specs.declared.PlanGraph.{PlanGraph}
+use Rattle.decision_graph.proofs.Common.{ap, Tree, Query, NetworkModel, ExpandedGraph, PlanGraph, IsBestBy, IsBest, IsExpandedBy, IsExpanded, IsPlannedBy, IsPlanned}
 use Rattle.value_laws.specs.declared.MeanSpan.{MeanSpan}
 use Rattle.value_laws.specs.Means.{span_of, mean_scoring}
-use Rattle.decision_graph.specs.GraphValues.{IsBestBy, IsBest}
-use Rattle.decision_graph.specs.Expanded.{IsExpandedBy, IsExpanded}
-use Rattle.decision_graph.specs.Planned.{IsPlannedBy, IsPlanned}
 
 best : (n : NetworkModel) (q : Query) (strategy : Tree) (value : MeanSpan) → IsBestBy mean_scoring n q strategy value → IsBest n q strategy value.0
 best n q strategy value by = record {

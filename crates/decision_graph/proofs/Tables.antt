@@ -1,17 +1,7 @@
 -- From the graph ride by ride to the one with one table for each place.
-use Rattle.std.proofs.Common.{◌≡◌, sym, ◌∙◌, subst}
-use Rattle.plan_model.specs.declared.model.Query.{Query}
-use Rattle.plan_model.specs.NetworkModel.{NetworkModel}
-use Rattle.plan_model.specs.Tree.{Tree}
-use Rattle.plan_graph.specs.declared.ExpandedGraph.{ExpandedGraph}
-use Rattle.plan_graph.specs.declared.PlanGraph.{PlanGraph}
-use Rattle.plan_graph.specs.Unfold.{unfold_expanded, unfold_plan}
+use Rattle.decision_graph.proofs.Common.{◌≡◌, sym, ◌∙◌, subst, Query, NetworkModel, Tree, ExpandedGraph, PlanGraph, unfold_expanded, unfold_plan, Scoring, IsByRules, IsBestBy, IsExpandedBy}
+use Rattle.decision_graph.proofs.Common.{IsPlannedBy}
 use Rattle.plan_graph.specs.Tidy.{IsTidy}
-use Rattle.value_laws.specs.ScoreLaws.{Scoring}
-use Rattle.meat_scan.specs.Rules.{IsByRules}
-use Rattle.decision_graph.specs.GraphValues.{IsBestBy}
-use Rattle.decision_graph.specs.Expanded.{IsExpandedBy}
-use Rattle.decision_graph.specs.Planned.{IsPlannedBy}
 
 -- the plan unfolds to the strategy of the graph
 pub planned : {V : Type 0} (scoring : Scoring V)

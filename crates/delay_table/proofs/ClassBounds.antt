@@ -1,10 +1,6 @@
 -- The class of a connection is one of those of the table.
-use Rattle.std.proofs.Common.{◌≡◌, ℕ, ◌+◌, ◌<◌, ◌==◌, List, length, slice_index, Option, Some, None, IfSome, option_map, refl, arith, unwrap_or}
-use Rattle.std.specs.Option.{option_or}
-use Rattle.csv_rows.proofs.FirstLemmas.{index_by-some}
-use Rattle.delay_table.specs.DelayLists.{DelayLists, class_for, hour_class, hour_of, other_class, route_class, type_class, type_index}
-use Rattle.delay_table.specs.Groups.{Group, group_index}
-use Rattle.delay_table.specs.Slots.{AreDelays}
+use Rattle.delay_table.proofs.Common.{◌≡◌, ℕ, ◌+◌, ◌<◌, ◌==◌, List, length, slice_index, Option, Some, None, IfSome, option_map, refl, arith, unwrap_or, option_or, index_by-some, DelayLists}
+use Rattle.delay_table.proofs.Common.{class_for, hour_class, hour_of, other_class, route_class, type_class, type_index, Group, group_index, AreDelays}
 use Rattle.delay_table.proofs.GroupFacts.{group-here}
 
 module _ (n : ℕ) where

@@ -1,21 +1,12 @@
 -- The number of the groups is reported where there are too many, and by no other fault.
-use Rattle.std.proofs.Common.{◌≡◌, ℕ, ◌<◌, ◌+◌, ◌-◌, nat_lt, nat_le, Bool, true, List, [], ◌∷◌, length, slice_get, slice_index, Option, Some, None, option_map}
-use Rattle.std.proofs.Common.{if◌then◌else◌, arith, is_none}
-use Rattle.std.proofs.lemmas.Bool.{cases_Bool}
-use Rattle.std.proofs.lemmas.Bool.Decides.{nat_tests}
-use Rattle.plan_model.specs.declared.model.Outcome.{Outcome}
+use Rattle.delay_table.proofs.Common.{◌≡◌, ℕ, ◌<◌, ◌+◌, ◌-◌, nat_lt, nat_le, Bool, true, List, [], ◌∷◌, length, slice_get, slice_index, Option, Some, None, option_map, if◌then◌else◌, arith}
+use Rattle.delay_table.proofs.Common.{is_none, cases_Bool, nat_tests, Outcome, Class, Delay, Weight, first_below, index_of, row_count, first-is, option_or, DelayFault, MissingColumn, TooManyRows}
+use Rattle.delay_table.proofs.Common.{NotRising, TooManyClasses, WeightSum, GroupSum, end_of_types, most_groups, most_rows, Group, is_plain, group_in, Line, class_name, class_rows, class_sum}
+use Rattle.delay_table.proofs.Common.{fault_of, group_sum_at, groups_fault, column_fault, line_fault, missing_column, route_types_below, no_default_of, other_sum, group_outcomes, type_sum_at}
+use Rattle.delay_table.proofs.Common.{delay_rises}
 use Rattle.csv_rows.specs.declared.columns.Column.{Column}
-use Rattle.csv_rows.specs.declared.columns.Column.TheVariants.{Class, Delay, Weight}
-use Rattle.csv_rows.specs.First.{first_below}
-use Rattle.csv_rows.specs.Tables.{index_of, row_count}
-use Rattle.csv_rows.proofs.FirstLemmas.{first-is}
-use Rattle.std.specs.Option.{option_or}
-use Rattle.delay_table.specs.declared.faults.DelayFault.{DelayFault}
-use Rattle.delay_table.specs.declared.faults.DelayFault.TheVariants.{MissingColumn, TooManyRows, GroupRows, NotRising, TooManyClasses, WeightSum, GroupSum}
-use Rattle.delay_table.specs.DelayBounds.{end_of_types, most_groups, most_rows}
-use Rattle.delay_table.specs.Groups.{Group, is_plain, group_in}
-use Rattle.delay_table.specs.Delays.{Line, class_name, class_rows, class_sum, fault_of, group_sum_at, groups_fault, column_fault, line_at, line_fault, missing_column, route_types_below}
-use Rattle.delay_table.specs.Delays.{no_default_of, other_sum, group_outcomes, type_sum_at, delay_rises}
+use Rattle.delay_table.specs.declared.faults.DelayFault.TheVariants.{GroupRows}
+use Rattle.delay_table.specs.Delays.{line_at}
 
 -- a fault that has no number of groups, or none
 abbrev pub IsOther : Option DelayFault → Type 0

@@ -1,14 +1,9 @@
 -- Groups that are the same, and where a group is among others.
-use Rattle.std.proofs.Common.{◌≡◌, ℕ, ◌+◌, ◌<◌, Bool, true, false, ◌&&◌, List, [], ◌∷◌, ◌++◌, length, Option, Some, None, if◌then◌else◌, refl, sym, ap, ap₂}
-use Rattle.std.proofs.Common.{◌∙◌, subst, arith, inl, inr, add-one, length-append, bytes_eq, eqb-true, eq-eqb}
-use Rattle.std.proofs.lemmas.Bool.{cases_order, and_from, and_parts, false_from_ne_true}
-use Rattle.std.proofs.lemmas.List.{get_or_append_left, get_or_push}
+use Rattle.delay_table.proofs.Common.{◌≡◌, ℕ, ◌+◌, ◌<◌, Bool, true, false, ◌&&◌, List, [], ◌∷◌, ◌++◌, length, Option, Some, None, if◌then◌else◌, refl, sym, ap, ap₂, ◌∙◌, subst, arith, inl, inr}
+use Rattle.delay_table.proofs.Common.{add-one, length-append, bytes_eq, eqb-true, eq-eqb, cases_order, and_from, and_parts, false_from_ne_true, get_or_append_left, get_or_push, option_or}
+use Rattle.delay_table.proofs.Common.{first_below, absent_by, first-same, first-suc, found_by, index_by-none, index_by-some, Group, same_if, same_number, same_group, of_class, group_in}
+use Rattle.delay_table.proofs.Common.{group_index, AreApart}
 use Rattle.std.proofs.lemmas.Slice.Eq.{bytes_eq-Decides}
-use Rattle.std.specs.Option.{option_or}
-use Rattle.csv_rows.specs.First.{first_below}
-use Rattle.csv_rows.proofs.FirstLemmas.{absent_by, first-same, first-suc, found_by, index_by-none, index_by-some}
-use Rattle.delay_table.specs.Groups.{Group, same_if, same_number, same_group, of_class, group_in, group_index}
-use Rattle.delay_table.specs.Read.{AreApart}
 
 pub same_if-equal : {A : Type 0} (same : A → A → Bool) → ((a b : A) → same a b ≡ true → a ≡ b) → (x y : Option A) → same_if same x y ≡ true → x ≡ y
 same_if-equal same decides None None h = refl

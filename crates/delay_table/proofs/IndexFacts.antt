@@ -1,12 +1,7 @@
 -- The indexes of elements in a list to which one is added.
-use Rattle.std.proofs.Common.{◌≡◌, ℕ, ◌+◌, Bool, true, false, cond, List, [], ◌∷◌, ◌++◌, length, Option, Some, None, is_some, refl, sym, ap, ◌∙◌, subst, arith}
-use Rattle.std.proofs.Common.{⊎_elim, position}
-use Rattle.std.specs.List.{list_any, position_from}
-use Rattle.std.specs.Option.{option_or}
-use Rattle.std.proofs.lemmas.Bool.{cases_Bool}
+use Rattle.delay_table.proofs.Common.{◌≡◌, ℕ, ◌+◌, Bool, true, false, cond, List, [], ◌∷◌, ◌++◌, length, Option, Some, None, is_some, refl, sym, ap, ◌∙◌, subst, arith, ⊎_elim, position, list_any}
+use Rattle.delay_table.proofs.Common.{position_from, option_or, cases_Bool, NumberedGroup, same_numbered}
 use Rattle.std.proofs.lemmas.Iterator.Adapters.{position_from-zero}
-use Rattle.delay_table.specs.declared.numbered.NumberedGroup.{NumberedGroup}
-use Rattle.delay_table.specs.Numbered.{same_numbered}
 use Rattle.delay_table.proofs.NumberedFacts.{numbered-equal, numbered-true}
 
 module _ {X : Type 0} (test : X → Bool) where

@@ -1,3 +1,4 @@
+mod Common
 pub mod LineFacts
 pub mod GroupFacts
 pub mod RouteFacts

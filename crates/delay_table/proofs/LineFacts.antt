@@ -1,18 +1,13 @@
 -- One row of the table.
-use Rattle.std.proofs.Common.{◌≡◌, ℕ, ◌≤◌, Bool, false, ◌==◌, List, length, Option, Some, None, IfSome, ◌<◌, option_map, if◌then◌else◌, refl, sym, ap, ◌∙◌}
-use Rattle.std.proofs.Common.{subst, arith, is_none, codes, bytes_eq}
-use Rattle.std.proofs.lemmas.Bool.{cases_Bool}
-use Rattle.std.proofs.lemmas.Bool.Decides.{nat_tests}
+use Rattle.delay_table.proofs.Common.{◌≡◌, ℕ, ◌≤◌, Bool, false, ◌==◌, List, length, Option, Some, None, IfSome, ◌<◌, option_map, if◌then◌else◌, refl, sym, ap, ◌∙◌, subst, arith, is_none, codes}
+use Rattle.delay_table.proofs.Common.{bytes_eq, cases_Bool, nat_tests, Class, Delay, Weight, RouteId, Hour, field, field_at, seconds_per_day, end_of_types, last_type, whole_weight, Line}
+use Rattle.delay_table.proofs.Common.{delay_class_in, not_zero, route_in, hour_in, given, line_from}
 use Rattle.clock_text.proofs.DigitLemmas.{whole_bound}
 use Rattle.clock_text.specs.Digits.{whole_of}
-use Rattle.csv_rows.specs.declared.columns.Column.TheVariants.{Class, Delay, Weight, RouteId, Hour}
 use Rattle.csv_rows.specs.Names.{name_in}
 use Rattle.csv_rows.proofs.RowLemmas.{mapped-each, name_text, optional-each}
-use Rattle.csv_rows.specs.Tables.{field, field_at}
-use Rattle.plan_model.specs.Bounds.{seconds_per_day}
-use Rattle.delay_table.specs.DelayBounds.{end_of_types, last_type, whole_weight}
 use Rattle.delay_table.specs.declared.lines.DelayLine.{DelayLine}
-use Rattle.delay_table.specs.Delays.{Line, delay_class_in, not_zero, route_in, hour_in, given, line_from, line_at}
+use Rattle.delay_table.specs.Delays.{line_at}
 
 one_on : (b : Bool) (w : ℕ) → (b ≡ false → 1 ≤ w) → IfSome (if b then None else Some w) (λ n. 1 ≤ n)
 one_on b w h = grind (arith, cases_Bool b)

@@ -1,14 +1,10 @@
 -- The groups of lines, as they are numbered.
-use Rattle.std.proofs.Common.{◌≡◌, Bor, ℕ, ◌<◌, ◌&&◌, Bool, true, false, not, cond, List, [], ◌∷◌, ◌++◌, length, map, slice_index_or, Option, Some, None, is_some, option_map, if◌then◌else◌, refl, sym, ap, ◌∙◌, arith, position, bytes_eq}
+use Rattle.delay_table.proofs.Common.{◌≡◌, Bor, ℕ, ◌<◌, ◌&&◌, Bool, true, false, not, cond, List, [], ◌∷◌, ◌++◌, length, map, slice_index_or, Option, Some, None, is_some, option_map}
+use Rattle.delay_table.proofs.Common.{if◌then◌else◌, refl, sym, ap, ◌∙◌, arith, position, bytes_eq, list_any, position_or_len, get_or-map, length-map, map-append, list_any_at, position-Some}
+use Rattle.delay_table.proofs.Common.{Group, same_if, same_number, same_group, of_class, group_in, group_index, with_group, line_group, same_line, same_text}
 use Rattle.std.specs.Prelude.{nat_lt}
-use Rattle.std.specs.List.{list_any, position_or_len}
-use Rattle.std.proofs.lemmas.List.{get_or-map, length-map, map-append}
-use Rattle.std.proofs.lemmas.List.Folds.{list_any_at}
-use Rattle.std.proofs.lemmas.List.Quantifiers.{position-Some}
 use Rattle.indexmap.specs.IndexSet.{insert_key}
 use Rattle.delay_table.specs.declared.groups.LineGroup.{LineGroup}
-use Rattle.delay_table.specs.Groups.{Group, same_if, same_number, same_group, of_class, group_in, group_index, with_group}
-use Rattle.delay_table.specs.Numbered.{line_group, same_line, same_text}
 use Rattle.delay_table.proofs.GroupFacts.{none-index, index-first, same-equal, same-true}
 use Rattle.delay_table.proofs.IndexFacts.{any-position}
 

@@ -1,11 +1,6 @@
 -- The route types that are named: they rise, and a list that delay_rises and has each of them is theirs.
-use Rattle.std.proofs.Common.{◌≡◌, ℕ, zero, suc, ◌<◌, ◌≤◌, List, [], ◌∷◌, ◌++◌, length, refl, sym, ap₂, subst, arith, ⊎_elim, All, AllPairs, Contains, append-nil}
-use Rattle.std.proofs.lemmas.Bool.{cases_lt}
-use Rattle.std.proofs.lemmas.List.Elements.{All-contains, All-nil, All-push, Contains-append_left, Contains-push}
-use Rattle.std.proofs.lemmas.List.Quantifiers.{all_pairs_push}
-use Rattle.plan_model.specs.declared.model.Outcome.{Outcome}
-use Rattle.delay_table.specs.Groups.{Group}
-use Rattle.delay_table.specs.Delays.{if_some, route_types_below, type_rows}
+use Rattle.delay_table.proofs.Common.{◌≡◌, ℕ, zero, suc, ◌<◌, ◌≤◌, List, [], ◌∷◌, ◌++◌, length, refl, sym, ap₂, subst, arith, ⊎_elim, All, AllPairs, Contains, append-nil, cases_lt, All-contains}
+use Rattle.delay_table.proofs.Common.{All-nil, All-push, Contains-append_left, Contains-push, all_pairs_push, Outcome, Group, if_some, route_types_below, type_rows}
 
 -- a list that delay_rises has what is in its tail above its head
 after-head : (x : ℕ) (xs : List ℕ) → AllPairs (λ a b. a < b) (x ∷ xs) → (r : ℕ) → x < r → Contains (x ∷ xs) r → Contains xs r

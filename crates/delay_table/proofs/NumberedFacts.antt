@@ -1,18 +1,9 @@
 -- Groups by the numbers of their routes.
-use Rattle.std.proofs.Common.{◌≡◌, ℕ, suc, ◌<◌, ◌≤◌, ◌&&◌, true, false, List, [], ◌∷◌, ◌++◌, length, map, slice_index_or, Option, Some, None, IfSome}
-use Rattle.std.proofs.Common.{option_map, is_some, refl, sym, ap, ap₂, ◌∙◌, subst, arith, below_more, inl, inr, position, eqb-true, eq-eqb}
-use Rattle.std.specs.List.{list_any}
-use Rattle.std.proofs.lemmas.Bool.{cases_order, and_from, and_parts, false_from_ne_true}
-use Rattle.std.proofs.lemmas.Option.{same_Some}
-use Rattle.std.proofs.lemmas.List.{get_or_default, get_or_append_left, get_or_push, get_or-map, length-map, length_push, map-append}
-use Rattle.std.proofs.lemmas.List.Folds.{Any-from_list_any, list_any_at}
-use Rattle.std.proofs.lemmas.List.Quantifiers.{position-Some}
-use Rattle.plan_model.specs.NameLists.{AreDistinct}
-use Rattle.csv_rows.specs.Tables.{number_in}
-use Rattle.csv_rows.proofs.IdLemmas.{number-here}
-use Rattle.delay_table.specs.declared.numbered.NumberedGroup.{NumberedGroup}
-use Rattle.delay_table.specs.Groups.{Group, same_if, same_number, of_class, group_in, group_index, numbered_route, routes_of, with_route}
-use Rattle.delay_table.specs.Numbered.{no_group, named_group, same_numbered, AreNumbers, IsNumber, IsNumbering}
+use Rattle.delay_table.proofs.Common.{◌≡◌, ℕ, suc, ◌<◌, ◌≤◌, ◌&&◌, true, false, List, [], ◌∷◌, ◌++◌, length, map, slice_index_or, Option, Some, None, IfSome, option_map, is_some, refl, sym, ap}
+use Rattle.delay_table.proofs.Common.{ap₂, ◌∙◌, subst, arith, below_more, inl, inr, position, eqb-true, eq-eqb, list_any, cases_order, and_from, and_parts, false_from_ne_true, same_Some}
+use Rattle.delay_table.proofs.Common.{get_or_default, get_or_append_left, get_or_push, get_or-map, length-map, length_push, map-append, Any-from_list_any, list_any_at, position-Some, AreDistinct}
+use Rattle.delay_table.proofs.Common.{number_in, number-here, NumberedGroup, Group, same_if, same_number, of_class, group_in, group_index, numbered_route, routes_of, with_route, no_group}
+use Rattle.delay_table.proofs.Common.{named_group, same_numbered, AreNumbers, IsNumber, IsNumbering}
 use Rattle.delay_table.proofs.RouteFacts.{routes-distinct, routes-next, with_route-cases, with_route-distinct}
 use Rattle.delay_table.proofs.GroupFacts.{none-index, nowhere, index-first, same_if-equal, same_if-self}
 

@@ -1,12 +1,7 @@
 -- The groups that name a route or an hour, one more at a time.
-use Rattle.std.proofs.lemmas.Bool.{cases_Bool}
-use Rattle.std.proofs.Common.{◌≡◌, ℕ, zero, suc, ◌+◌, ◌<◌, Bool, true, false, List, [], ◌∷◌, ◌++◌, length, map, None, if◌then◌else◌, refl, sym, ap, ◌∙◌, subst, arith, All, append_assoc, append-nil, add-one}
-use Rattle.std.proofs.lemmas.List.{map-append}
-use Rattle.std.proofs.lemmas.List.Elements.{All-nil, All-cons, All-append}
-use Rattle.plan_model.specs.declared.model.Outcome.{Outcome}
-use Rattle.delay_table.specs.Groups.{Group, group_in, is_plain, of_class, group_index}
-use Rattle.delay_table.specs.Delays.{if_other, others}
-use Rattle.delay_table.specs.Read.{AreApart}
+use Rattle.delay_table.proofs.Common.{cases_Bool, ◌≡◌, ℕ, zero, suc, ◌+◌, ◌<◌, Bool, true, false, List, [], ◌∷◌, ◌++◌, length, map, None, if◌then◌else◌, refl, sym, ap, ◌∙◌, subst, arith, All}
+use Rattle.delay_table.proofs.Common.{append_assoc, append-nil, add-one, map-append, All-nil, All-cons, All-append, Outcome, Group, group_in, is_plain, of_class, group_index, if_other, others}
+use Rattle.delay_table.proofs.Common.{AreApart}
 use Rattle.delay_table.proofs.GroupFacts.{apart-ne, none-index}
 
 pub others-zero : (groups : List Group) → others groups 0 ≡ []

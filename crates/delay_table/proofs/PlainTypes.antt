@@ -1,24 +1,12 @@
 -- The route types of the groups of a route type alone, in the order of the groups: sorted, they are those that are named.
-use Rattle.std.proofs.Common.{◌≡◌, ◌≢◌, ℕ, zero, suc, ◌+◌, ◌<◌, ◌≤◌, Bool, ◌&&◌, eqb, List, [], ◌∷◌, ◌++◌, length, get_or, Option, Some, None}
-use Rattle.std.proofs.Common.{if◌then◌else◌, refl, sym, ap, ◌∙◌, subst, arith, ⊎_elim, All, AllPairs, Contains, length-append, append-nil, add-one, nat_cmp}
-use Rattle.std.proofs.Common.{is_none, IsPermutation, IsSorted}
-use Rattle.std.proofs.lemmas.Bool.{cases_Bool}
-use Rattle.std.specs.List.{IsDistinct}
-use Rattle.std.proofs.lemmas.Bool.{cases_lt}
-use Rattle.std.proofs.lemmas.Bool.Decides.{Decides-eqb, nat_tests}
-use Rattle.std.proofs.lemmas.Option.{same_Some}
-use Rattle.std.proofs.lemmas.List.Elements.{All-push, Contains-append_left, Contains-push}
+use Rattle.delay_table.proofs.Common.{◌≡◌, ◌≢◌, ℕ, zero, suc, ◌+◌, ◌<◌, ◌≤◌, Bool, ◌&&◌, eqb, List, [], ◌∷◌, ◌++◌, length, get_or, Option, Some, None, if◌then◌else◌, refl, sym, ap, ◌∙◌, subst}
+use Rattle.delay_table.proofs.Common.{arith, ⊎_elim, All, AllPairs, Contains, length-append, append-nil, add-one, nat_cmp, is_none, IsPermutation, IsSorted, cases_Bool, IsDistinct, cases_lt}
+use Rattle.delay_table.proofs.Common.{Decides-eqb, nat_tests, same_Some, All-push, Contains-append_left, Contains-push, all_pairs_push, All-permutation, Contains-permutation}
+use Rattle.delay_table.proofs.Common.{IsNonDecreasingBy-from_sort, Outcome, GroupRows, end_of_types, Group, group_in, is_plain, listed, of_class, group_index, plain_type, plain_types, if_other}
+use Rattle.delay_table.proofs.Common.{route_types_below, others, type_rows, AreApart, AreGroupsRead, outcomes_at, read_outcomes}
 use Rattle.std.proofs.lemmas.List.Kept.{AllPairs-from_increasing}
-use Rattle.std.proofs.lemmas.List.Quantifiers.{all_pairs_push}
-use Rattle.std.proofs.lemmas.List.Sorted.{All-permutation, Contains-permutation, IsNonDecreasingBy-from_sort}
 use Rattle.std.proofs.lemmas.Map.Keys.{IsDistinct-IsPermutation, IsStrictlyIncreasing-from_distinct}
 use Rattle.std.proofs.lemmas.Map.Made.{IsDistinct-from_AllPairs}
-use Rattle.plan_model.specs.declared.model.Outcome.{Outcome}
-use Rattle.delay_table.specs.declared.reading.GroupRows.{GroupRows}
-use Rattle.delay_table.specs.DelayBounds.{end_of_types}
-use Rattle.delay_table.specs.Groups.{Group, group_in, is_plain, listed, of_class, group_index, plain_type, plain_types}
-use Rattle.delay_table.specs.Delays.{if_other, route_types_below, others, type_rows}
-use Rattle.delay_table.specs.Read.{AreApart, AreGroupsRead, outcomes_at, read_outcomes}
 use Rattle.delay_table.proofs.GroupFacts.{apart-ne, group-here}
 use Rattle.delay_table.proofs.NamedTypes.{AreNamed, HasNamed, are-route_types_below}
 

@@ -1,18 +1,10 @@
 -- The groups of the rows that are read, one row more at a time.
-use Rattle.std.proofs.Common.{◌≡◌, ℕ, ◌+◌, ◌<◌, false, List, [], ◌∷◌, ◌++◌, length, slice_index, Option, Some, None, IfSome, Result, Ok, Err, if◌then◌else◌}
-use Rattle.std.proofs.Common.{refl, sym, ap, ap₂, ◌∙◌, subst, arith, ⊎_elim, add-one, append-nil, below_more, OnOk}
-use Rattle.std.proofs.lemmas.Bool.{cases_eq}
-use Rattle.std.proofs.lemmas.List.{get_or_append_left, get_or_push, get_or-map, length-map, length_push, map-append}
-use Rattle.plan_model.specs.declared.model.Outcome.{Outcome}
-use Rattle.delay_table.specs.declared.reading.GroupRows.{GroupRows}
-use Rattle.delay_table.specs.declared.faults.DelayFault.{DelayFault}
-use Rattle.delay_table.specs.declared.faults.DelayFault.TheVariants.{BadField}
-use Rattle.delay_table.specs.Groups.{Group, same_group, of_class, group_in, group_index}
-use Rattle.delay_table.specs.Delays.{Line, of_group, group_outcomes, line_at, fault_of, fault_after, line_fault, begins, if_begins, firsts, group_of, groups_at}
-use Rattle.delay_table.specs.Read.{no_rows, group_rows_at, outcomes_at, read_outcomes, AreApart, IsPushed, AddsRow, IsReadTo}
-use Rattle.csv_rows.specs.Tables.{field}
-use Rattle.csv_rows.specs.declared.columns.Column.TheVariants.{RouteId}
-use Rattle.delay_table.specs.DelayBounds.{end_of_types}
+use Rattle.delay_table.proofs.Common.{◌≡◌, ℕ, ◌+◌, ◌<◌, false, List, [], ◌∷◌, ◌++◌, length, slice_index, Option, Some, None, IfSome, Result, Ok, Err, if◌then◌else◌, refl, sym, ap, ap₂, ◌∙◌, subst}
+use Rattle.delay_table.proofs.Common.{arith, ⊎_elim, add-one, append-nil, below_more, OnOk, cases_eq, get_or_append_left, get_or_push, get_or-map, length-map, length_push, map-append, Outcome}
+use Rattle.delay_table.proofs.Common.{GroupRows, DelayFault, BadField, Group, same_group, of_class, group_in, group_index, Line, of_group, group_outcomes, fault_of, fault_after, line_fault}
+use Rattle.delay_table.proofs.Common.{begins, if_begins, firsts, group_of, groups_at, no_rows, group_rows_at, outcomes_at, read_outcomes, AreApart, IsPushed, AddsRow, IsReadTo, field, RouteId}
+use Rattle.delay_table.proofs.Common.{end_of_types}
+use Rattle.delay_table.specs.Delays.{line_at}
 use Rattle.delay_table.proofs.LineFacts.{IsFormed, formed_at}
 use Rattle.delay_table.proofs.GroupFacts.{same-true, same-false, group-here, nowhere, apart-ne, index-at, push-none}
 

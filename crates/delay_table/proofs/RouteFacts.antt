@@ -1,17 +1,11 @@
 -- The routes that groups name.
-use Rattle.std.proofs.Common.{◌≡◌, ℕ, zero, suc, ◌+◌, ◌<◌, Bool, true, false, List, [], ◌∷◌, ◌++◌, length, Option, Some, None, IfSome, IfNone, slice_get, is_some, option_map, if◌then◌else◌, Contains, sym, ap, ◌∙◌, subst, arith}
-use Rattle.std.specs.List.{fold}
-use Rattle.std.specs.Option.{option_or}
+use Rattle.delay_table.proofs.Common.{◌≡◌, ℕ, zero, suc, ◌+◌, ◌<◌, Bool, true, false, List, [], ◌∷◌, ◌++◌, length, Option, Some, None, IfSome, IfNone, slice_get, is_some, option_map}
+use Rattle.delay_table.proofs.Common.{if◌then◌else◌, Contains, sym, ap, ◌∙◌, subst, arith, fold, option_or, get_or_default, Contains-push, Contains-append_left, Adds, AreDistinct, number_in, got}
+use Rattle.delay_table.proofs.Common.{number-contained, number-here, DelayLists, class_at, class_for, hour_class, hour_of, route_class, type_class, Group, group_in, group_index, numbered_route}
+use Rattle.delay_table.proofs.Common.{routes_of, with_route}
 use Rattle.std.specs.Prelude.{unwrap_or}
-use Rattle.std.proofs.lemmas.List.{get_or_default}
 use Rattle.std.proofs.lemmas.List.Sums.{fold-append}
-use Rattle.std.proofs.lemmas.List.Elements.{Contains-push, Contains-append_left}
-use Rattle.plan_model.specs.NameLists.{Adds, AreDistinct}
 use Rattle.plan_model.proofs.Texts.{AreDistinct-push}
-use Rattle.csv_rows.specs.Tables.{number_in}
-use Rattle.csv_rows.proofs.IdLemmas.{got, number-contained, number-here}
-use Rattle.delay_table.specs.DelayLists.{DelayLists, class_at, class_for, hour_class, hour_of, route_class, type_class}
-use Rattle.delay_table.specs.Groups.{Group, group_in, group_index, numbered_route, routes_of, with_route}
 use Rattle.delay_table.proofs.GroupFacts.{none-index}
 
 -- whether a route has a index

@@ -1,29 +1,12 @@
 -- The classes of a table without a fault are valid.
-use Rattle.std.proofs.Common.{◌≡◌, ℕ, ◌+◌, ◌<◌, ◌≤◌, ◌==◌, nat_lt, Bool, true, false, List, [], ◌∷◌, ◌++◌, length, map, get_or, sum_by, Option, Some, None}
-use Rattle.std.proofs.Common.{IfSome, option_map, if◌then◌else◌, refl, sym, ap, ◌∙◌, subst, arith, All, length-append, eqb-true, ltb-false}
-use Rattle.std.proofs.lemmas.Bool.{cases_Bool}
-use Rattle.std.proofs.lemmas.List.{get_or_default, length-map}
-use Rattle.std.proofs.lemmas.List.Elements.{All-cons, All-append, All-map}
-use Rattle.std.specs.Option.{option_or}
-use Rattle.plan_model.specs.declared.model.Outcome.{Outcome}
-use Rattle.plan_model.specs.DelayRows.{IsValidRow}
-use Rattle.csv_rows.specs.First.{first_below}
-use Rattle.csv_rows.proofs.FirstLemmas.{none-both, none-each}
-use Rattle.delay_table.specs.declared.faults.DelayFault.{DelayFault}
-use Rattle.delay_table.specs.declared.faults.DelayFault.TheVariants.{TooManyClasses, WeightSum, GroupSum}
-use Rattle.delay_table.specs.declared.reading.GroupRows.{GroupRows}
-use Rattle.delay_table.specs.DelayLists.{DelayLists}
-use Rattle.delay_table.specs.DelayBounds.{end_of_types, most_groups, whole_weight}
-use Rattle.delay_table.specs.Groups.{Group, group_in, is_plain, of_class, plain_types}
-use Rattle.delay_table.specs.Delays.{class_name, class_rows, class_sum, delays_in, group_sum, group_sum_at, groups_fault, groups_of, route_types_below, no_default_of, other_sum}
-use Rattle.delay_table.specs.Delays.{others, too_many_classes, type_rows, type_sum_at}
-use Rattle.delay_table.specs.Read.{AreGroupsRead, line_at, read_outcomes}
-use Rattle.delay_table.specs.Slots.{AreDelays, IsGroupStart}
+use Rattle.delay_table.proofs.Common.{◌≡◌, ℕ, ◌+◌, ◌<◌, ◌≤◌, ◌==◌, nat_lt, Bool, true, false, List, [], ◌∷◌, ◌++◌, length, map, get_or, sum_by, Option, Some, None, IfSome, option_map}
+use Rattle.delay_table.proofs.Common.{if◌then◌else◌, refl, sym, ap, ◌∙◌, subst, arith, All, length-append, eqb-true, ltb-false, cases_Bool, get_or_default, length-map, All-cons, All-append}
+use Rattle.delay_table.proofs.Common.{All-map, option_or, Outcome, IsValidRow, first_below, none-both, none-each, DelayFault, TooManyClasses, WeightSum, GroupSum, GroupRows, DelayLists}
+use Rattle.delay_table.proofs.Common.{end_of_types, most_groups, whole_weight, Group, group_in, is_plain, of_class, plain_types, class_name, class_rows, class_sum, delays_in, group_sum}
+use Rattle.delay_table.proofs.Common.{group_sum_at, groups_fault, groups_of, route_types_below, no_default_of, other_sum, others, too_many_classes, type_rows, type_sum_at, AreGroupsRead, line_at}
+use Rattle.delay_table.proofs.Common.{read_outcomes, AreDelays, IsGroupStart, row_count, first-same, delays_of, first_delay_fault, first_line, firsts, groups_at, line_fault, missing_column}
+use Rattle.delay_table.proofs.Common.{group_outcomes, IsReadTo}
 use mathlib.Core.Path.{fun_ext}
-use Rattle.csv_rows.specs.Tables.{row_count}
-use Rattle.csv_rows.proofs.FirstLemmas.{first-same}
-use Rattle.delay_table.specs.Delays.{delays_of, first_delay_fault, first_line, firsts, groups_at, line_fault, missing_column, group_outcomes}
-use Rattle.delay_table.specs.Read.{IsReadTo}
 use Rattle.delay_table.proofs.ReadFacts.{rows-are, rows-here}
 use Rattle.delay_table.proofs.Starts.{starts}
 use Rattle.delay_table.proofs.Others.{others-from}

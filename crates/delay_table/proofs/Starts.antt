@@ -1,22 +1,9 @@
 -- The outcomes of one group, one more at a time.
-use Rattle.std.proofs.lemmas.Bool.{cases_Bool}
-use Rattle.std.proofs.Common.{◌≡◌, ◌+◌, ◌-◌, ◌<◌, ◌≤◌, Bool, true, false, nat_le, List, [], ◌∷◌, ◌++◌, length, slice_get, slice_index_or, Option, Some, None}
-use Rattle.std.proofs.Common.{if◌then◌else◌, refl, sym, subst, arith, ⊎_elim, length-append, append-nil, zero, suc, ℕ, IfSome, add-one, ap, ◌∙◌}
-use Rattle.std.proofs.lemmas.Bool.{cases_lt, leb-false, ltb-true}
-use Rattle.std.proofs.lemmas.List.Elements.{All-push}
-use Rattle.std.proofs.lemmas.Option.{slice_get-get_or}
-use Rattle.std.proofs.lemmas.List.Quantifiers.{all_pairs_push}
-use Rattle.plan_model.specs.declared.model.Outcome.{Outcome}
-use Rattle.plan_model.specs.Bounds.{seconds_per_day}
-use Rattle.delay_table.specs.declared.faults.DelayFault.{DelayFault}
-use Rattle.delay_table.specs.declared.faults.DelayFault.TheVariants.{NotRising}
-use Rattle.delay_table.specs.Groups.{Group, same_group}
-use Rattle.delay_table.specs.Delays.{Line, fault_after, fault_of, delay_rises, too_many, of_group, group_outcomes, line_at, line_fault}
-use Rattle.delay_table.specs.Slots.{IsGroupStart}
-use Rattle.csv_rows.specs.First.{first_below}
-use Rattle.csv_rows.specs.Tables.{field}
-use Rattle.csv_rows.specs.declared.columns.Column.TheVariants.{RouteId}
-use Rattle.csv_rows.proofs.FirstLemmas.{none-each}
+use Rattle.delay_table.proofs.Common.{cases_Bool, ◌≡◌, ◌+◌, ◌-◌, ◌<◌, ◌≤◌, Bool, true, false, nat_le, List, [], ◌∷◌, ◌++◌, length, slice_get, slice_index_or, Option, Some, None, if◌then◌else◌}
+use Rattle.delay_table.proofs.Common.{refl, sym, subst, arith, ⊎_elim, length-append, append-nil, zero, suc, ℕ, IfSome, add-one, ap, ◌∙◌, cases_lt, leb-false, ltb-true, All-push, slice_get-get_or}
+use Rattle.delay_table.proofs.Common.{all_pairs_push, Outcome, seconds_per_day, DelayFault, NotRising, Group, same_group, Line, fault_after, fault_of, delay_rises, too_many, of_group}
+use Rattle.delay_table.proofs.Common.{group_outcomes, line_fault, IsGroupStart, first_below, field, RouteId, none-each}
+use Rattle.delay_table.specs.Delays.{line_at}
 use Rattle.delay_table.proofs.GroupFacts.{same-equal}
 use Rattle.delay_table.proofs.LineFacts.{IsFormed, formed_at}
 use Rattle.delay_table.proofs.ReadFacts.{outcomes-next}

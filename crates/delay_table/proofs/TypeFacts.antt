@@ -1,15 +1,7 @@
 -- The index of a route type among those that are named, and the greatest delay of a class.
-use Rattle.std.proofs.Common.{◌≡◌, slice_get, ℕ, zero, suc, ◌+◌, ◌-◌, ◌<◌, ◌≤◌, ◌==◌, List, length, get_or, slice_index, slice_index_or, Option, Some, None}
-use Rattle.std.proofs.Common.{option_map, sym, ap, ◌∙◌, subst, arith, ⊎_elim, eq-or-lt_of_le, Contains, All, eq-eqb, ne_eqb, unwrap_or}
-use Rattle.std.proofs.lemmas.Bool.{cases_lt}
-use Rattle.std.proofs.lemmas.List.{get_or_default}
-use Rattle.std.proofs.lemmas.Option.{slice_get_within, get_or_from_slice_get}
-use Rattle.plan_model.specs.declared.model.Outcome.{Outcome}
-use Rattle.plan_model.specs.DelayRows.{IsValidRow}
-use Rattle.csv_rows.proofs.FirstLemmas.{absent_by, found_by}
-use Rattle.delay_table.specs.DelayLists.{DelayLists, class_at, hour_class, route_class, type_class, type_index}
-use Rattle.std.specs.Option.{option_or}
-use Rattle.delay_table.specs.Slots.{AreDelays, IsClassOf}
+use Rattle.delay_table.proofs.Common.{◌≡◌, slice_get, ℕ, zero, suc, ◌+◌, ◌-◌, ◌<◌, ◌≤◌, ◌==◌, List, length, get_or, slice_index, slice_index_or, Option, Some, None, option_map, sym, ap, ◌∙◌}
+use Rattle.delay_table.proofs.Common.{subst, arith, ⊎_elim, eq-or-lt_of_le, Contains, All, eq-eqb, ne_eqb, unwrap_or, cases_lt, get_or_default, slice_get_within, get_or_from_slice_get, Outcome}
+use Rattle.delay_table.proofs.Common.{IsValidRow, absent_by, found_by, DelayLists, class_at, hour_class, route_class, type_class, type_index, option_or, AreDelays, IsClassOf}
 
 -- not found among types that rise
 pub absent_type : (types : List ℕ) (r i : ℕ) → ((k : ℕ) → k < i → get_or types k 0 < r) → ((k : ℕ) → i ≤ k → k < length types → r < get_or types k 0) → Contains types r → ⊥

@@ -1,16 +1,10 @@
 -- The parts of a network with a place more.
-use Rattle.std.proofs.Common.{◌≡◌, ℕ, ◌+◌, ◌<◌, List, [], ◌∷◌, ◌++◌, map, length, false, slice_index_or, length-append, refl, ap, sym, ◌∙◌, arith, ◌==◌}
-use Rattle.std.specs.List.{range_with_len}
-use Rattle.std.proofs.lemmas.Bool.Decides.{nat_tests}
+use Rattle.departure_table.proofs.Common.{◌≡◌, ℕ, ◌+◌, ◌<◌, List, [], ◌∷◌, ◌++◌, map, length, false, slice_index_or, length-append, refl, ap, sym, ◌∙◌, arith, ◌==◌, range_with_len, nat_tests}
+use Rattle.departure_table.proofs.Common.{Connection, NetworkModel, plain_network, IsValid, AreLinksInto, links_into, links_from_added, extended, is_valid}
 use Rattle.std.proofs.lemmas.List.{get_or_past}
 use Rattle.std.proofs.lemmas.List.FromFn.{map-range_with_len_more, length-map-range_with_len}
-use Rattle.plan_model.specs.declared.model.Connection.{Connection}
 use Rattle.plan_model.specs.declared.model.Outcome.{Outcome}
 use Rattle.plan_model.specs.declared.model.Way.{Way}
-use Rattle.plan_model.specs.NetworkModel.{NetworkModel, plain_network}
-use Rattle.plan_model.specs.Network.{IsValid, AreLinksInto, links_into}
-use Rattle.plan_model.specs.View.{links_from_added, extended}
-use Rattle.plan_model.proofs.Extended.{is_valid}
 use Rattle.plan_model.proofs.Links.{IsValid-relinked, AreLinks-none}
 
 -- the links into one place more

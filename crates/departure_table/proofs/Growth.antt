@@ -1,14 +1,8 @@
 -- A table that grows from look to look.
-use Rattle.std.proofs.Common.{◌≡◌, ℕ, zero, suc, ◌+◌, ◌<◌, ◌≤◌, arith, Some, None, List, [], ◌∷◌, ◌++◌, true, false, refl, ⊎_elim, All, AllPairs}
-use Rattle.std.proofs.Common.{MatchOption, nat_le}
-use Rattle.std.proofs.lemmas.Bool.{cases_lt}
-use Rattle.std.proofs.lemmas.Bool.Decides.{nat_tests}
+use Rattle.departure_table.proofs.Common.{◌≡◌, ℕ, zero, suc, ◌+◌, ◌<◌, ◌≤◌, arith, Some, None, List, [], ◌∷◌, ◌++◌, true, false, refl, ⊎_elim, All, AllPairs, MatchOption, nat_le, cases_lt}
+use Rattle.departure_table.proofs.Common.{nat_tests, NetworkModel, Tree, DepartureRow, IsNoneSafeFrom, IsBestFrom, IsDepartureRow, IsTable, first_row_by}
 use Rattle.std.proofs.lemmas.List.Quantifiers.{all_pairs_push}
 use Rattle.std.proofs.lemmas.List.Elements.{All-nil, All-push}
-use Rattle.plan_model.specs.NetworkModel.{NetworkModel}
-use Rattle.plan_model.specs.Tree.{Tree}
-use Rattle.departure_table.specs.declared.DepartureRow.{DepartureRow}
-use Rattle.departure_table.specs.Departures.{IsNoneSafeFrom, IsBestFrom, IsDepartureRow, IsTable, first_row_by}
 
 row_past : (moment : ℕ) (rows : List DepartureRow) → All (λ r. r.by.0 < moment) rows → first_row_by moment rows ≡ None
 row_past moment [] few = refl

@@ -1,15 +1,8 @@
 -- The greatest moment, the rows of a table, and the least worst arrival.
-use Rattle.std.proofs.Common.{◌≡◌, ℕ, zero, suc, ◌<◌, ◌≤◌, ◌⊎◌, List, [], ◌∷◌, length, Option, Some, None, true, false, All, IsSome, MatchOption, arith, inl, inr, refl, subst, nat_le, slice_index_or}
-use Rattle.std.proofs.lemmas.Bool.{cases_lt, cases_order}
-use Rattle.std.proofs.lemmas.Bool.Decides.{nat_tests}
-use Rattle.plan_model.specs.declared.model.Query.{Query}
-use Rattle.plan_model.specs.declared.model.Moment.{Moment}
-use Rattle.plan_model.specs.NetworkModel.{NetworkModel}
-use Rattle.plan_model.specs.Tree.{Tree, Done, Ride, Stuck}
-use Rattle.plan_model.specs.Strategy.{IsLeastWorst}
+use Rattle.departure_table.proofs.Common.{◌≡◌, ℕ, zero, suc, ◌<◌, ◌≤◌, ◌⊎◌, List, [], ◌∷◌, length, Option, Some, None, true, false, All, IsSome, MatchOption, arith, inl, inr, refl, subst, nat_le}
+use Rattle.departure_table.proofs.Common.{slice_index_or, cases_lt, cases_order, nat_tests, Query, Moment, NetworkModel, Tree, Done, Ride, Stuck, IsLeastWorst, DepartureRow, SafeFrom}
+use Rattle.departure_table.proofs.Common.{IsNoneSafeFrom, IsBestFrom, IsDepartureRow, IsTable, IsGreatestMoment, first_row_by}
 use Rattle.plan_model.proofs.Laws.{reaches_from_safe, safe_exists}
-use Rattle.departure_table.specs.declared.DepartureRow.{DepartureRow}
-use Rattle.departure_table.specs.Departures.{SafeFrom, IsNoneSafeFrom, IsBestFrom, IsDepartureRow, IsTable, IsGreatestMoment, first_row_by}
 use Rattle.departure_table.specs.Latest.{IsOfLastRow, AgreesWithLeastWorst}
 
 -- a row by a moment, that is the first

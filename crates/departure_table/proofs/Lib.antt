@@ -1,3 +1,4 @@
+mod Common
 pub mod Looks
 pub mod Growth
 pub mod Sources

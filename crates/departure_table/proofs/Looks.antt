@@ -1,20 +1,11 @@
 -- What a choice at a moment says of all from then on.
-use Rattle.std.proofs.Common.{◌≡◌, ℕ, ◌-◌, ◌<◌, ◌≤◌, arith, Some, false, refl, sym, ap, ◌∙◌, subst, ◌==◌, option_map}
-use Rattle.std.proofs.lemmas.Bool.Decides.{nat_tests}
-use Rattle.plan_model.specs.declared.model.Leg.{Leg}
-use Rattle.plan_model.specs.declared.model.Query.{Query}
-use Rattle.plan_model.specs.NetworkModel.{NetworkModel}
-use Rattle.plan_model.specs.Network.{IsValid, count, dep_of, arr_of}
-use Rattle.plan_model.specs.Tree.{Tree, Done, Ride, Stuck, Kids}
-use Rattle.plan_model.specs.Strategy.{IsLeg, IsBoardable}
+use Rattle.departure_table.proofs.Common.{◌≡◌, ℕ, ◌-◌, ◌<◌, ◌≤◌, arith, Some, false, refl, sym, ap, ◌∙◌, subst, ◌==◌, option_map, nat_tests, Leg, Query, NetworkModel, IsValid, count, dep_of}
+use Rattle.departure_table.proofs.Common.{arr_of, Tree, Done, Ride, Stuck, Kids, IsLeg, IsBoardable, MeanSpan, DepartureRow, IsASecondAway, SafeAfter, IsNoneSafeFrom, BeginsWith, IsBestFrom}
+use Rattle.departure_table.proofs.Common.{IsDepartureRow, end_of_arrivals}
 use Rattle.plan_model.specs.Unfold.{by_place, unfold_after, kids_after, outcomes_of}
-use Rattle.value_laws.specs.declared.MeanSpan.{MeanSpan}
 use Rattle.value_laws.specs.Means.{mean_scoring}
 use Rattle.meat_scan.specs.ScanResult.{ScanResult, choice_of, leg_choice, chosen_at}
 use Rattle.meat_scan.specs.Solves.{Solves, SolvesEach, IsSafeAt}
-use Rattle.departure_table.specs.declared.DepartureRow.{DepartureRow}
-use Rattle.departure_table.specs.Departures.{IsASecondAway, SafeAfter, IsNoneSafeFrom, BeginsWith, IsBestFrom, IsDepartureRow}
-use Rattle.plan_model.specs.Bounds.{end_of_arrivals}
 
 module _ (n : NetworkModel) (q : Query) (found : ScanResult MeanSpan) (solves : Solves mean_scoring found n q) (second : IsASecondAway n q.source.0) where
   abbrev here : ℕ

@@ -1,17 +1,9 @@
 -- What is said of an extended network is said of the network itself.
-use Rattle.std.proofs.Common.{◌≡◌, ℕ, zero, ◌+◌, ◌-◌, ◌<◌, ◌≤◌, arith, Option, Some, None, List, [], ◌∷◌, length, true, refl, sym, ◌∙◌, subst, MatchOption}
-use Rattle.std.proofs.Common.{nat_le, ◌↔◌}
-use Rattle.std.proofs.lemmas.Bool.Decides.{nat_tests}
-use Rattle.plan_model.specs.declared.model.Query.{Query}
-use Rattle.plan_model.specs.declared.model.Moment.{Moment}
-use Rattle.plan_model.specs.NetworkModel.{NetworkModel}
-use Rattle.plan_model.specs.View.{IsExtension}
-use Rattle.plan_model.specs.Network.{IsValid, count, from_of}
-use Rattle.plan_model.specs.Tree.{Tree}
+use Rattle.departure_table.proofs.Common.{◌≡◌, ℕ, zero, ◌+◌, ◌-◌, ◌<◌, ◌≤◌, arith, Option, Some, None, List, [], ◌∷◌, length, true, refl, sym, ◌∙◌, subst, MatchOption, nat_le, ◌↔◌, nat_tests}
+use Rattle.departure_table.proofs.Common.{Query, Moment, NetworkModel, IsExtension, IsValid, count, from_of, Tree, DepartureRow, IsASecondAway, SafeAfter, SafeFrom, IsNoneSafeFrom, IsBestFrom}
+use Rattle.departure_table.proofs.Common.{IsDepartureRow, IsTable, IsGreatestMoment, IsExtendedFor, SaysOfSource, first_row_by}
 use Rattle.plan_model.proofs.Views.{seen, leg_there}
 use Rattle.plan_model.proofs.Extensions.{added_there, added_back}
-use Rattle.departure_table.specs.declared.DepartureRow.{DepartureRow}
-use Rattle.departure_table.specs.Departures.{IsASecondAway, SafeAfter, SafeFrom, IsNoneSafeFrom, IsBestFrom, IsDepartureRow, IsTable, IsGreatestMoment, IsExtendedFor, SaysOfSource, first_row_by}
 
 -- a table has no row exactly where nothing is safe from the first moment on
 module _ (m : NetworkModel) (Safe : ℕ → Tree → Type 0) (first last : ℕ) (order : first ≤ last) where

@@ -1,3 +1,4 @@
+mod Common
 pub mod StopLemmas
 pub mod RouteLemmas
 pub mod TripLemmas

@@ -1,15 +1,7 @@
 -- The rows of routes.
-use Rattle.std.proofs.Common.{◌≡◌, ℕ, ◌<◌, List, Some, None, sym, ap}
-use Rattle.csv_rows.specs.declared.columns.Column.TheVariants.{RouteId}
-use Rattle.csv_rows.specs.First.{first_below}
-use Rattle.csv_rows.specs.Names.{name_in}
-use Rattle.csv_rows.specs.Tables.{row_count, field}
-use Rattle.csv_rows.proofs.FirstLemmas.{none-each, first-zero, first-next}
-use Rattle.csv_rows.proofs.ListLemmas.{list_below-zero, list_below-next}
+use Rattle.feed_lists.proofs.Common.{◌≡◌, ℕ, ◌<◌, List, Some, None, sym, ap, RouteId, first_below, name_in, row_count, field, none-each, first-zero, first-next, list_below-zero, list_below-next}
+use Rattle.feed_lists.proofs.Common.{route_columns, route_in, route_at, bad_route, name_is, result_err-require}
 use Rattle.feed_lists.specs.declared.routes.RouteColumns.{RouteColumns}
-use Rattle.feed_lists.specs.Routes.{route_columns, route_in, route_at, bad_route}
-use Rattle.csv_rows.proofs.RowLemmas.{name_is}
-use Rattle.plan_model.proofs.Results.{result_err-require}
 
 -- the row by the indexes of the columns
 pub route_is : (t : List (List (List ℕ))) (c : RouteColumns) (i : ℕ) → c ≡ route_columns t → route_at t i ≡ route_in t c i

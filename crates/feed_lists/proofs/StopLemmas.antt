@@ -1,17 +1,8 @@
 -- The rows of stops.
-use Rattle.std.proofs.Common.{arith, ◌≡◌, ℕ, ◌<◌, List, Some, None, sym, ap, ap₂, ◌∙◌, map, length, slice_index_or}
-use Rattle.std.proofs.lemmas.List.{length-map, get_or-map}
-use Rattle.csv_rows.specs.Lists.{list_below}
-use Rattle.csv_rows.proofs.ListLemmas.{length-list_below, get-list_below}
-use Rattle.csv_rows.specs.declared.columns.Column.TheVariants.{StopId}
-use Rattle.csv_rows.specs.First.{first_below}
-use Rattle.csv_rows.specs.Names.{name_in}
-use Rattle.csv_rows.specs.Tables.{row_count, field}
-use Rattle.csv_rows.proofs.FirstLemmas.{none-each}
+use Rattle.feed_lists.proofs.Common.{arith, ◌≡◌, ℕ, ◌<◌, List, Some, None, sym, ap, ap₂, ◌∙◌, map, length, slice_index_or, length-map, get_or-map, list_below, length-list_below, get-list_below}
+use Rattle.feed_lists.proofs.Common.{StopId, first_below, name_in, row_count, field, none-each, stop_columns, stop_in, stop_at, bad_stop, parent_of, stop_ids, unknown_in, unknown_parent}
+use Rattle.feed_lists.proofs.Common.{place_from, name_is, result_err-require}
 use Rattle.feed_lists.specs.declared.stops.StopColumns.{StopColumns}
-use Rattle.feed_lists.specs.Stops.{stop_columns, stop_in, stop_at, bad_stop, parent_of, stop_ids, unknown_in, unknown_parent, place_from}
-use Rattle.csv_rows.proofs.RowLemmas.{name_is}
-use Rattle.plan_model.proofs.Results.{result_err-require}
 
 -- the row by the indexes of the columns
 pub stop_is : (t : List (List (List ℕ))) (c : StopColumns) (i : ℕ) → c ≡ stop_columns t → stop_at t i ≡ stop_in t c i

@@ -1,15 +1,7 @@
 -- The rows of trips.
-use Rattle.std.proofs.Common.{arith, ◌≡◌, ℕ, ◌<◌, ◌+◌, List, Some, None, sym, ap}
-use Rattle.std.specs.Result.{result_err}
-use Rattle.plan_model.proofs.Results.{result_err-require}
-use Rattle.csv_rows.specs.declared.columns.Column.TheVariants.{RouteId, ServiceId, TripId}
-use Rattle.csv_rows.specs.First.{first_below}
-use Rattle.csv_rows.specs.Names.{name_in}
-use Rattle.csv_rows.specs.Tables.{row_count, field}
-use Rattle.csv_rows.proofs.FirstLemmas.{none-each}
+use Rattle.feed_lists.proofs.Common.{arith, ◌≡◌, ℕ, ◌<◌, ◌+◌, List, Some, None, sym, ap, result_err, result_err-require, RouteId, ServiceId, TripId, first_below, name_in, row_count, field}
+use Rattle.feed_lists.proofs.Common.{none-each, trip_from, trip_columns, trip_in, trip_at, bad_trip, name_is}
 use Rattle.feed_lists.specs.declared.trips.TripColumns.{TripColumns}
-use Rattle.feed_lists.specs.Trips.{trip_from, trip_columns, trip_in, trip_at, bad_trip}
-use Rattle.csv_rows.proofs.RowLemmas.{name_is}
 
 -- the row by the indexes of the columns
 pub trip_is : (routes : List (List ℕ)) (t : List (List (List ℕ))) (c : TripColumns) (i : ℕ) → c ≡ trip_columns t → trip_at routes t i ≡ trip_in routes t c i

@@ -1,7 +1,6 @@
 -- A number of two digits.
-use Rattle.std.proofs.Common.{◌≡◌, ℕ, ◌+◌, ◌/◌, ◌%◌, ◌<◌, List, [], ◌∷◌, ◌++◌, arith, ap, ◌∙◌, decimal}
+use Rattle.feed_maker.proofs.Common.{◌≡◌, ℕ, ◌+◌, ◌/◌, ◌%◌, ◌<◌, List, [], ◌∷◌, ◌++◌, arith, ap, ◌∙◌, decimal, two_digits}
 use Rattle.std.proofs.lemmas.Fmt.{decimal_digit}
-use Rattle.feed_maker.specs.Names.{two_digits}
 
 -- the tens, and the ones
 pub two_digits-bytes : (n : ℕ) → n < 100 → two_digits n ≡ (48 + n / 10) ∷ (48 + n % 10) ∷ []

@@ -1,10 +1,6 @@
 -- A file put in front of the others.
-use Rattle.std.proofs.Common.{◌≡◌, ℕ, List, [], ◌∷◌, ◌++◌, Bool, true, false, refl, ap, sym, ◌∙◌, codes, Option, None, Some, if◌then◌else◌, bytes_eq}
-use Rattle.std.proofs.lemmas.Slice.Eq.{bytes_eq-Decides}
-use Rattle.file_ports.specs.Ports.{FileMap, file_at}
-use Rattle.file_ports.specs.Steady.{PutsFile}
-use Rattle.feed_maker.specs.MadeTables.{stops_text, routes_text, trips_text, stop_times_text, calendar_text, delays_text}
-use Rattle.feed_maker.specs.Made.{made, other_files, SameFolder}
+use Rattle.feed_maker.proofs.Common.{◌≡◌, ℕ, List, [], ◌∷◌, ◌++◌, Bool, true, false, refl, ap, sym, ◌∙◌, codes, Option, None, Some, if◌then◌else◌, bytes_eq, bytes_eq-Decides, FileMap, file_at}
+use Rattle.feed_maker.proofs.Common.{PutsFile, stops_text, routes_text, trips_text, stop_times_text, calendar_text, delays_text, made, other_files, SameFolder}
 
 pub folder_none : (folder : FileMap) → folder ≡ [] → SameFolder [] folder
 folder_none folder none = λ path. ap (λ (files : FileMap). file_at files path) none

@@ -1,8 +1,7 @@
 -- One more piece of joined pieces.
-use Rattle.std.proofs.Common.{◌≡◌, ℕ, ◌+◌, zero, suc, List, [], ◌∷◌, ◌++◌, ap, refl, ◌∙◌, arith, append_assoc, append-nil, add-one, zero-add, flat_map}
+use Rattle.feed_maker.proofs.Common.{◌≡◌, ℕ, ◌+◌, zero, suc, List, [], ◌∷◌, ◌++◌, ap, refl, ◌∙◌, arith, append_assoc, append-nil, add-one, zero-add, flat_map, joined}
 use Rattle.std.proofs.lemmas.List.Concat.{flat_map-append}
 use Rattle.std.specs.List.{range_with_len}
-use Rattle.feed_maker.specs.MadeTables.{joined}
 
 range_with_len-suc : (a n : ℕ) → range_with_len a (suc n) ≡ range_with_len a n ++ (a + n) ∷ []
 range_with_len-suc a zero = let e : a ≡ a + 0 = omega arith in ap (λ k. k ∷ []) e

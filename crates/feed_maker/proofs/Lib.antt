@@ -1,3 +1,4 @@
+mod Common
 pub mod JoinedLemmas
 pub mod DigitLemmas
 pub mod FolderLemmas

@@ -1,8 +1,5 @@
 -- The causes of calls that read several things, over steps.
-use Rattle.std.proofs.Common.{◌≡◌, ℕ, ◌<◌, ◌≤◌, List, Option, Some, None, IsSome, arith, ⊎_elim, subst, sym, refl, ◌∙◌}
-use Rattle.std.proofs.lemmas.Bool.{cases_lt}
-use Rattle.file_ports.specs.Ports.{FileMap, FilesState}
-use Rattle.file_ports.specs.Counts.{RoseAt, HasCausesOf}
+use Rattle.file_ports.proofs.Common.{◌≡◌, ℕ, ◌<◌, ◌≤◌, List, Option, Some, None, IsSome, arith, ⊎_elim, subst, sym, refl, ◌∙◌, cases_lt, FileMap, FilesState, RoseAt, HasCausesOf}
 
 rose_at : (path : Option (List ℕ)) (before middle now : List ℕ → ℕ) → ((p : List ℕ) → before p ≤ middle p) → RoseAt path middle now → RoseAt path before now
 rose_at None before middle now later rose = rose

@@ -1,16 +1,10 @@
 -- The first entry with a path, by its index.
-use Rattle.std.proofs.Common.{◌≡◌, ◌<◌, ◌≤◌, ℕ, ◌+◌, List, [], ◌∷◌, ◌++◌, Bool, true, false, get_or, set, length, refl, ap, sym, ◌∙◌, subst, arith}
-use Rattle.std.proofs.Common.{length-append, Option, None, Some, if◌then◌else◌, bytes_eq, string_bytes, position, get_or-set_same, get_or-set_other, length-set}
-use Rattle.std.proofs.lemmas.Bool.{cond_both}
-use Rattle.std.proofs.lemmas.Grind.{common_steps}
-use Rattle.std.proofs.lemmas.List.{get_or_append_left, get_or_push}
-use Rattle.std.proofs.lemmas.List.Quantifiers.{position-Some}
+use Rattle.file_ports.proofs.Common.{◌≡◌, ◌<◌, ◌≤◌, ℕ, ◌+◌, List, [], ◌∷◌, ◌++◌, Bool, true, false, get_or, set, length, refl, ap, sym, ◌∙◌, subst, arith, length-append, Option, None, Some}
+use Rattle.file_ports.proofs.Common.{if◌then◌else◌, bytes_eq, string_bytes, position, get_or-set_same, get_or-set_other, length-set, cond_both, common_steps, get_or_append_left, get_or_push}
+use Rattle.file_ports.proofs.Common.{position-Some, bytes_eq-Decides, Named, value_at}
 use Rattle.std.proofs.lemmas.List.Recursion.{found_at, found_nowhere, found_set_other, found_push_other}
 use Rattle.std.proofs.lemmas.List.Sums.{fails_before_first}
-use Rattle.std.proofs.lemmas.Slice.Eq.{bytes_eq-Decides}
 use Rattle.std.specs.List.{position_or_len}
-use Rattle.file_ports.specs.declared.named.Named.{Named}
-use Rattle.file_ports.specs.Named.{value_at}
 
 -- the test of a path
 abbrev pub at_path : {T : Type 0} → List ℕ → Named T → Bool

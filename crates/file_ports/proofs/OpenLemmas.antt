@@ -1,15 +1,8 @@
 -- The open file, by its index.
-use Rattle.std.proofs.Common.{◌≡◌, ◌⊎◌, inl, inr, subst, ◌<◌, ℕ, ◌+◌, ◌-◌, ◌≤◌, min, List, [], ◌∷◌, ◌++◌, Bool, true, false, length, refl, ap, sym, ◌∙◌, map, drop, take, get_or, arith}
+use Rattle.file_ports.proofs.Common.{◌≡◌, ◌⊎◌, inl, inr, subst, ◌<◌, ℕ, ◌+◌, ◌-◌, ◌≤◌, min, List, [], ◌∷◌, ◌++◌, Bool, true, false, length, refl, ap, sym, ◌∙◌, map, drop, take, get_or, arith}
+use Rattle.file_ports.proofs.Common.{position-Some, take_rest, drop_min, drop-drop, take-append-drop, bytes_eq-Decides, common_steps, Consumes, IsAtEnd, Named, value_at, FileMap, file_at}
 use Rattle.std.specs.Prelude.{Option, None, Some, IsSome, IfSome, is_some, if◌then◌else◌, bytes_eq, string_bytes, position, option_map, option_and_then, slice_get}
-use Rattle.std.proofs.lemmas.List.Quantifiers.{position-Some}
 use Rattle.std.proofs.lemmas.Option.{slice_get-get_or, slice_get_cases}
-use Rattle.std.proofs.lemmas.List.{take_rest, drop_min, drop-drop, take-append-drop}
-use Rattle.std.proofs.lemmas.Slice.Eq.{bytes_eq-Decides}
-use Rattle.std.proofs.lemmas.Grind.{common_steps}
-use Rattle.std.specs.Io.KnownBytes.{Consumes, IsAtEnd}
-use Rattle.file_ports.specs.declared.named.Named.{Named}
-use Rattle.file_ports.specs.Named.{value_at}
-use Rattle.file_ports.specs.Ports.{FileMap, file_at}
 use Rattle.file_ports.proofs.NamedLemmas.{at_path, position_gives, position_gives_none}
 
 -- the entries as files

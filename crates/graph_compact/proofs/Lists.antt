@@ -1,27 +1,15 @@
 -- Rows that are gathered.
-use Rattle.std.proofs.Common.{◌≡◌, ◌≢◌, ℕ, ◌+◌, ◌≤◌, ◌<◌, List, [], ◌∷◌, length, drop, All, AllPairs, Contains, arith, sym, subst, refl, inl, inr, ◌∙◌, ap}
-use Rattle.std.proofs.Common.{slice_index_or, slice_set, nat_cmp, BTreeSet, ne_eqb, eq-eqb, get_or-set_same, get_or-set_other}
+use Rattle.graph_compact.proofs.Common.{◌≡◌, ◌≢◌, ℕ, ◌+◌, ◌≤◌, ◌<◌, List, [], ◌∷◌, length, drop, All, AllPairs, Contains, arith, sym, subst, refl, inl, inr, ◌∙◌, ap, slice_index_or, slice_set}
+use Rattle.graph_compact.proofs.Common.{nat_cmp, BTreeSet, ne_eqb, eq-eqb, get_or-set_same, get_or-set_other, cases_lt, cases_eq, at_drop_more, length-map, map-set, All-nil, All-head, All-tail}
+use Rattle.graph_compact.proofs.Common.{CmpEqualImpliesEq, exact_unsigned, exact_pairs, Leg, NetworkModel, end_of, GraphRow, Ride, PlaceTable, IsFirstInTime, leg_cmp, row_by, Contains-nil}
+use Rattle.graph_compact.proofs.Common.{Contains-head, Contains-tail, Contains-cons_cases, All-from_contains, AllPairs-head, AllPairs-tail, leg_cmp-total, leg_cmp-exact, row_cmp, put_rows}
+use Rattle.graph_compact.proofs.Common.{with_ride, gathered_rows, lists_of, rows_in, with_table}
 use Rattle.std.specs.Cmp.{IsTotalOrder, on_total, then_total}
 use Rattle.std.specs.BTreeSet.{insert_key}
 use Rattle.std.specs.List.Sorted.{IsStrictlySortedBy}
-use Rattle.std.proofs.lemmas.Bool.{cases_lt, cases_eq}
 use Rattle.std.proofs.lemmas.Cmp.{nat_cmp_total}
-use Rattle.std.proofs.lemmas.List.{at_drop_more, length-map, map-set}
-use Rattle.std.proofs.lemmas.List.Elements.{All-nil, All-head, All-tail}
-use Rattle.std.proofs.lemmas.Map.Lookups.{CmpEqualImpliesEq, exact_unsigned, exact_pairs}
 use Rattle.std.proofs.lemmas.Map.Views.{All-insert_key}
-use Rattle.plan_model.specs.declared.model.Leg.{Leg}
-use Rattle.plan_model.specs.NetworkModel.{NetworkModel}
-use Rattle.plan_model.specs.Unfold.{end_of}
-use Rattle.plan_graph.specs.declared.GraphRow.{GraphRow}
-use Rattle.plan_graph.specs.declared.Ride.{Ride}
-use Rattle.plan_graph.specs.declared.PlaceTable.{PlaceTable}
-use Rattle.plan_graph.specs.Ready.{IsFirstInTime}
-use Rattle.plan_graph.specs.WalkTables.{leg_cmp, row_by}
-use Rattle.plan_model.proofs.Lists.{Contains-nil, Contains-head, Contains-tail, Contains-cons_cases, All-from_contains, AllPairs-head, AllPairs-tail}
 use Rattle.plan_graph.proofs.Sets.{Contains-insert_key, Contains-inserted_key, IsStrictlySortedBy-insert_key}
-use Rattle.plan_graph.proofs.Orders.{leg_cmp-total, leg_cmp-exact}
-use Rattle.graph_compact.specs.RowsByPlace.{row_cmp, put_rows, with_ride, gathered_rows, lists_of, rows_in, with_table}
 
 pub with_rows : (place : ℕ) (rows : List GraphRow) (more : List PlaceTable) → 0 < length rows → with_table place rows more ≡ record { place = record { 0 = place }; rows = rows } ∷ more
 with_rows place [] more some = absurd (omega (arith, some))

@@ -1,42 +1,30 @@
 -- The graph by place unfolds to the same tree, and is tidy.
-use Rattle.std.proofs.Common.{◌≡◌, ◌≢◌, ℕ, suc, ◌+◌, ◌≤◌, ◌<◌, List, [], ◌∷◌, length, Option, Some, Contains, All, AllPairs, arith, sym, subst, refl, inl, inr}
-use Rattle.std.proofs.Common.{◌∙◌, ap, ap₂, slice_index_or, MatchOption, nat_cmp, Less, ne_eqb, eq-eqb}
+use Rattle.graph_compact.proofs.Common.{◌≡◌, ◌≢◌, ℕ, suc, ◌+◌, ◌≤◌, ◌<◌, List, [], ◌∷◌, length, Option, Some, Contains, All, AllPairs, arith, sym, subst, refl, inl, inr, ◌∙◌, ap, ap₂}
+use Rattle.graph_compact.proofs.Common.{slice_index_or, MatchOption, nat_cmp, Less, ne_eqb, eq-eqb, common_steps, cases_eq, All-nil, All-cons, All-weaker, All-contains, Contains-get_or}
+use Rattle.graph_compact.proofs.Common.{exact_unsigned, Leg, NetworkModel, end_of, arrival_of, outcomes_of, unfolding_of, by_place, GraphRow, Ride, PlaceTable, IsReadyRide, IsReadyRow, IsPruned}
+use Rattle.graph_compact.proofs.Common.{IsByLimits, IsPickedAfter, IsLegOf, IsFirstInTime, IsSafeForSome, Stands, row_by, leg_cmp, All-from_contains, AllPairs-nil, nat_cmp-Less}
+use Rattle.graph_compact.proofs.Common.{ordering_then-Less, leg_cmp-Less, row_cmp, with_table, gathered_rows, tables_of}
 use Rattle.std.proofs.lemmas.Bool.Decides.{nat_tests}
-use Rattle.std.proofs.lemmas.Grind.{common_steps}
-use Rattle.std.proofs.lemmas.Bool.{cases_eq}
-use Rattle.std.proofs.lemmas.List.Elements.{All-nil, All-cons, All-weaker, All-contains, Contains-get_or}
 use Rattle.std.proofs.lemmas.List.Kept.{AllPairs-cons}
 use Rattle.std.proofs.lemmas.Map.Keys.{Less-from_sorted}
-use Rattle.std.proofs.lemmas.Map.Lookups.{exact_unsigned}
-use Rattle.plan_model.specs.declared.model.Leg.{Leg}
 use Rattle.plan_model.specs.declared.model.Outcome.{Outcome}
 use Rattle.plan_model.specs.declared.model.Query.{Query}
-use Rattle.plan_model.specs.NetworkModel.{NetworkModel}
 use Rattle.plan_model.specs.Network.{IsValid}
 use Rattle.plan_model.specs.Tree.{Tree}
 use Rattle.plan_model.specs.Ways.{limit_of}
-use Rattle.plan_model.specs.Unfold.{end_of, arrival_of, outcomes_of, unfolding_of, by_place}
-use Rattle.plan_graph.specs.declared.GraphRow.{GraphRow}
-use Rattle.plan_graph.specs.declared.Ride.{Ride}
-use Rattle.plan_graph.specs.declared.PlaceTable.{PlaceTable}
 use Rattle.plan_graph.specs.declared.ExpandedGraph.{ExpandedGraph}
 use Rattle.plan_graph.specs.declared.PlanGraph.{PlanGraph}
 use Rattle.plan_graph.specs.PickedRows.{pick_row, pick_after, pick_at, rows_of_place}
 use Rattle.plan_graph.specs.Unfold.{unfold_expanded, unfold_plan}
-use Rattle.plan_graph.specs.Ready.{IsReadyRide, IsReadyRow, IsPruned, IsByLimits, IsPickedAfter, IsLegOf, IsFirstInTime, IsSafeForSome, Stands}
 use Rattle.plan_graph.specs.Coherent.{IsCoherent, IsRowAt}
 use Rattle.plan_graph.specs.Tidy.{IsFit, IsFitRow, IsFitTable, IsFitStart, IsTidy, IsPickedIn}
 use Rattle.plan_graph.proofs.Searches.{precedes_itself}
 use Rattle.plan_graph.specs.Placed.{StandsSafely}
-use Rattle.plan_graph.specs.WalkTables.{row_by, leg_cmp}
-use Rattle.plan_model.proofs.Lists.{All-from_contains, AllPairs-nil}
-use Rattle.plan_graph.proofs.Orders.{nat_cmp-Less, ordering_then-Less, leg_cmp-Less}
 use Rattle.plan_graph.proofs.Together.{unfold_from-together}
 use Rattle.plan_graph.proofs.Places.{IsPlacedNext, next_after}
 use Rattle.plan_graph.proofs.Reaching.{start_placed}
 use Rattle.plan_graph.proofs.Tables.{first_pick, first_there, picked_first, one_found}
 use Rattle.plan_graph.proofs.Rides.{ride_there}
-use Rattle.graph_compact.specs.RowsByPlace.{row_cmp, with_table, gathered_rows, tables_of}
 use Rattle.graph_compact.proofs.Lists.{IsOf, All-gathered_rows, Contains-gathered_rows, IsStrictlySortedBy-gathered_rows, some_first, first_least}
 
 -- the rows of a place in the tables, from a first table on

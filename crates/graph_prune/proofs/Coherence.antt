@@ -1,20 +1,8 @@
 -- A pruned graph that follows a steady choice is coherent.
-use Rattle.std.proofs.Common.{◌≡◌, ◌≢◌, ℕ, Option, Some, Contains, All, arith, sym, subst, refl, ◌∙◌, ap}
-use Rattle.std.proofs.lemmas.List.Elements.{All-contains}
-use Rattle.plan_model.specs.declared.model.Leg.{Leg}
-use Rattle.plan_model.specs.declared.model.Outcome.{Outcome}
-use Rattle.plan_model.specs.declared.model.Query.{Query}
-use Rattle.plan_model.specs.NetworkModel.{NetworkModel}
-use Rattle.plan_model.specs.Ways.{limit_of}
-use Rattle.plan_model.specs.Unfold.{end_of, arrival_of, outcomes_of}
-use Rattle.plan_graph.specs.declared.GraphRow.{GraphRow}
-use Rattle.plan_graph.specs.declared.Ride.{Ride}
-use Rattle.plan_graph.specs.declared.ExpandedGraph.{ExpandedGraph}
-use Rattle.plan_graph.specs.PickedRows.{pick_row}
-use Rattle.plan_graph.specs.Ready.{IsPruned, IsByLimits, IsPickedAfter}
+use Rattle.graph_prune.proofs.Common.{◌≡◌, ◌≢◌, ℕ, Option, Some, Contains, All, arith, sym, subst, refl, ◌∙◌, ap, All-contains, Leg, Outcome, Query, NetworkModel, limit_of, end_of, arrival_of}
+use Rattle.graph_prune.proofs.Common.{outcomes_of, GraphRow, Ride, ExpandedGraph, pick_row, IsPruned, IsByLimits, IsPickedAfter, Follows, IsSteady, first_pick, first_there, picked_there}
+use Rattle.graph_prune.proofs.Common.{one_found}
 use Rattle.plan_graph.specs.Coherent.{IsCoherent, IsEarliest, IsRowAt}
-use Rattle.plan_graph.specs.Follows.{Follows, IsSteady}
-use Rattle.plan_graph.proofs.Tables.{first_pick, first_there, picked_there, one_found}
 
 module _ (n : NetworkModel) (q : Query) (graph : ExpandedGraph) (at : ℕ → ℕ → Option Leg)
     (pruned : IsPruned n q graph) (steady : IsSteady n q.target.0 at) (follows : Follows n q.target.0 at graph) where

@@ -1,19 +1,9 @@
 -- The rows by their legs' limits, and what they pick.
-use Rattle.std.proofs.Common.{◌≡◌, ℕ, ◌≤◌, ◌<◌, Bool, true, false, List, [], ◌∷◌, Option, Some, None, All, AllPairs, Contains, arith, sym, subst, refl, inl}
-use Rattle.std.proofs.Common.{inr, ◌∙◌, ap, ap₂, if◌then◌else◌}
+use Rattle.graph_prune.proofs.Common.{◌≡◌, ℕ, ◌≤◌, ◌<◌, Bool, true, false, List, [], ◌∷◌, Option, Some, None, All, AllPairs, Contains, arith, sym, subst, refl, inl, inr, ◌∙◌, ap, ap₂}
+use Rattle.graph_prune.proofs.Common.{if◌then◌else◌, nat_tests, All-head, All-tail, Leg, NetworkModel, limit_of, GraphRow, pick_row, IsFirstInTime, MayPrecede, IsReadyRow, pick_in_time, row_by}
+use Rattle.graph_prune.proofs.Common.{Contains-nil, Contains-head, Contains-tail, Contains-cons_cases, AllPairs-nil, AllPairs-head, AllPairs-tail, AllPairs-with, one_found, in_time_here}
+use Rattle.graph_prune.proofs.Common.{in_time_next, is_last, by_limits}
 use Rattle.std.proofs.lemmas.Bool.{cases_lt}
-use Rattle.std.proofs.lemmas.Bool.Decides.{nat_tests}
-use Rattle.std.proofs.lemmas.List.Elements.{All-head, All-tail}
-use Rattle.plan_model.specs.declared.model.Leg.{Leg}
-use Rattle.plan_model.specs.NetworkModel.{NetworkModel}
-use Rattle.plan_model.specs.Ways.{limit_of}
-use Rattle.plan_graph.specs.declared.GraphRow.{GraphRow}
-use Rattle.plan_graph.specs.PickedRows.{pick_row}
-use Rattle.plan_graph.specs.Ready.{IsFirstInTime, MayPrecede, IsReadyRow, pick_in_time}
-use Rattle.plan_graph.specs.WalkTables.{row_by}
-use Rattle.plan_model.proofs.Lists.{Contains-nil, Contains-head, Contains-tail, Contains-cons_cases, AllPairs-nil, AllPairs-head, AllPairs-tail, AllPairs-with}
-use Rattle.plan_graph.proofs.Tables.{one_found, in_time_here, in_time_next}
-use Rattle.graph_prune.specs.Limits.{is_last, by_limits}
 
 -- the row before, if any, is before the moment
 abbrev pub IsApart : Option ℕ → ℕ → Type 0

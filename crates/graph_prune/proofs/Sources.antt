@@ -1,18 +1,7 @@
 -- What a ready graph picks.
-use Rattle.std.proofs.Common.{◌≡◌, ◌≢◌, ℕ, List, Option, Some, Contains, All, sym, subst, ◌∙◌, ap, MatchOption}
-use Rattle.std.proofs.lemmas.List.Elements.{All-contains}
-use Rattle.plan_model.specs.declared.model.Leg.{Leg}
-use Rattle.plan_model.specs.declared.model.Outcome.{Outcome}
-use Rattle.plan_model.specs.declared.model.Query.{Query}
-use Rattle.plan_model.specs.NetworkModel.{NetworkModel}
-use Rattle.plan_model.specs.Unfold.{end_of, arrival_of, outcomes_of}
-use Rattle.plan_graph.specs.declared.GraphRow.{GraphRow}
-use Rattle.plan_graph.specs.declared.Ride.{Ride}
-use Rattle.plan_graph.specs.declared.ExpandedGraph.{ExpandedGraph}
-use Rattle.plan_graph.specs.PickedRows.{pick_row, pick_after, HasRisingRides}
-use Rattle.plan_graph.specs.Ready.{IsReady, IsReadyRide, IsReadyRow, IsLegOf, pick_in_time}
-use Rattle.plan_graph.proofs.Rides.{ride_there}
-use Rattle.plan_graph.proofs.Graphs.{IsKeptAfter}
+use Rattle.graph_prune.proofs.Common.{◌≡◌, ◌≢◌, ℕ, List, Option, Some, Contains, All, sym, subst, ◌∙◌, ap, MatchOption, All-contains, Leg, Outcome, Query, NetworkModel, end_of, arrival_of}
+use Rattle.graph_prune.proofs.Common.{outcomes_of, GraphRow, Ride, ExpandedGraph, pick_row, pick_after, HasRisingRides, IsReady, IsReadyRide, IsReadyRow, IsLegOf, pick_in_time, ride_there}
+use Rattle.graph_prune.proofs.Common.{IsKeptAfter}
 use Rattle.graph_prune.proofs.Limits.{in_time_kept}
 
 module _ (n : NetworkModel) (q : Query) (graph : ExpandedGraph) (ready : IsReady n q graph) where

@@ -1,20 +1,8 @@
 -- The first failure after the outcomes of a ride, and the bounds where there is none.
-use Rattle.std.proofs.Common.{◌≡◌, ℕ, suc, ◌⊎◌, Bool, true, false, List, [], ◌∷◌, length, Option, Some, None, arith, refl, inl, inr, ◌∙◌, ap, if◌then◌else◌}
-use Rattle.std.proofs.lemmas.Bool.Decides.{nat_tests}
-use Rattle.plan_model.specs.declared.model.Outcome.{Outcome}
-use Rattle.plan_model.specs.declared.model.Query.{Query}
-use Rattle.plan_model.specs.NetworkModel.{NetworkModel}
-use Rattle.plan_model.specs.Network.{outcomes}
-use Rattle.plan_model.specs.DelayRows.{EachKid}
-use Rattle.plan_model.specs.Tree.{Tree, Ride, Kids, Nil, Kid}
-use Rattle.interval_fixed.specs.Interval.{Interval}
+use Rattle.graph_score.proofs.Common.{◌≡◌, ℕ, suc, ◌⊎◌, Bool, true, false, List, [], ◌∷◌, length, Option, Some, None, arith, refl, inl, inr, ◌∙◌, ap, if◌then◌else◌, nat_tests, Outcome, Query}
+use Rattle.graph_score.proofs.Common.{NetworkModel, outcomes, EachKid, Tree, Ride, Kids, Nil, Kid, Interval, Failure, Outlook, Safe, Failing, Fails, FailsIn, IsNotAfter, IsFirstFailure, span_of}
+use Rattle.graph_score.proofs.Common.{spans_of, is_sooner, sooner_failure, with_outlook, first_failure_of, spans_in, mean_or, blend_of, IsOutlook}
 use Rattle.interval_fixed.specs.Means.{mean_of}
-use Rattle.graph_score.specs.declared.outlooks.Failure.{Failure}
-use Rattle.graph_score.specs.declared.outlooks.Outlook.{Outlook}
-use Rattle.graph_score.specs.declared.outlooks.Outlook.TheVariants.{Safe, Failing}
-use Rattle.graph_score.specs.Failures.{Fails, FailsIn, IsNotAfter, IsFirstFailure}
-use Rattle.graph_score.specs.Spans.{span_of, spans_of}
-use Rattle.graph_score.specs.Steps.{is_sooner, sooner_failure, with_outlook, first_failure_of, spans_in, mean_or, blend_of, IsOutlook}
 
 -- a failure is not forgotten
 first_failure_of-some : (f : Failure) (kids : List Outlook) → first_failure_of (Some f) kids ≡ None → ⊥

@@ -1,24 +1,10 @@
 -- The legs of a graph that fit, and those that do not.
-use Rattle.std.proofs.Common.{◌≡◌, ℕ, ◌+◌, ◌<◌, List, [], ◌∷◌, ◌++◌, length, map, take, drop, Option, Some, None, All, arith, sym, subst, ◌∙◌, ap}
-use Rattle.std.proofs.Common.{refl, Contains, slice_index_or, MatchOption, flat_map, take-append-drop, length-take, length-take-le, get_or-take}
-use Rattle.std.specs.List.{AllWithin}
-use Rattle.std.proofs.lemmas.List.{drop_more}
-use Rattle.std.proofs.lemmas.List.Elements.{All-append, All-contains, All-map, All-nil, All-tail, All-cons, Contains-append_left, Contains-append_right}
-use Rattle.plan_model.specs.declared.model.Leg.{Leg}
-use Rattle.plan_model.specs.declared.model.Query.{Query}
-use Rattle.plan_model.specs.NetworkModel.{NetworkModel}
-use Rattle.plan_model.specs.Network.{IsValid, count}
-use Rattle.plan_model.proofs.Boarding.{limit_of-some, way_takes}
+use Rattle.graph_score.proofs.Common.{◌≡◌, ℕ, ◌+◌, ◌<◌, List, [], ◌∷◌, ◌++◌, length, map, take, drop, Option, Some, None, All, arith, sym, subst, ◌∙◌, ap, refl, Contains, slice_index_or}
+use Rattle.graph_score.proofs.Common.{MatchOption, flat_map, take-append-drop, length-take, length-take-le, get_or-take, AllWithin, drop_more, All-append, All-contains, All-map, All-nil, All-tail}
+use Rattle.graph_score.proofs.Common.{All-cons, Contains-append_left, Contains-append_right, Leg, Query, NetworkModel, IsValid, count, limit_of-some, way_takes, PlaceTable, PlanGraph, IsFit}
+use Rattle.graph_score.proofs.Common.{IsFitStart, IsFitRow, Contains-head, Contains-map, All-from_contains, GraphLeg, Start, Row, exit_of, IsFitLeg, IsFirstWrong, start_leg, legs_in, legs_of}
+use Rattle.graph_score.proofs.Common.{AreFitRows}
 use Rattle.plan_graph.specs.declared.GraphRow.{GraphRow}
-use Rattle.plan_graph.specs.declared.PlaceTable.{PlaceTable}
-use Rattle.plan_graph.specs.declared.PlanGraph.{PlanGraph}
-use Rattle.plan_graph.specs.Tidy.{IsFit, IsFitStart, IsFitRow}
-use Rattle.plan_model.proofs.Lists.{Contains-head, Contains-map, All-from_contains}
-use Rattle.graph_score.specs.declared.legs.GraphLeg.{GraphLeg}
-use Rattle.graph_score.specs.declared.legs.GraphLeg.TheVariants.{Start, Row}
-use Rattle.graph_score.specs.Exits.{exit_of}
-use Rattle.graph_score.specs.Legs.{IsFitLeg, IsFirstWrong, start_leg, legs_in, legs_of}
-use Rattle.graph_score.specs.Steps.{AreFitRows}
 
 -- a row that fits is at a place of the network
 pub fit_place : (n : NetworkModel) → IsValid n → (p : ℕ) (row : GraphRow) → IsFitRow n p row → p < length n.change

@@ -1,3 +1,4 @@
+mod Common
 mod GraphLegs
 mod Failures
 mod Trees

@@ -1,34 +1,11 @@
 -- What is known of the exits that were looked at, the last ones first.
-use Rattle.std.proofs.Common.{◌≡◌, ◌≢◌, ℕ, zero, suc, ◌+◌, ◌-◌, ◌<◌, ◌≤◌, true, false, List, [], ◌∷◌, ◌++◌, length, set, Option, Some, None, All, Contains, arith, sym, subst}
-use Rattle.std.proofs.Common.{refl, inl, inr, ◌∙◌, ap, append_assoc, slice_index_or, ◌==◌, get_or-set_other, get_or-set_same, append-nil, length-set}
-use Rattle.std.proofs.lemmas.Bool.{cases_lt, cases_eq}
-use Rattle.std.proofs.lemmas.Bool.Decides.{nat_tests}
-use Rattle.std.proofs.lemmas.List.Elements.{All-contains, Contains-append_right}
-use Rattle.plan_model.specs.declared.departure.Departure.{Departure}
+use Rattle.graph_score.proofs.Common.{◌≡◌, ◌≢◌, ℕ, zero, suc, ◌+◌, ◌-◌, ◌<◌, ◌≤◌, true, false, List, [], ◌∷◌, ◌++◌, length, set, Option, Some, None, All, Contains, arith, sym, subst, refl, inl}
+use Rattle.graph_score.proofs.Common.{inr, ◌∙◌, ap, append_assoc, slice_index_or, ◌==◌, get_or-set_other, get_or-set_same, append-nil, length-set, cases_lt, cases_eq, nat_tests, All-contains}
+use Rattle.graph_score.proofs.Common.{Contains-append_right, Departure, Leg, Outcome, Query, NetworkModel, IsValid, count, dep_of, arr_of, EachKid, departure_of, Tree, Done, Stuck, end_of}
+use Rattle.graph_score.proofs.Common.{outcomes_of, kids_after, boards_later, Contains-cons_cases, Contains-from_map, PlaceTable, PlanGraph, pick_at, rows_of_place, IsLegOf, rows_of_place-by}
+use Rattle.graph_score.proofs.Common.{row_of_pick, GraphLeg, Outlook, Failing, exit_of, AreExits, IsFitLeg, legs_of, AreFitRows, AreOutlooks, IsOutlook, arrived_outlook, by_leg, failure}
+use Rattle.graph_score.proofs.Common.{no_outlook, outlook_at, outlook_of, outlooks_after, ride_by_rows}
 use Rattle.plan_model.specs.declared.model.ConnectionId.{ConnectionId}
-use Rattle.plan_model.specs.declared.model.Leg.{Leg}
-use Rattle.plan_model.specs.declared.model.Outcome.{Outcome}
-use Rattle.plan_model.specs.declared.model.Query.{Query}
-use Rattle.plan_model.specs.NetworkModel.{NetworkModel}
-use Rattle.plan_model.specs.Network.{IsValid, count, dep_of, arr_of}
-use Rattle.plan_model.specs.DelayRows.{EachKid}
-use Rattle.plan_model.specs.Order.{departure_of}
-use Rattle.plan_model.specs.Tree.{Tree, Done, Stuck}
-use Rattle.plan_model.specs.Unfold.{end_of, outcomes_of, kids_after}
-use Rattle.plan_model.proofs.Boarding.{boards_later}
-use Rattle.plan_model.proofs.Lists.{Contains-cons_cases, Contains-from_map}
-use Rattle.plan_graph.specs.declared.PlaceTable.{PlaceTable}
-use Rattle.plan_graph.specs.declared.PlanGraph.{PlanGraph}
-use Rattle.plan_graph.specs.PickedRows.{pick_at, rows_of_place}
-use Rattle.plan_graph.specs.Ready.{IsLegOf}
-use Rattle.plan_graph.proofs.Picked.{rows_of_place-by, row_of_pick}
-use Rattle.graph_score.specs.declared.legs.GraphLeg.{GraphLeg}
-use Rattle.graph_score.specs.declared.outlooks.Outlook.{Outlook}
-use Rattle.graph_score.specs.declared.outlooks.Outlook.TheVariants.{Failing}
-use Rattle.graph_score.specs.Exits.{exit_of, AreExits}
-use Rattle.graph_score.specs.Legs.{IsFitLeg, legs_of}
-use Rattle.graph_score.specs.Steps.{AreFitRows, AreOutlooks, IsOutlook, arrived_outlook, by_leg, failure, no_outlook}
-use Rattle.graph_score.specs.Steps.{outlook_at, outlook_of, outlooks_after, ride_by_rows}
 use Rattle.graph_score.proofs.ExitLemmas.{later, later_few, later_fewer, later_taken}
 use Rattle.graph_score.proofs.Failures.{blend_reported}
 use Rattle.graph_score.proofs.GraphLegs.{each_row_of, rows_fit}

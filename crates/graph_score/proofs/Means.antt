@@ -1,20 +1,12 @@
 -- The bounds of a tree that is safe enclose its expected arrival, and are not farther apart than its rides are nested.
-use Rattle.std.proofs.Common.{◌≡◌, ℕ, suc, ◌+◌, ◌-◌, ◌*◌, ◌^◌, ◌<◌, ◌≤◌, List, [], ◌∷◌, map, length, Option, All, arith, refl, ap}
+use Rattle.graph_score.proofs.Common.{◌≡◌, ℕ, suc, ◌+◌, ◌-◌, ◌*◌, ◌^◌, ◌<◌, ◌≤◌, List, [], ◌∷◌, map, length, Option, All, arith, refl, ap, All-cons, All-nil, Outcome, NetworkModel, IsValid, count}
+use Rattle.graph_score.proofs.Common.{to_of, arr_of, outcomes, EachKid, Tree, Done, Ride, Stuck, Kids, Nil, Kid, height, height_of, IsSafe, AreSafe, Interval, span_of, spans_of}
 use Rattle.std.proofs.Math.Nat.{mul_assoc}
-use Rattle.std.proofs.lemmas.List.Elements.{All-cons, All-nil}
-use Rattle.plan_model.specs.declared.model.Outcome.{Outcome}
-use Rattle.plan_model.specs.NetworkModel.{NetworkModel}
 use Rattle.plan_model.specs.Bounds.{nanos_per_second}
-use Rattle.plan_model.specs.Network.{IsValid, count, to_of, arr_of, outcomes}
-use Rattle.plan_model.specs.DelayRows.{EachKid}
-use Rattle.plan_model.specs.Tree.{Tree, Done, Ride, Stuck, Kids, Nil, Kid, height, height_of}
-use Rattle.plan_model.specs.Strategy.{IsSafe, AreSafe}
 use Rattle.plan_model.specs.Expected.{Below, Covers, Encloses, arrival}
 use Rattle.plan_model.proofs.Bounds.{row_is}
-use Rattle.interval_fixed.specs.Interval.{Interval}
 use Rattle.interval_fixed.proofs.Sums.{mean_below, mean_covers}
 use Rattle.interval_fixed.proofs.Enclosed.{mean_gap_within}
-use Rattle.graph_score.specs.Spans.{span_of, spans_of}
 
 pub exact_below : (a : ℕ) → Below (nanos_per_second * a) (Done a)
 exact_below a h tall = omega (arith, mul_assoc 1000000000 a (10000 ^ h))

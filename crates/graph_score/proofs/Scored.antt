@@ -1,24 +1,7 @@
 -- The score of a graph whose legs fit, by what comes of it.
-use Rattle.std.proofs.Common.{◌≡◌, ◌≢◌, ℕ, ◌-◌, Option, Some, None, All, arith, sym, subst, refl, inl, inr}
-use Rattle.std.proofs.lemmas.Bool.{cases_lt, cases_eq}
-use Rattle.plan_model.specs.declared.model.Leg.{Leg}
-use Rattle.plan_model.specs.declared.model.Query.{Query}
-use Rattle.plan_model.specs.NetworkModel.{NetworkModel}
-use Rattle.plan_model.specs.Network.{IsValid, count, arr_of}
-use Rattle.plan_model.specs.Tree.{Tree, Done}
-use Rattle.plan_model.specs.Unfold.{kids_after, outcomes_of}
-use Rattle.plan_graph.specs.declared.PlanGraph.{PlanGraph}
-use Rattle.plan_graph.specs.Tidy.{IsFitStart}
-use Rattle.plan_graph.specs.Unfold.{unfold_plan}
-use Rattle.interval_fixed.specs.Interval.{Interval}
-use Rattle.graph_score.specs.declared.outlooks.Failure.{Failure}
-use Rattle.graph_score.specs.declared.outlooks.Outlook.{Outlook}
-use Rattle.graph_score.specs.declared.outlooks.Outlook.TheVariants.{Safe, Failing}
-use Rattle.graph_score.specs.Legs.{IsFitLeg, legs_of}
-use Rattle.graph_score.specs.Failures.{Fails}
-use Rattle.graph_score.specs.Scores.{IsScored, IsUnsafe, IsScoreOf}
-use Rattle.graph_score.specs.Spans.{span_of}
-use Rattle.graph_score.specs.Steps.{IsOutlook, ride_by_rows}
+use Rattle.graph_score.proofs.Common.{◌≡◌, ◌≢◌, ℕ, ◌-◌, Option, Some, None, All, arith, sym, subst, refl, inl, inr, cases_lt, cases_eq, Leg, Query, NetworkModel, IsValid, count, arr_of, Tree}
+use Rattle.graph_score.proofs.Common.{Done, kids_after, outcomes_of, PlanGraph, IsFitStart, unfold_plan, Interval, Failure, Outlook, Safe, Failing, IsFitLeg, legs_of, Fails, IsScored, IsUnsafe}
+use Rattle.graph_score.proofs.Common.{IsScoreOf, span_of, IsOutlook, ride_by_rows}
 use Rattle.graph_score.proofs.GraphLegs.{rows_fit, start_fits}
 use Rattle.graph_score.proofs.Means.{exact_below, exact_covers, ride_spanned}
 use Rattle.graph_score.proofs.Trees.{next_after, safe_never_fails, safe_ride, height_ridden, unfold-start, unfold-none, unfold-there}

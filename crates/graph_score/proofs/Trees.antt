@@ -1,24 +1,8 @@
 -- A tree by rows that fit is safe exactly where the traveller cannot fail.
-use Rattle.std.proofs.Common.{◌≡◌, ◌≢◌, ℕ, zero, suc, ◌+◌, ◌-◌, ◌≤◌, List, [], ◌∷◌, Option, Some, None, All, arith, sym, subst, refl, inl, inr, ap}
-use Rattle.std.proofs.lemmas.Bool.{cases_lt, cases_eq, eq-eqb, ne_eqb}
-use Rattle.plan_model.specs.declared.model.Leg.{Leg}
-use Rattle.plan_model.specs.declared.model.Outcome.{Outcome}
-use Rattle.plan_model.specs.declared.model.Query.{Query}
-use Rattle.plan_model.specs.NetworkModel.{NetworkModel}
-use Rattle.plan_model.specs.Network.{count, to_of, arr_of, outcomes}
-use Rattle.plan_model.specs.Tree.{Tree, Done, Ride, Stuck, Kids, Nil, Kid, height, height_of}
-use Rattle.plan_model.specs.Strategy.{IsSafe, AreSafe, IsBoardable, IsSafeFor}
-use Rattle.plan_model.specs.Unfold.{end_of, outcomes_of, kids_after, ride_or_stuck, unfold_after, by_place}
-use Rattle.plan_model.proofs.Boarding.{limit_of-some}
-use Rattle.plan_graph.specs.declared.PlaceTable.{PlaceTable}
-use Rattle.plan_graph.specs.declared.PlanGraph.{PlanGraph}
-use Rattle.plan_graph.specs.PickedRows.{pick_at, rows_of_place}
-use Rattle.plan_graph.specs.Ready.{IsLegOf}
-use Rattle.plan_graph.specs.Tidy.{IsFitRow, IsFitStart}
-use Rattle.plan_graph.specs.Unfold.{unfold_plan}
-use Rattle.graph_score.specs.Failures.{Fails, FailsIn}
-use Rattle.graph_score.specs.Steps.{AreFitRows, ride_by_rows}
-use Rattle.plan_graph.proofs.Picked.{rows_of_place-by, row_of_pick}
+use Rattle.graph_score.proofs.Common.{◌≡◌, ◌≢◌, ℕ, zero, suc, ◌+◌, ◌-◌, ◌≤◌, List, [], ◌∷◌, Option, Some, None, All, arith, sym, subst, refl, inl, inr, ap, cases_lt, cases_eq, eq-eqb, ne_eqb, Leg}
+use Rattle.graph_score.proofs.Common.{Outcome, Query, NetworkModel, count, to_of, arr_of, outcomes, Tree, Done, Ride, Stuck, Kids, Nil, Kid, height, height_of, IsSafe, AreSafe, IsBoardable}
+use Rattle.graph_score.proofs.Common.{IsSafeFor, end_of, outcomes_of, kids_after, ride_or_stuck, unfold_after, by_place, limit_of-some, PlaceTable, PlanGraph, pick_at, rows_of_place, IsLegOf}
+use Rattle.graph_score.proofs.Common.{IsFitRow, IsFitStart, unfold_plan, Fails, FailsIn, AreFitRows, ride_by_rows, rows_of_place-by, row_of_pick}
 
 mutual
   -- who is safe cannot fail

@@ -1,27 +1,10 @@
 -- The texts that are read are those of the graphs that fit.
-use Rattle.std.proofs.Common.{◌≡◌, ℕ, ◌≤◌, List, [], ◌∷◌, Option, Some, None, Ok, arith, sym, subst, ◌∙◌, ap, refl, ◌==◌, eqb-true, eq-eqb, ne_eqb}
-use Rattle.std.proofs.lemmas.Bool.{false≢true}
-use Rattle.std.proofs.lemmas.List.Elements.{All-nil}
-use Rattle.clock_text.specs.Civil.{last_printable}
+use Rattle.graph_text.proofs.Common.{◌≡◌, ℕ, ◌≤◌, List, [], ◌∷◌, Option, Some, None, Ok, arith, sym, subst, ◌∙◌, ap, refl, ◌==◌, eqb-true, eq-eqb, ne_eqb, false≢true, All-nil, last_printable}
+use Rattle.graph_text.proofs.Common.{table_of, require-ok, Leg, Query, NetworkModel, NameLists, IsValid, PlaceTable, PlanGraph, IsFit, IsFitTable, Head, Version, start_in, place_tables_from}
+use Rattle.graph_text.proofs.Common.{no_tables, started_in, graph_after_first, head_in, graph_of_records, graph_of, IsReadAs, version_in, AreGraphRows, IsTextOf, IsHeadOf, field, and_then-value}
+use Rattle.graph_text.proofs.Common.{if-value, else-value}
 use Rattle.clock_text.proofs.Range.{moment_range}
-use Rattle.csv_rows.specs.Tables.{table_of}
-use Rattle.plan_model.proofs.Results.{require-ok}
-use Rattle.plan_model.specs.declared.model.Leg.{Leg}
-use Rattle.plan_model.specs.declared.model.Query.{Query}
-use Rattle.plan_model.specs.NetworkModel.{NetworkModel}
-use Rattle.plan_model.specs.NameLists.{NameLists}
-use Rattle.plan_model.specs.Network.{IsValid}
-use Rattle.plan_graph.specs.declared.PlaceTable.{PlaceTable}
-use Rattle.plan_graph.specs.declared.PlanGraph.{PlanGraph}
-use Rattle.plan_graph.specs.Tidy.{IsFit, IsFitTable}
-use Rattle.graph_text.specs.declared.Head.{Head}
 use Rattle.graph_text.specs.declared.reader.TextFault.TheVariants as fault
-use Rattle.graph_text.specs.declared.version.Version.{Version}
-use Rattle.graph_text.specs.Reading.{start_in, place_tables_from, no_tables, started_in, graph_after_first, head_in, graph_of_records, graph_of, IsReadAs}
-use Rattle.graph_text.specs.GraphRows.{version_in, AreGraphRows, IsTextOf}
-use Rattle.graph_text.specs.Asked.{IsHeadOf}
-use Rattle.printed_rows.specs.Fields.{field}
-use Rattle.printed_rows.proofs.Chains.{and_then-value, if-value, else-value}
 use Rattle.graph_text.proofs.Rows.{start_reported, start_read, head_reported, head_read}
 use Rattle.graph_text.proofs.Tables.{all_reported, all_read}
 

@@ -1,33 +1,12 @@
 -- The first fault of a text is that of its first row that breaks a rule, or of the first row that is missing.
-use Rattle.std.proofs.Common.{◌≡◌, ◌≢◌, ℕ, zero, suc, ◌+◌, ◌-◌, Bool, true, false, List, [], ◌∷◌, Option, Some, None, IsSome, is_some, Result, Ok, Err, arith, sym, subst, refl, ◌∙◌, ap, ◌==◌, if◌then◌else◌, codes}
-use Rattle.std.proofs.Common.{inl, inr, ◌⊎◌, option_map, eqb-true, eq-eqb, ne_eqb, leb-true, le-leb, nat_le}
-use Rattle.std.proofs.lemmas.Bool.{false≢true, and_parts, cases_eq}
-use Rattle.clock_text.specs.Times.{moment_at, nanos_at}
-use Rattle.clock_text.proofs.OneText.{if_cases}
-use Rattle.plan_model.specs.Results.{and_then, require}
-use Rattle.plan_model.proofs.Results.{require-ok}
-use Rattle.plan_model.specs.declared.model.Leg.{Leg}
-use Rattle.plan_model.specs.declared.model.PlaceId.{PlaceId}
-use Rattle.plan_model.specs.NetworkModel.{NetworkModel}
-use Rattle.plan_model.specs.NameLists.{NameLists}
-use Rattle.plan_model.specs.Network.{IsValid, change_of, dep_of}
-use Rattle.plan_graph.specs.declared.GraphRow.{GraphRow}
-use Rattle.plan_graph.specs.declared.PlanGraph.{PlanGraph}
-use Rattle.printed_rows.specs.Fields.{field, is_kind, whole_at, number_of, rises, is_query}
-use Rattle.graph_text.specs.declared.Head.{Head}
-use Rattle.graph_text.specs.declared.reader.TextFault.{TextFault}
+use Rattle.graph_text.proofs.Common.{◌≡◌, ◌≢◌, ℕ, zero, suc, ◌+◌, ◌-◌, Bool, true, false, List, [], ◌∷◌, Option, Some, None, IsSome, is_some, Result, Ok, Err, arith, sym, subst, refl, ◌∙◌, ap}
+use Rattle.graph_text.proofs.Common.{◌==◌, if◌then◌else◌, codes, inl, inr, ◌⊎◌, option_map, eqb-true, eq-eqb, ne_eqb, leb-true, le-leb, nat_le, false≢true, and_parts, cases_eq, moment_at}
+use Rattle.graph_text.proofs.Common.{nanos_at, if_cases, and_then, require, require-ok, Leg, PlaceId, NetworkModel, NameLists, IsValid, change_of, dep_of, GraphRow, PlanGraph, field, is_kind}
+use Rattle.graph_text.proofs.Common.{whole_at, number_of, rises, is_query, Head, TextFault, LegRow, LegNames, PlaceRow, HeadRow, TableStart, Reading, Version, width_of, entry_in, is_place}
+use Rattle.graph_text.proofs.Common.{is_head, version_in, IsLegRow, IsPlaceRow, leg_numbers, leg_row_in, names_in, leg_found, is_by_limit, can_start, row_in, start_in, place_numbers, place_row_in}
+use Rattle.graph_text.proofs.Common.{table_in, head_numbers, head_row_in, head_in, step, after_place_row, after_leg_row, place_tables_from, no_tables, started_in, graph_after_first}
+use Rattle.graph_text.proofs.Common.{graph_of_records}
 use Rattle.graph_text.specs.declared.reader.TextFault.TheVariants as f
-use Rattle.graph_text.specs.declared.reader.LegRow.{LegRow}
-use Rattle.graph_text.specs.declared.reader.LegNames.{LegNames}
-use Rattle.graph_text.specs.declared.reader.PlaceRow.{PlaceRow}
-use Rattle.graph_text.specs.declared.reader.HeadRow.{HeadRow}
-use Rattle.graph_text.specs.declared.reader.TableStart.{TableStart}
-use Rattle.graph_text.specs.declared.reader.Reading.{Reading}
-use Rattle.graph_text.specs.declared.version.Version.{Version}
-use Rattle.graph_text.specs.Versions.{width_of}
-use Rattle.graph_text.specs.GraphRows.{entry_in, is_place, is_head, version_in, IsLegRow, IsPlaceRow}
-use Rattle.graph_text.specs.Reading.{leg_numbers, leg_row_in, names_in, leg_found, is_by_limit, can_start, row_in, start_in, place_numbers, place_row_in, table_in, head_numbers, head_row_in, head_in}
-use Rattle.graph_text.specs.Reading.{step, after_place_row, after_leg_row, place_tables_from, no_tables, started_in, graph_after_first, graph_of_records}
 use Rattle.graph_text.specs.FirstFaults.{Breaks, HasLegForm, HasLegNames, HasLaterMoment, IsRowOf, BreaksAtLeg, IsStartOf, BreaksAtStart, HasPlaceForm, HasLaterPlace, BreaksAtPlace}
 use Rattle.graph_text.specs.FirstFaults.{HasHeadForm, HasHeadNames, IsOfQuestion, BreaksAtHead, Coming, PlaceNext, LegNext, after_leg, HaveFirstFault, HaveFaultAfterHead, HaveFault}
 use Rattle.graph_text.proofs.Rows.{numbers_reported, names_reported, place_numbers_reported, head_numbers_reported, start_reported, start_read, row_reported, row_read, table_reported, table_read, head_reported, head_read}

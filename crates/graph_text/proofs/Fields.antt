@@ -1,16 +1,6 @@
 -- The fields of printed rows.
-use Rattle.std.proofs.Common.{◌≡◌, ℕ, List, [], ◌∷◌, take, ◌∙◌, ap, refl, decimal}
-use Rattle.clock_text.specs.Civil.{moment_text}
-use Rattle.plan_model.specs.declared.model.Leg.{Leg}
-use Rattle.plan_model.specs.declared.model.Connection.{Connection}
-use Rattle.plan_model.specs.NetworkModel.{NetworkModel}
-use Rattle.plan_model.specs.NameLists.{NameLists}
-use Rattle.plan_model.specs.Network.{connection}
-use Rattle.graph_text.specs.declared.version.Version.{Version}
-use Rattle.graph_text.specs.declared.version.Version.TheVariants.{First, Second}
-use Rattle.graph_text.specs.Versions.{width_of, ninth}
-use Rattle.graph_text.specs.GraphTexts.{leg_fields}
-use Rattle.printed_rows.specs.Writers.{place_name, run_name}
+use Rattle.graph_text.proofs.Common.{◌≡◌, ℕ, List, [], ◌∷◌, take, ◌∙◌, ap, refl, decimal, moment_text, Leg, Connection, NetworkModel, NameLists, connection, Version, First, Second, width_of}
+use Rattle.graph_text.proofs.Common.{ninth, leg_fields, place_name, run_name}
 
 -- the fields that a version has of nine
 pub take_nine : (version : Version) (a b c d e f g h last a' b' c' d' e' f' g' h' last' : List ℕ) → a ≡ a' → b ≡ b' → c ≡ c' → d ≡ d' → e ≡ e' → f ≡ f' → g ≡ g' → h ≡ h' → last ≡ last'

@@ -1,18 +1,8 @@
 -- Which graphs can be printed.
-use Rattle.std.proofs.Common.{◌≡◌, ◌≢◌, ℕ, ◌<◌, length, Option, Some, None, arith, [], MatchOption, IfSome, slice_index_or}
-use Rattle.plan_model.specs.declared.model.Leg.{Leg}
-use Rattle.plan_model.specs.declared.model.Query.{Query}
-use Rattle.plan_model.specs.NetworkModel.{NetworkModel}
-use Rattle.plan_model.specs.Network.{IsValid, from_of}
-use Rattle.plan_model.specs.Ways.{limit_of}
+use Rattle.graph_text.proofs.Common.{◌≡◌, ◌≢◌, ℕ, ◌<◌, length, Option, Some, None, arith, [], MatchOption, IfSome, slice_index_or, Leg, Query, NetworkModel, IsValid, from_of, limit_of, GraphRow}
+use Rattle.graph_text.proofs.Common.{PlanGraph, IsLegOf, IsReady, IsFit, IsFitStart, IsPrintableExpanded, IsPrintablePlan, end_of_arrivals}
 use Rattle.plan_model.proofs.Boarding.{limit_of-some, way_takes}
-use Rattle.plan_graph.specs.declared.GraphRow.{GraphRow}
 use Rattle.plan_graph.specs.declared.ExpandedGraph.{ExpandedGraph}
-use Rattle.plan_graph.specs.declared.PlanGraph.{PlanGraph}
-use Rattle.plan_graph.specs.Ready.{IsLegOf, IsReady}
-use Rattle.plan_graph.specs.Tidy.{IsFit, IsFitStart}
-use Rattle.graph_text.specs.Printable.{IsPrintableExpanded, IsPrintablePlan}
-use Rattle.plan_model.specs.Bounds.{end_of_arrivals}
 
 module _ (n : NetworkModel) (valid : IsValid n) where
   -- a limit is before the departure

@@ -1,6 +1,5 @@
 -- Whether all that remains of a list passes, element by element.
-use Rattle.std.proofs.Common.{◌≡◌, ℕ, ◌+◌, ◌<◌, Bool, true, false, List, ◌∷◌, length, drop, sym, ap, ◌∙◌, ◌&&◌, slice_index_or}
-use Rattle.printed_rows.proofs.Lines.{split_at}
+use Rattle.graph_text.proofs.Common.{◌≡◌, ℕ, ◌+◌, ◌<◌, Bool, true, false, List, ◌∷◌, length, drop, sym, ap, ◌∙◌, ◌&&◌, slice_index_or, split_at}
 
 -- F says whether each element of a list passes, as p says of one
 module _ {X : Type 0} (F : List X → Bool) (p : X → Bool) (step : (x : X) (xs : List X) → F (x ∷ xs) ≡ (p x && F xs)) (xs : List X) (i : ℕ) (x d : X)

@@ -1,45 +1,25 @@
 -- What was printed is read back.
-use Rattle.std.proofs.Common.{◌≡◌, ℕ, ◌<◌, ◌≤◌, ◌^◌, List, [], ◌∷◌, ◌++◌, length, map, Option, Some, None, Bool, true, false, All, arith, sym, refl, ap, ◌∙◌}
-use Rattle.std.proofs.Common.{append_assoc, ◌==◌, if◌then◌else◌, slice_index_or, decimal, codes, eqb, option_and_then, eqb-true, eq-eqb, ne_eqb}
+use Rattle.graph_text.proofs.Common.{◌≡◌, ℕ, ◌<◌, ◌≤◌, ◌^◌, List, [], ◌∷◌, ◌++◌, length, map, Option, Some, None, Bool, true, false, All, arith, sym, refl, ap, ◌∙◌, append_assoc, ◌==◌}
+use Rattle.graph_text.proofs.Common.{if◌then◌else◌, slice_index_or, decimal, codes, eqb, option_and_then, eqb-true, eq-eqb, ne_eqb, All-head, All-tail, All-map, All-contains, moment_text}
+use Rattle.graph_text.proofs.Common.{nanos_text, last_printable, table_of, Leg, Query, NetworkModel, NameLists, NamesFit, AreNames, IsValid, count, change_of, run_of, step_of, from_of, to_of}
+use Rattle.graph_text.proofs.Common.{dep_of, arr_of, way_of, earlier_by, GraphRow, PlaceTable, PlanGraph, IsLegOf, IsFit, IsFitRow, IsFitTable, Head, Version, First, Second, number_of_version}
+use Rattle.graph_text.proofs.Common.{width_of, ninth, rows_leave, tables_leave, version_by, IsPrintableQuery, leg_fields, rows_text, tables_text, plan_text_in, plan_text, place_name, run_name}
+use Rattle.graph_text.proofs.Common.{row_of_fields, text_of_records, IsReadAs, entry_in, is_place, is_head, version_in, IsLegRow, IsPlaceRow, IsHeadRow, AreLegRows, AreTableRows, AreGraphRows}
+use Rattle.graph_text.proofs.Common.{IsTextOf, is_kind, most_connections}
 use Rattle.std.specs.Cmp.Lexicographic.{bytes_decides}
 use Rattle.std.proofs.lemmas.List.{get_or-map, length-map}
-use Rattle.std.proofs.lemmas.List.Elements.{All-head, All-tail, All-map, All-contains}
 use Rattle.std.proofs.lemmas.List.Recursion.{and_at}
 use Rattle.std.proofs.lemmas.Map.Keys.{IsDistinct-from_apart}
 use Rattle.std.proofs.lemmas.Map.Views.{Contains-from_any}
 use Rattle.std.proofs.lemmas.Map.Steps.{length-le_from_distinct_below}
-use Rattle.clock_text.specs.Civil.{moment_text, nanos_text, last_printable}
 use Rattle.clock_text.proofs.Walk.{text_reports}
 use Rattle.clock_text.proofs.NanosLemmas.{nanos_report}
 use Rattle.csv_rows.specs.Spaces.{trimmed_text}
-use Rattle.csv_rows.specs.Tables.{table_of}
-use Rattle.plan_model.specs.declared.model.Leg.{Leg}
-use Rattle.plan_model.specs.declared.model.Query.{Query}
-use Rattle.plan_model.specs.NetworkModel.{NetworkModel}
-use Rattle.plan_model.specs.NameLists.{NameLists, NamesFit, AreNames}
-use Rattle.plan_model.specs.Network.{IsValid, count, change_of, run_of, step_of, from_of, to_of, dep_of, arr_of}
-use Rattle.plan_model.specs.Ways.{way_of, earlier_by}
-use Rattle.plan_graph.specs.declared.GraphRow.{GraphRow}
-use Rattle.plan_graph.specs.declared.PlaceTable.{PlaceTable}
-use Rattle.plan_graph.specs.declared.PlanGraph.{PlanGraph}
-use Rattle.plan_graph.specs.Ready.{IsLegOf}
-use Rattle.plan_graph.specs.Tidy.{IsFit, IsFitRow, IsFitTable}
-use Rattle.graph_text.specs.declared.Head.{Head}
-use Rattle.graph_text.specs.declared.version.Version.{Version}
-use Rattle.graph_text.specs.declared.version.Version.TheVariants.{First, Second}
-use Rattle.graph_text.specs.Versions.{number_of_version, width_of, ninth, rows_leave, tables_leave, version_by}
-use Rattle.graph_text.specs.Printable.{IsPrintableQuery}
-use Rattle.graph_text.specs.GraphTexts.{leg_fields, rows_text, tables_text, plan_text_in, plan_text}
-use Rattle.printed_rows.specs.Writers.{place_name, run_name, row_of_fields, text_of_records}
-use Rattle.graph_text.specs.Reading.{IsReadAs}
-use Rattle.graph_text.specs.GraphRows.{entry_in, is_place, is_head, version_in, IsLegRow, IsPlaceRow, IsHeadRow, AreLegRows, AreTableRows, AreGraphRows, IsTextOf}
-use Rattle.printed_rows.specs.Fields.{is_kind}
 use Rattle.printed_rows.proofs.Names.{place_kept, run_kept, place_back, run_back, step_kept, step_back}
 use Rattle.graph_text.proofs.Laws.{limit_soon, place_there}
 use Rattle.graph_text.proofs.Accepted.{text_read}
 use Rattle.printed_rows.proofs.Plain.{moment_kept, nanos_kept, decimal_kept, whole_back}
 use Rattle.printed_rows.proofs.Printed.{IsKept, AreKept, kept-append, table_back}
-use Rattle.plan_model.specs.Bounds.{most_connections}
 
 -- what holds of either version holds of each
 by_version : (P : Version → Type 0) → P First → P Second → (version : Version) → P version

@@ -1,32 +1,10 @@
 -- A row is read as what it says, and as nothing else.
-use Rattle.std.proofs.Common.{◌≡◌, ℕ, ◌≤◌, Bool, true, List, Option, Some, None, Ok, arith, sym, subst, refl, ◌∙◌, ap, ◌==◌, nat_le, if◌then◌else◌, codes}
-use Rattle.std.proofs.Common.{option_map, option_and_then, eqb-true, eq-eqb, leb-true, le-leb}
-use Rattle.std.proofs.lemmas.Bool.{false≢true, and_parts}
-use Rattle.clock_text.specs.Times.{moment_at, nanos_at}
-use Rattle.clock_text.proofs.OneText.{if_cases, some_cases}
-use Rattle.plan_model.proofs.Results.{require-ok}
-use Rattle.plan_model.specs.declared.model.Leg.{Leg}
-use Rattle.plan_model.specs.NetworkModel.{NetworkModel}
-use Rattle.plan_model.specs.NameLists.{NameLists}
-use Rattle.plan_model.specs.Network.{IsValid, change_of, connection, run_of, step_of, from_of, to_of, dep_of, arr_of}
-use Rattle.plan_model.specs.Ways.{limit_of}
-use Rattle.plan_graph.specs.declared.GraphRow.{GraphRow}
-use Rattle.plan_graph.specs.Ready.{IsLegOf}
-use Rattle.plan_graph.specs.Tidy.{IsFitRow}
-use Rattle.graph_text.specs.declared.Head.{Head}
-use Rattle.graph_text.specs.declared.version.Version.{Version}
-use Rattle.graph_text.specs.declared.reader.LegRow.{LegRow}
-use Rattle.graph_text.specs.declared.reader.LegNames.{LegNames}
-use Rattle.graph_text.specs.declared.reader.PlaceRow.{PlaceRow}
-use Rattle.graph_text.specs.declared.reader.HeadRow.{HeadRow}
-use Rattle.graph_text.specs.declared.reader.TableStart.{TableStart}
-use Rattle.graph_text.specs.Reading.{leg_names, names_in, leg_numbers, leg_row_in, leg_found, leg_between, agrees, equals_limit, can_start, is_by_limit, start_in, row_in, place_numbers, place_row_in}
-use Rattle.graph_text.specs.Reading.{table_in, are_in_order, head_numbers, head_row_in, head_of, head_in}
-use Rattle.graph_text.specs.Versions.{width_of}
-use Rattle.graph_text.specs.Asked.{IsHeadOf}
-use Rattle.graph_text.specs.GraphRows.{is_place, is_head, version_in, IsLegRow, IsPlaceRow, IsHeadRow}
-use Rattle.printed_rows.specs.Fields.{is_query, connection_of, number_of, rises, field, whole_at, is_kind}
-use Rattle.printed_rows.proofs.Chains.{if-value}
+use Rattle.graph_text.proofs.Common.{◌≡◌, ℕ, ◌≤◌, Bool, true, List, Option, Some, None, Ok, arith, sym, subst, refl, ◌∙◌, ap, ◌==◌, nat_le, if◌then◌else◌, codes, option_map, option_and_then}
+use Rattle.graph_text.proofs.Common.{eqb-true, eq-eqb, leb-true, le-leb, false≢true, and_parts, moment_at, nanos_at, if_cases, some_cases, require-ok, Leg, NetworkModel, NameLists, IsValid}
+use Rattle.graph_text.proofs.Common.{change_of, connection, run_of, step_of, from_of, to_of, dep_of, arr_of, limit_of, GraphRow, IsLegOf, IsFitRow, Head, Version, LegRow, LegNames, PlaceRow}
+use Rattle.graph_text.proofs.Common.{HeadRow, TableStart, leg_names, names_in, leg_numbers, leg_row_in, leg_found, leg_between, agrees, equals_limit, can_start, is_by_limit, start_in, row_in}
+use Rattle.graph_text.proofs.Common.{place_numbers, place_row_in, table_in, are_in_order, head_numbers, head_row_in, head_of, head_in, width_of, IsHeadOf, is_place, is_head, version_in, IsLegRow}
+use Rattle.graph_text.proofs.Common.{IsPlaceRow, IsHeadRow, is_query, connection_of, number_of, rises, field, whole_at, is_kind, if-value}
 use Rattle.printed_rows.proofs.Found.{connection_back, connection_holds}
 
 -- ---- the row of a leg

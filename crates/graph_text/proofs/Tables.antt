@@ -1,32 +1,13 @@
 -- A step of reading, and the rows of tables, which are read as the tables that they give, and as no others.
-use Rattle.std.proofs.Common.{◌≡◌, ℕ, ◌+◌, ◌<◌, List, [], ◌∷◌, length, drop, Option, Some, Ok, Err, Result, arith, sym, ap, subst, refl, ◌∙◌, ◌≢◌, suc, ◌-◌}
-use Rattle.std.proofs.Common.{◌≤◌, true, ◌++◌, None, All, AllPairs, inl, inr, append_assoc, ◌==◌, slice_index_or, if◌then◌else◌, codes, option_map, IsErr}
-use Rattle.std.proofs.Common.{IsErrAnd, ne_eqb, eqb-true, eq-eqb, ltb-true, lt-ltb, append-nil}
-use Rattle.std.proofs.lemmas.Bool.{cases_eq}
-use Rattle.plan_model.specs.Results.{and_then}
-use Rattle.plan_model.specs.declared.model.PlaceId.{PlaceId}
-use Rattle.plan_model.specs.NetworkModel.{NetworkModel}
-use Rattle.plan_model.specs.NameLists.{NameLists}
-use Rattle.plan_graph.specs.declared.PlaceTable.{PlaceTable}
-use Rattle.plan_graph.specs.declared.PlanGraph.{PlanGraph}
-use Rattle.graph_text.specs.declared.Head.{Head}
-use Rattle.graph_text.specs.declared.version.Version.{Version}
-use Rattle.graph_text.specs.declared.reader.Reading.{Reading}
-use Rattle.graph_text.specs.declared.reader.TextFault.{TextFault}
+use Rattle.graph_text.proofs.Common.{◌≡◌, ℕ, ◌+◌, ◌<◌, List, [], ◌∷◌, length, drop, Option, Some, Ok, Err, Result, arith, sym, ap, subst, refl, ◌∙◌, ◌≢◌, suc, ◌-◌, ◌≤◌, true, ◌++◌, None, All}
+use Rattle.graph_text.proofs.Common.{AllPairs, inl, inr, append_assoc, ◌==◌, slice_index_or, if◌then◌else◌, codes, option_map, IsErr, IsErrAnd, ne_eqb, eqb-true, eq-eqb, ltb-true, lt-ltb}
+use Rattle.graph_text.proofs.Common.{append-nil, cases_eq, and_then, PlaceId, NetworkModel, NameLists, PlaceTable, PlanGraph, Head, Version, Reading, TextFault, split_at, version_in, IsLegRow}
+use Rattle.graph_text.proofs.Common.{IsPlaceRow, AreLegRows, AreTableRows, after_leg_row, row_in, step, IsUnlessNoMemory, place_or_first, place_tables_from, graph_after_first, head_in}
+use Rattle.graph_text.proofs.Common.{graph_of_records, table_in, after_place_row, no_tables, All-cons, All-nil, All-head, All-tail, IsValid, GraphRow, IsFitRow, IsFitTable, TableStart, rises}
+use Rattle.graph_text.proofs.Common.{and_then-value, if-value}
 use Rattle.graph_text.specs.declared.reader.TextFault.TheVariants as f
-use Rattle.printed_rows.proofs.Lines.{split_at}
-use Rattle.graph_text.specs.GraphRows.{version_in, IsLegRow, IsPlaceRow, AreLegRows, AreTableRows}
-use Rattle.graph_text.specs.Reading.{after_leg_row, row_in, step, IsUnlessNoMemory, place_or_first, place_tables_from, graph_after_first, head_in}
-use Rattle.graph_text.specs.Reading.{graph_of_records, table_in, after_place_row, no_tables}
-use Rattle.std.proofs.lemmas.List.Elements.{All-cons, All-nil, All-head, All-tail}
 use Rattle.std.proofs.lemmas.List.Kept.{AllPairs-cons}
 use Rattle.plan_model.specs.declared.model.Moment.{Moment}
-use Rattle.plan_model.specs.Network.{IsValid}
-use Rattle.plan_graph.specs.declared.GraphRow.{GraphRow}
-use Rattle.plan_graph.specs.Tidy.{IsFitRow, IsFitTable}
-use Rattle.graph_text.specs.declared.reader.TableStart.{TableStart}
-use Rattle.printed_rows.specs.Fields.{rises}
-use Rattle.printed_rows.proofs.Chains.{and_then-value, if-value}
 use Rattle.graph_text.proofs.Rows.{row_reported, row_read, table_reported, table_read}
 
 -- where leg rows are to come

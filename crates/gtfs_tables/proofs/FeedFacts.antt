@@ -1,14 +1,8 @@
 -- A feed's trips are timed: their kept rows are at places of the feed, and no time goes back.
-use Rattle.std.proofs.Common.{◌≡◌, ℕ, ◌<◌, ◌==◌, Bool, true, false, List, length, slice_index, Option, Some, None, IfSome, if◌then◌else◌, refl, sym, ap, arith}
-use Rattle.std.proofs.Common.{unwrap_or}
-use Rattle.csv_rows.specs.Tables.{number_in, row_count, field}
-use Rattle.csv_rows.specs.declared.columns.Column.TheVariants.{StopId, TripId}
-use Rattle.gtfs_tables.specs.Feeds.{FeedParts, IsSoundFeed}
-use Rattle.feed_lists.specs.Stops.{stop_ids, stop_places, place_from, parent_of}
-use Rattle.feed_lists.specs.Trips.{trip_ids}
-use Rattle.csv_rows.proofs.ListLemmas.{length-list_below, get-list_below}
+use Rattle.gtfs_tables.proofs.Common.{◌≡◌, ℕ, ◌<◌, ◌==◌, Bool, true, false, List, length, slice_index, Option, Some, None, IfSome, if◌then◌else◌, refl, sym, ap, arith, unwrap_or, number_in}
+use Rattle.gtfs_tables.proofs.Common.{row_count, field, StopId, TripId, FeedParts, IsSoundFeed, stop_ids, stop_places, place_from, parent_of, trip_ids, length-list_below, get-list_below, AreTimed}
+use Rattle.gtfs_tables.proofs.Common.{IsTimed, rows_of}
 use Rattle.csv_rows.proofs.RowLemmas.{number_inside}
-use Rattle.gtfs_tables.specs.Timed.{AreTimed, IsTimed, rows_of}
 use Rattle.stop_times.proofs.NoFault.{AreInOrder, kept_in_order}
 
 place_if : (b : Bool) (o : Option ℕ) (i n : ℕ) → i < n → IfSome o (λ k. k < n) → (if b then i else unwrap_or o 0) < n

@@ -1,37 +1,25 @@
 -- The tables of a feed, one after the other.
-use Rattle.std.proofs.Common.{◌≡◌, ◌≢◌, ℕ, ◌==◌, false, List, [], length, slice_index_or, Option, Some, None, IfSome, refl, sym, ap, ap₂, ◌∙◌, subst, arith}
-use Rattle.std.proofs.Common.{Result, Ok, Err, IfOk, IsErr}
+use Rattle.gtfs_tables.proofs.Common.{◌≡◌, ◌≢◌, ℕ, ◌==◌, false, List, [], length, slice_index_or, Option, Some, None, IfSome, refl, sym, ap, ap₂, ◌∙◌, subst, arith, Result, Ok, Err, IfOk, IsErr}
+use Rattle.gtfs_tables.proofs.Common.{and_then, TripId, Stops, Routes, Trips, StopTimes, Frequencies, FeedFault, NoMemory, Loaded, loaded_rows, load_in, row_count, field, stop_ids, stop_places}
+use Rattle.gtfs_tables.proofs.Common.{trip_ids, trip_routes, trip_services, trip_types, trips_fault, frequency_rows, fault_of_frequencies, all_repeats_of, frequencies_from, Tables, tables_by}
+use Rattle.gtfs_tables.proofs.Common.{tables_from, tables_in, IsFeed, IsFeedOf, IsSoundFeed, length-list_below, and_then-err}
 use Rattle.std.proofs.lemmas.Result.{IfOk-from_err}
-use Rattle.plan_model.specs.Results.{and_then}
 use Rattle.file_ports.specs.Ports.{FileMap}
-use Rattle.csv_rows.specs.declared.columns.Column.TheVariants.{TripId}
 use Rattle.csv_rows.specs.declared.feed_tables.Table.{Table}
-use Rattle.csv_rows.specs.declared.feed_tables.Table.TheVariants.{Stops, Routes, Trips, StopTimes, Frequencies}
-use Rattle.csv_rows.specs.declared.feed_tables.FeedFault.{FeedFault}
-use Rattle.csv_rows.specs.declared.feed_tables.FeedFault.TheVariants.{NoMemory}
 use Rattle.csv_rows.specs.declared.limits.Limits.{Limits}
-use Rattle.table_files.specs.declared.loading.Loaded.{Loaded}
 use Rattle.csv_rows.specs.FeedTables.{rank_of, unread_table, IsFaultOf}
-use Rattle.table_files.specs.Loading.{loaded_rows, load_in}
-use Rattle.csv_rows.specs.Tables.{row_count, field}
 use Rattle.stop_times.specs.declared.rows.StopRow.{StopRow}
-use Rattle.feed_lists.specs.Stops.{stop_ids, stop_places}
-use Rattle.feed_lists.specs.Trips.{trip_ids, trip_routes, trip_services, trip_types, trips_fault}
 use Rattle.stop_times.specs.StopTimes.{timed_rows, stop_times_fault}
-use Rattle.trip_frequencies.specs.Frequencies.{frequency_rows, fault_of_frequencies, all_repeats_of, frequencies_from}
 use Rattle.stop_times.specs.Visits.{AreStopTimes}
 use Rattle.table_files.specs.Required.{Records}
 use Rattle.stop_times.specs.Timetables.{stop_times_from, AreVisits}
 use Rattle.feed_lists.specs.Lists.{stops_from, routes_from, trips_from, HasStops, HasRoutes, HasTrips}
-use Rattle.gtfs_tables.specs.Feeds.{Tables, tables_by, tables_from, tables_in, IsFeed, IsFeedOf, IsSoundFeed}
 use Rattle.feed_lists.specs.declared.stops.Stops.{Stops as StopLists}
 use Rattle.feed_lists.specs.declared.routes.Routes.{Routes as RouteLists}
 use Rattle.gtfs_tables.specs.declared.lists.FeedLists.{FeedLists}
 use Rattle.gtfs_tables.specs.declared.times.TripTimes.{TripTimes}
 use Rattle.gtfs_tables.specs.Parts.{parts_by, HasVisits, HasRepeats, AreLists, AreTripTimes, AreSoundLists, AreSoundTimes}
 use Rattle.table_files.proofs.LoadLemmas.{load_in-other}
-use Rattle.csv_rows.proofs.ListLemmas.{length-list_below}
-use Rattle.plan_model.proofs.Results.{and_then-err}
 
 pub if_same : {A : Type 0} (o o' : Option A) (P : A → Type 0) → o' ≡ o → IfSome o' P → IfSome o P
 if_same o o' P e h = subst (λ (z : Option _). IfSome z P) e h

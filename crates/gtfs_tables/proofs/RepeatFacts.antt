@@ -1,38 +1,25 @@
 -- The rows of frequencies of a feed's trips are within their bounds, and their lines rise.
-use Rattle.std.proofs.Common.{◌≡◌, ℕ, ◌+◌, ◌<◌, ◌≤◌, ◌==◌, Bool, true, false, List, [], map, length, slice_index_or, Option, Some, None, if◌then◌else◌, filter}
-use Rattle.std.proofs.Common.{refl, sym, ap, ◌∙◌, subst, arith, ⊎_elim, Result, Ok, Err, option_and_then, AllPairs, eq-eqb}
-use Rattle.std.proofs.lemmas.Bool.{cases_lt}
+use Rattle.gtfs_tables.proofs.Common.{◌≡◌, ℕ, ◌+◌, ◌<◌, ◌≤◌, ◌==◌, Bool, true, false, List, [], map, length, slice_index_or, Option, Some, None, if◌then◌else◌, filter, refl, sym, ap, ◌∙◌, subst}
+use Rattle.gtfs_tables.proofs.Common.{arith, ⊎_elim, Result, Ok, Err, option_and_then, AllPairs, eq-eqb, cases_lt, value_or, TripId, StartTime, EndTime, HeadwaySecs, ExactTimes, Frequencies}
+use Rattle.gtfs_tables.proofs.Common.{FeedFault, BadField, UnknownKey, Loaded, loaded_rows, row_count, number_in, field, field_at, length-list_below, get-list_below, FrequencyRow, FeedParts}
+use Rattle.gtfs_tables.proofs.Common.{IsSoundFeed, frequency_from, frequency_columns, frequency_at, frequency_rows, bad_frequency, no_frequency, frequencies_fault, fault_of_frequencies}
+use Rattle.gtfs_tables.proofs.Common.{repeats_of, IsFrequency, AreRepeats, AreRepeating, trip_ids, require-ok}
 use Rattle.std.proofs.lemmas.List.{get_or-map, length-map}
 use Rattle.std.proofs.lemmas.List.Elements.{All-filter, All-map}
 use Rattle.std.proofs.lemmas.List.Kept.{AllPairs-filter}
 use Rattle.std.specs.Result.{result_err}
-use Rattle.plan_model.specs.Results.{value_or}
 use Rattle.clock_text.specs.Digits.{whole_of}
 use Rattle.clock_text.specs.Times.{time_at}
-use Rattle.csv_rows.specs.declared.columns.Column.TheVariants.{TripId, StartTime, EndTime, HeadwaySecs, ExactTimes}
-use Rattle.csv_rows.specs.declared.feed_tables.Table.TheVariants.{Frequencies}
-use Rattle.csv_rows.specs.declared.feed_tables.FeedFault.{FeedFault}
-use Rattle.csv_rows.specs.declared.feed_tables.FeedFault.TheVariants.{BadField, UnknownKey}
-use Rattle.table_files.specs.declared.loading.Loaded.{Loaded}
 use Rattle.table_files.specs.declared.loading.Loaded.TheVariants.{Absent, NoRecord, Found}
 use Rattle.csv_rows.specs.First.{first_below}
-use Rattle.table_files.specs.Loading.{loaded_rows}
 use Rattle.csv_rows.specs.Names.{name_in}
-use Rattle.csv_rows.specs.Tables.{row_count, number_in, field, field_at}
 use Rattle.csv_rows.proofs.FirstLemmas.{first-zero, none-both, none-each}
-use Rattle.csv_rows.proofs.ListLemmas.{length-list_below, get-list_below}
-use Rattle.trip_frequencies.specs.declared.frequencies.FrequencyRow.{FrequencyRow}
 use Rattle.trip_frequencies.specs.declared.frequencies.TripFrequency.{TripFrequency}
 use Rattle.trip_frequencies.specs.FrequencyBounds.{most_headway}
-use Rattle.gtfs_tables.specs.Feeds.{FeedParts, IsSoundFeed}
 use Rattle.trip_frequencies.specs.FrequencyForms.{headway_in, is_exact_in}
-use Rattle.trip_frequencies.specs.Frequencies.{frequency_from, frequency_columns, frequency_at, frequency_rows, bad_frequency, no_frequency, frequencies_fault, fault_of_frequencies, repeats_of}
-use Rattle.gtfs_tables.specs.TripRepeats.{IsFrequency, AreRepeats, AreRepeating}
-use Rattle.feed_lists.specs.Trips.{trip_ids}
 use Rattle.trip_frequencies.proofs.FrequencyLemmas.{frequency_count}
 use Rattle.stop_times.proofs.RowForms.{time_below}
 use Rattle.clock_text.proofs.DigitLemmas.{whole_bound}
-use Rattle.plan_model.proofs.Results.{require-ok}
 
 -- a row of this line that is within its bounds
 record IsFormed (line : ℕ) (r : TripFrequency) : Type 0 where

@@ -1,15 +1,10 @@
 -- The tables of a feed are no larger than they may be.
-use Rattle.std.proofs.Common.{◌≡◌, ℕ, zero, suc, ◌+◌, ◌<◌, ◌≤◌, ◌==◌, Bool, true, false, List, [], ◌∷◌, ◌++◌, length, sum_by, if◌then◌else◌, refl, sym, ap, ◌∙◌, arith, ⊎_elim}
-use Rattle.std.proofs.lemmas.Bool.{cases_lt}
+use Rattle.gtfs_tables.proofs.Common.{◌≡◌, ℕ, zero, suc, ◌+◌, ◌<◌, ◌≤◌, ◌==◌, Bool, true, false, List, [], ◌∷◌, ◌++◌, length, sum_by, if◌then◌else◌, refl, sym, ap, ◌∙◌, arith, ⊎_elim, cases_lt}
+use Rattle.gtfs_tables.proofs.Common.{list_below-zero, list_below-next, length-list_below, FrequencyRow, IsSmall, repeats_in, all_repeats_in, feed_parts_of, IsWholeFeed}
 use Rattle.std.proofs.lemmas.Bool.Decides.{nat_tests}
 use Rattle.std.proofs.lemmas.List.Sums.{sum_by_push}
 use Rattle.csv_rows.specs.Lists.{list_below}
-use Rattle.csv_rows.proofs.ListLemmas.{list_below-zero, list_below-next, length-list_below}
-use Rattle.trip_frequencies.specs.declared.frequencies.FrequencyRow.{FrequencyRow}
 use Rattle.gtfs_tables.specs.declared.feed.Feed.TheInside.{Inside}
-use Rattle.gtfs_tables.specs.TripRepeats.{IsSmall}
-use Rattle.trip_frequencies.specs.Repeats.{repeats_in, all_repeats_in}
-use Rattle.gtfs_tables.specs.FeedInside.{feed_parts_of, IsWholeFeed}
 
 abbrev total : List ℕ → List FrequencyRow → ℕ → ℕ
 total trips rows n = sum_by length (all_repeats_in trips rows n)

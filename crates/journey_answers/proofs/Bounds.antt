@@ -1,15 +1,9 @@
 -- The bounds of a plan, and those that `check` finds of its graph.
-use Rattle.std.proofs.Common.{◌≡◌, ℕ, ◌+◌, ◌/◌, ◌≤◌, arith, Option, Some, List, [], ◌∷◌, refl, sym, ◌∙◌, ap}
+use Rattle.journey_answers.proofs.Common.{◌≡◌, ℕ, ◌+◌, ◌/◌, ◌≤◌, arith, Option, Some, List, [], ◌∷◌, refl, sym, ◌∙◌, ap, Outcome, Query, NetworkModel, to_of, arr_of, outcomes, nanos_per_second}
+use Rattle.journey_answers.proofs.Common.{Tree, Done, Ride, Stuck, Kids, Nil, Kid, IsSafe, AreSafe, IsSafeFor}
 use Rattle.interval_fixed.specs.Interval.{Interval}
 use Rattle.interval_fixed.specs.Means.{weighted_lo, weighted_hi}
-use Rattle.plan_model.specs.declared.model.Outcome.{Outcome}
-use Rattle.plan_model.specs.declared.model.Query.{Query}
-use Rattle.plan_model.specs.NetworkModel.{NetworkModel}
-use Rattle.plan_model.specs.Network.{to_of, arr_of, outcomes}
-use Rattle.plan_model.specs.Bounds.{nanos_per_second}
 use Rattle.plan_model.specs.Expected.{arrival}
-use Rattle.plan_model.specs.Tree.{Tree, Done, Ride, Stuck, Kids, Nil, Kid}
-use Rattle.plan_model.specs.Strategy.{IsSafe, AreSafe, IsSafeFor}
 use Rattle.value_laws.specs.Rounded.{rounded_up, sum_up, rounded_down, sum_down}
 use Rattle.graph_score.specs.Spans.{span_of, spans_of}
 use Rattle.decision_graph.specs.GraphValues.{IsBest}

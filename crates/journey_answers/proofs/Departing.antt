@@ -1,17 +1,9 @@
 -- When one can leave: the latest moment, and that some strategy is safe.
-use Rattle.std.proofs.Common.{◌≡◌, ℕ, zero, ◌<◌, ◌≤◌, List, [], ◌∷◌, length, Option, Some, true, refl, subst, arith, ◌≢◌, MatchOption, nat_le}
+use Rattle.journey_answers.proofs.Common.{◌≡◌, ℕ, zero, ◌<◌, ◌≤◌, List, [], ◌∷◌, length, Option, Some, true, refl, subst, arith, ◌≢◌, MatchOption, nat_le, Moment, NetworkModel, Tree, Done, Ride}
+use Rattle.journey_answers.proofs.Common.{Stuck, IsSafeFromStart, IsNoneSafe, DepartureRow, Problem, Query, AreByRules}
 use Rattle.std.proofs.lemmas.Bool.Decides.{nat_tests}
-use Rattle.plan_model.specs.declared.model.Moment.{Moment}
 use Rattle.plan_model.specs.declared.model.PlaceId.{PlaceId}
-use Rattle.plan_model.specs.NetworkModel.{NetworkModel}
-use Rattle.plan_model.specs.Tree.{Tree, Done, Ride, Stuck}
-use Rattle.plan_model.specs.Strategy.{IsSafeFromStart}
-use Rattle.decision_graph.specs.Expanded.{IsNoneSafe}
-use Rattle.departure_table.specs.declared.DepartureRow.{DepartureRow}
 use Rattle.departure_table.specs.Departures.{IsNoneSafeFrom, SafeFrom, IsBestFrom, IsGreatestMoment, IsTable, first_row_by}
-use Rattle.journey_model.specs.declared.problem.Problem.{Problem}
-use Rattle.plan_model.specs.declared.model.Query.{Query}
-use Rattle.journey_answers.specs.ByRules.{AreByRules}
 use Rattle.journey_answers.specs.Departures.{SafeOf, AreDepartures, HasSafeFor}
 
 module _ (n : NetworkModel) (source target deadline : ℕ) where

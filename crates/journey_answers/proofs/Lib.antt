@@ -1,3 +1,4 @@
+mod Common
 pub mod Sought
 pub mod Bounds
 pub mod Departing

@@ -1,14 +1,9 @@
 -- The departures are those that the rules give.
-use Rattle.std.proofs.Common.{◌≡◌, ℕ, List, subst}
-use Rattle.plan_model.specs.declared.model.Query.{Query}
-use Rattle.plan_model.specs.NetworkModel.{NetworkModel}
+use Rattle.journey_answers.proofs.Common.{◌≡◌, ℕ, List, subst, Query, NetworkModel, DepartureRow, Problem, IsRuled, AreByRules, added_query}
 use Rattle.plan_model.specs.View.{extended}
 use Rattle.value_laws.specs.declared.MeanSpan.{MeanSpan}
 use Rattle.meat_scan.specs.ScanResult.{ScanResult}
-use Rattle.departure_table.specs.declared.DepartureRow.{DepartureRow}
 use Rattle.departure_table.specs.Looked.{row_found, AreLooked}
-use Rattle.journey_model.specs.declared.problem.Problem.{Problem}
-use Rattle.journey_answers.specs.ByRules.{IsRuled, AreByRules, added_query}
 
 pub by_rules : (p : Problem) (q : Query) (last : ℕ) (rows : List DepartureRow) (n : NetworkModel) (asked : Query) (found : ScanResult MeanSpan)
     → n ≡ extended p.timetable.network q.source.0 → asked ≡ added_query p.timetable.network q → IsRuled n asked found

@@ -1,12 +1,6 @@
 -- A search that has a least worst arrival has a safe strategy.
-use Rattle.std.proofs.Common.{◌≡◌, Option, Some, None, ◌≤◌, ℕ, MatchOption, subst}
-use Rattle.plan_model.specs.declared.model.Moment.{Moment}
-use Rattle.plan_model.specs.declared.model.Query.{Query}
-use Rattle.plan_model.specs.NetworkModel.{NetworkModel}
+use Rattle.journey_answers.proofs.Common.{◌≡◌, Option, Some, None, ◌≤◌, ℕ, MatchOption, subst, Moment, Query, NetworkModel, IsNoneSafe, Problem, IsWorst, IsQueryOf, InQuery}
 use Rattle.plan_model.proofs.Laws.{safe_exists}
-use Rattle.decision_graph.specs.Expanded.{IsNoneSafe}
-use Rattle.journey_model.specs.declared.problem.Problem.{Problem}
-use Rattle.journey_answers.specs.Answers.{IsWorst, IsQueryOf, InQuery}
 
 -- where the deadline is not before the least worst arrival, some strategy is safe
 pub none_is_safe : (n : NetworkModel) (q : Query) (worst : Moment) → IsWorst n q worst → worst.0 ≤ q.deadline.0 → IsNoneSafe n q → ⊥

@@ -1,21 +1,11 @@
 -- The fault of a trip, and where it is.
-use Rattle.std.proofs.Common.{◌≡◌, ℕ, List, None, Some, Result, Err, sym, subst, arith, refl, ◌≢◌, ◌<◌, ◌≤◌, length}
-use Rattle.plan_model.specs.declared.model.Query.{Query}
-use Rattle.plan_graph.specs.declared.PlanGraph.{PlanGraph}
+use Rattle.journey_answers.proofs.Common.{◌≡◌, ℕ, List, None, Some, Result, Err, sym, subst, arith, refl, ◌≢◌, ◌<◌, ◌≤◌, length, Query, PlanGraph, IsAnswer, Replay, NoMemory, unread_input}
+use Rattle.journey_answers.proofs.Common.{last_printable, HasSite, Problem, parts_of, last_start, arrivals, places, replay_as, IsSafeTrip, trip_by, IsTripFault}
 use Rattle.graph_text.specs.declared.Head.{Head}
 use Rattle.trip_replay.specs.declared.ReplayFault.{ReplayFault}
 use Rattle.trip_replay.specs.declared.ReplayFault.TheVariants as replay
 use Rattle.trip_replay.specs.declared.Trace.{Trace}
 use Rattle.trip_replay.specs.Rides.{IsStuckAfter}
-use Rattle.trip_replay.specs.Walk.{IsAnswer}
-use Rattle.journey_model.specs.declared.faults.Fault.TheVariants.{Replay, NoMemory}
-use Rattle.journey_model.specs.Faults.{unread_input}
-use Rattle.journey_model.specs.Sites.{last_printable, HasSite}
-use Rattle.journey_model.specs.declared.problem.Problem.{Problem}
-use Rattle.journey_model.specs.Known.{parts_of}
-use Rattle.plan_model.specs.Bounds.{last_start}
-use Rattle.journey_report.proofs.TextLemmas.{arrivals, places}
-use Rattle.journey_answers.specs.Trips.{replay_as, IsSafeTrip, trip_by, IsTripFault}
 
 -- a trip is stuck at a place with a name, at a moment that has a text
 pub stuck_has_site : (p : Problem) (q : Query) → q.source.0 < length p.timetable.network.change → q.start.0 ≤ last_start

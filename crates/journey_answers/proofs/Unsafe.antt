@@ -1,25 +1,14 @@
 -- Where one may fail by a graph: at a place of the network, at a moment that has a text.
-use Rattle.std.proofs.Common.{◌≡◌, ℕ, zero, suc, ◌+◌, ◌-◌, ◌<◌, ◌≤◌, List, [], ◌∷◌, length, Bool, true, false, Option, Some, None, inl, inr, refl, sym}
-use Rattle.std.proofs.Common.{subst, arith, All, if◌then◌else◌, ◌==◌}
+use Rattle.journey_answers.proofs.Common.{◌≡◌, ℕ, zero, suc, ◌+◌, ◌-◌, ◌<◌, ◌≤◌, List, [], ◌∷◌, length, Bool, true, false, Option, Some, None, inl, inr, refl, sym, subst, arith, All}
+use Rattle.journey_answers.proofs.Common.{if◌then◌else◌, ◌==◌, MatchOption-at_some, Outcome, Query, NetworkModel, IsValid, count, connection, arr_of, Tree, Done, Stuck, PlanGraph, unfold_plan}
+use Rattle.journey_answers.proofs.Common.{IsUnsafe, Problem, last_start, seconds_per_day, last_printable}
 use Rattle.std.proofs.lemmas.List.Elements.{All-head, All-tail}
-use Rattle.std.proofs.lemmas.Option.{MatchOption-at_some}
 use Rattle.plan_model.specs.declared.model.Leg.{Leg}
-use Rattle.plan_model.specs.declared.model.Outcome.{Outcome}
-use Rattle.plan_model.specs.declared.model.Query.{Query}
-use Rattle.plan_model.specs.NetworkModel.{NetworkModel}
-use Rattle.plan_model.specs.Network.{IsValid, count, connection, arr_of}
-use Rattle.plan_model.specs.Tree.{Tree, Done, Stuck}
 use Rattle.plan_model.specs.Unfold.{end_of, outcomes_of, kids_after, ride_or_stuck, unfold_after, unfold_from, by_place}
-use Rattle.plan_graph.specs.declared.PlanGraph.{PlanGraph}
 use Rattle.plan_graph.specs.PickedRows.{pick_at}
 use Rattle.plan_graph.specs.Tidy.{IsFit}
-use Rattle.plan_graph.specs.Unfold.{unfold_plan}
 use Rattle.plan_graph.proofs.Picked.{picked_leg}
 use Rattle.graph_score.specs.Failures.{Fails, FailsIn}
-use Rattle.graph_score.specs.Scores.{IsUnsafe}
-use Rattle.journey_model.specs.declared.problem.Problem.{Problem}
-use Rattle.plan_model.specs.Bounds.{last_start, seconds_per_day}
-use Rattle.journey_model.specs.Sites.{last_printable}
 
 module _ (n : NetworkModel) (valid : IsValid n) (q : Query) (target_in : q.target.0 < length n.change)
     (choice : Leg → ℕ → Option Leg) (there : (leg : Leg) (x : ℕ) (next : Leg) → choice leg x ≡ Some next → next.exit.0 < count n) where

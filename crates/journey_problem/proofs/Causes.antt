@@ -1,13 +1,7 @@
 -- The causes of a step after others.
-use Rattle.std.proofs.Common.{◌≡◌, ℕ, List, Option, None, Result, Ok, Err, sym, ap, subst, IfErr, IsErrAnd}
+use Rattle.journey_problem.proofs.Common.{◌≡◌, ℕ, List, Option, None, Result, Ok, Err, sym, ap, subst, IfErr, IsErrAnd, FilesState, causes-of, causes-idle, causes-silent, causes-next, Input}
+use Rattle.journey_problem.proofs.Common.{Fault, Read, unread_input, MayBeUnread, HasCauses}
 use Rattle.file_ports.specs.Counts.{HasCausesOf}
-use Rattle.file_ports.specs.Ports.{FilesState}
-use Rattle.file_ports.proofs.CauseLemmas.{causes-of, causes-idle, causes-silent, causes-next}
-use Rattle.journey_model.specs.declared.faults.Input.{Input}
-use Rattle.journey_model.specs.declared.faults.Fault.{Fault}
-use Rattle.journey_model.specs.declared.faults.Fault.TheVariants.{Read}
-use Rattle.journey_model.specs.Faults.{unread_input, MayBeUnread}
-use Rattle.journey_problem.specs.Files.{HasCauses}
 
 -- whose fault is not that a file cannot be read
 not_read : {T : Type 0} (r : Result T Fault) → IfErr r (λ fault. unread_input fault ≡ None) → (input : Input) → IsErrAnd r (λ fault. fault ≡ Read input) → ⊥

@@ -1,25 +1,10 @@
 -- The steps of reading a cut file, put together.
-use Rattle.std.proofs.Common.{◌≡◌, ℕ, List, Option, Some, None, Result, Ok, Err, sym, ap, subst, ◌∙◌, ◌≢◌, IfOk, IfErr, OnOk, IfSome}
+use Rattle.journey_problem.proofs.Common.{◌≡◌, ℕ, List, Option, Some, None, Result, Ok, Err, sym, ap, subst, ◌∙◌, ◌≢◌, IfOk, IfErr, OnOk, IfSome, FileMap, file_at, Limits, IsCutNetwork, CutParts}
+use Rattle.journey_problem.proofs.Common.{IsCutRead, DelayLists, AreDelays, NameLists, NetworkModel, Timetable, JourneyModel, Input, Fault, NoMemory, IsFirst, MayBeUnread, unread_input, Problem}
+use Rattle.journey_problem.proofs.Common.{Records, HasCut, cut_fault, cut_records, delay_fault, IsCutOfSome, AreDelaysOf, places_in, stop_fault, cut_problem_fault, IsNamed, IsCutProblem}
+use Rattle.journey_problem.proofs.Common.{HasCutTimetable}
 use Rattle.std.specs.Option.{option_or}
-use Rattle.file_ports.specs.Ports.{FileMap, file_at}
-use Rattle.csv_rows.specs.declared.limits.Limits.{Limits}
-use Rattle.cut_file.specs.CutNetwork.{IsCutNetwork}
-use Rattle.cut_file.specs.Read.{Cut as CutParts, IsCutRead}
-use Rattle.delay_table.specs.DelayLists.{DelayLists}
-use Rattle.delay_table.specs.Slots.{AreDelays}
-use Rattle.plan_model.specs.NameLists.{NameLists}
-use Rattle.plan_model.specs.NetworkModel.{NetworkModel}
-use Rattle.plan_model.specs.declared.timetable.Timetable.{Timetable}
-use Rattle.command_line.specs.Jobs.{JourneyModel}
-use Rattle.journey_model.specs.declared.faults.Input.{Input}
 use Rattle.journey_model.specs.declared.faults.Input.TheVariants as input
-use Rattle.journey_model.specs.declared.faults.Fault.{Fault}
-use Rattle.journey_model.specs.declared.faults.Fault.TheVariants.{NoMemory}
-use Rattle.journey_model.specs.Faults.{IsFirst, MayBeUnread, unread_input}
-use Rattle.journey_model.specs.declared.problem.Problem.{Problem}
-use Rattle.journey_problem.specs.Files.{Records}
-use Rattle.journey_problem.specs.InputTables.{HasCut, cut_fault, cut_records, delay_fault, IsCutOfSome, AreDelaysOf}
-use Rattle.journey_problem.specs.CutProblems.{places_in, stop_fault, cut_problem_fault, IsNamed, IsCutProblem, HasCutTimetable}
 
 -- what holds of a network and its names, holds of the problem of them
 pub of_parts : (P : NetworkModel → NameLists → Type 0) (n : NetworkModel) (names : NameLists) (t : Timetable) → t.network ≡ n → t.names ≡ names → P n names

@@ -1,11 +1,7 @@
 -- Faults of an input of a journey's timetable.
-use Rattle.std.proofs.Common.{ℕ}
-use Rattle.command_line.specs.Jobs.{TimetableModel}
-use Rattle.journey_model.specs.declared.faults.Input.{Input}
+use Rattle.journey_problem.proofs.Common.{ℕ, TimetableModel, Input, Missing, Limit, Read, stage_of_input, IsStageBeforeSearch}
 use Rattle.journey_model.specs.declared.faults.Input.TheVariants as input
 use Rattle.journey_model.specs.declared.faults.LimitKind.TheVariants.{Bytes}
-use Rattle.journey_model.specs.declared.faults.Fault.TheVariants.{Missing, Limit, Read}
-use Rattle.journey_model.specs.Stages.{stage_of_input, IsStageBeforeSearch}
 use Rattle.journey_problem.specs.FaultsBeforeSearch.{IsInputOf, IsBeforeSearch}
 
 -- it is read before the graph file

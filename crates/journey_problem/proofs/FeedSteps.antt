@@ -1,19 +1,7 @@
 -- The steps of reading a feed, put together.
-use Rattle.std.proofs.Common.{◌≡◌, ℕ, List, Option, Some, None, Result, Ok, Err, inr, sym, subst, ◌≢◌, IfOk, IfErr, OnOk, IfSome}
-use Rattle.file_ports.specs.Ports.{FileMap, file_at}
-use Rattle.csv_rows.specs.declared.limits.Limits.{Limits}
-use Rattle.change_times.specs.Transfers.{place_of_stop}
-use Rattle.connections.specs.Cut.{IsNetworkFrom}
-use Rattle.delay_table.specs.DelayLists.{DelayLists}
-use Rattle.delay_table.specs.Slots.{AreDelays}
-use Rattle.command_line.specs.Jobs.{JourneyModel}
-use Rattle.journey_model.specs.declared.faults.Input.{Input}
-use Rattle.journey_model.specs.declared.faults.Fault.{Fault}
-use Rattle.journey_model.specs.declared.faults.Fault.TheVariants.{NoMemory}
-use Rattle.journey_model.specs.declared.problem.Problem.{Problem}
-use Rattle.journey_model.specs.Faults.{MayBeUnread, unread_input}
-use Rattle.journey_problem.specs.InputTables.{AreDelaysOf, delay_fault}
-use Rattle.journey_problem.specs.FeedProblems.{GtfsFolder, IsFolder, IsSoundFolder, IsWindowFault, IsFaultAfterFolder, IsFeedProblem, HasFeedTimetable, window_fault_of}
+use Rattle.journey_problem.proofs.Common.{◌≡◌, ℕ, List, Option, Some, None, Result, Ok, Err, inr, sym, subst, ◌≢◌, IfOk, IfErr, OnOk, IfSome, FileMap, file_at, Limits, place_of_stop}
+use Rattle.journey_problem.proofs.Common.{IsNetworkFrom, DelayLists, AreDelays, JourneyModel, Input, Fault, NoMemory, Problem, MayBeUnread, unread_input, AreDelaysOf, delay_fault, GtfsFolder}
+use Rattle.journey_problem.proofs.Common.{IsFolder, IsSoundFolder, IsWindowFault, IsFaultAfterFolder, IsFeedProblem, HasFeedTimetable, window_fault_of}
 
 -- what holds of a known folder before and after a step that leaves it the same
 pub if_some_both : {A : Type 0} (o later : Option A) {P Q R : A → Type 0} → later ≡ o → IfSome o P → IfSome later Q → ((a : A) → P a → Q a → R a) → IfSome o R

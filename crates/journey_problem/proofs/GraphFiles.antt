@@ -1,17 +1,10 @@
 -- The head and the graph of a graph file, from its bytes.
-use Rattle.std.proofs.Common.{◌≡◌, ℕ, List, Option, None, Result, Ok, Err, ap, ◌∙◌, refl, sym, ◌≢◌, IfErr, IfOk}
+use Rattle.journey_problem.proofs.Common.{◌≡◌, ℕ, List, Option, None, Result, Ok, Err, ap, ◌∙◌, refl, sym, ◌≢◌, IfErr, IfOk, Limits, Input, Fault, NoMemory, unread_input, Problem, bytes_of, Finds}
 use Rattle.plan_model.specs.Results.{and_then}
-use Rattle.csv_rows.specs.declared.limits.Limits.{Limits}
 use Rattle.plan_graph.specs.declared.PlanGraph.{PlanGraph}
 use Rattle.graph_text.specs.declared.Head.{Head}
 use Rattle.graph_text.specs.Reading.{graph_of}
-use Rattle.journey_model.specs.declared.faults.Input.{Input}
 use Rattle.journey_model.specs.declared.faults.Input.TheVariants as input
-use Rattle.journey_model.specs.declared.faults.Fault.{Fault}
-use Rattle.journey_model.specs.declared.faults.Fault.TheVariants.{NoMemory}
-use Rattle.journey_model.specs.Faults.{unread_input}
-use Rattle.journey_model.specs.declared.problem.Problem.{Problem}
-use Rattle.journey_problem.specs.Files.{bytes_of, Finds}
 use Rattle.journey_problem.specs.GraphFiles.{graph_as, graph_in}
 
 module _ (limits : Limits) (p : Problem) (start : ℕ) (file : Option (List ℕ)) (bytes text : List ℕ) (there : bytes_of limits.bytes input.Graph None file ≡ Ok bytes) (same : text ≡ bytes) where

@@ -1,12 +1,8 @@
 -- What a loaded file gives.
-use Rattle.std.proofs.Common.{◌≡◌, ℕ, List, Option, Some, None, Err, Bool, true, arith, refl, ap, IfSome, ◌==◌, if◌then◌else◌}
+use Rattle.journey_problem.proofs.Common.{◌≡◌, ℕ, List, Option, Some, None, Err, Bool, true, arith, refl, ap, IfSome, ◌==◌, if◌then◌else◌, rank_of, Input, Read, is_unread_input, bytes_of}
+use Rattle.journey_problem.proofs.Common.{bytes_present}
 use Rattle.std.proofs.lemmas.Bool.Decides.{nat_tests}
-use Rattle.csv_rows.specs.FeedTables.{rank_of}
-use Rattle.journey_model.specs.declared.faults.Input.{Input}
 use Rattle.journey_model.specs.declared.faults.Input.TheVariants as input
-use Rattle.journey_model.specs.declared.faults.Fault.TheVariants.{Read}
-use Rattle.journey_model.specs.Faults.{is_unread_input}
-use Rattle.journey_problem.specs.Files.{bytes_of, bytes_present}
 
 pub if_some_any : {A : Type 0} (o : Option A) (P : A → Type 0) → ((a : A) → P a) → IfSome o P
 if_some_any None P f = tt

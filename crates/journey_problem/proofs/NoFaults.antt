@@ -1,27 +1,12 @@
 -- Files of which a problem is made have no fault.
-use Rattle.std.proofs.Common.{◌≡◌, ℕ, refl, sym, ap, ◌∙◌, subst, inl, inr, List, Option, Some, None, Result, Ok, Err, ◌≢◌, IsOkAnd}
-use Rattle.file_ports.specs.Ports.{FileMap, file_at}
-use Rattle.csv_rows.specs.declared.limits.Limits.{Limits}
+use Rattle.journey_problem.proofs.Common.{◌≡◌, ℕ, refl, sym, ap, ◌∙◌, subst, inl, inr, List, Option, Some, None, Result, Ok, Err, ◌≢◌, IsOkAnd, FileMap, file_at, Limits, FeedFault, unread_table}
+use Rattle.journey_problem.proofs.Common.{FeedParts, Tables, tables_in, IsFeedOf, calendars_in, RunsBy, runs, AreCollectedChanges, transfers_in, place_of_stop, TimetableModel, CutFile, FeedFolder}
+use Rattle.journey_problem.proofs.Common.{JourneyModel, Input, Fault, Read, NoMemory, unread_input, cut_problem_fault, delay_fault, feed_as, GtfsFolder, IsFolder, IsFolderFault, IsLaterTableFault}
+use Rattle.journey_problem.proofs.Common.{IsFaultAfterFolder, IsWindowFault, IsFeedProblem, IsFeedProblemFault, feed_stop_fault, window_fault_of, IsProblem, IsProblemOver, IsProblemFault}
+use Rattle.journey_problem.proofs.Common.{IsProblemFaultOver}
 use Rattle.csv_rows.specs.declared.feed_tables.Table.{Table}
-use Rattle.csv_rows.specs.declared.feed_tables.FeedFault.{FeedFault}
 use Rattle.csv_rows.specs.declared.feed_tables.FeedFault.TheVariants as feed
-use Rattle.csv_rows.specs.FeedTables.{unread_table}
-use Rattle.gtfs_tables.specs.Feeds.{FeedParts, Tables, tables_in, IsFeedOf}
-use Rattle.service_days.specs.Calendars.{calendars_in, RunsBy}
-use Rattle.service_days.specs.Services.{runs}
-use Rattle.change_times.specs.Changes.{AreCollectedChanges, transfers_in}
-use Rattle.change_times.specs.Transfers.{place_of_stop}
-use Rattle.command_line.specs.Jobs.{TimetableModel, CutFile, FeedFolder, JourneyModel}
-use Rattle.journey_model.specs.declared.faults.Input.{Input}
 use Rattle.journey_model.specs.declared.faults.Input.TheVariants as input
-use Rattle.journey_model.specs.declared.faults.Fault.{Fault}
-use Rattle.journey_model.specs.declared.faults.Fault.TheVariants.{Read, NoMemory}
-use Rattle.journey_model.specs.Faults.{unread_input}
-use Rattle.journey_problem.specs.CutProblems.{cut_problem_fault}
-use Rattle.journey_problem.specs.InputTables.{delay_fault}
-use Rattle.journey_problem.specs.FeedProblems.{feed_as, GtfsFolder, IsFolder, IsFolderFault, IsLaterTableFault, IsFaultAfterFolder, IsWindowFault, IsFeedProblem, IsFeedProblemFault}
-use Rattle.journey_problem.specs.FeedProblems.{feed_stop_fault, window_fault_of}
-use Rattle.journey_problem.specs.Problems.{IsProblem, IsProblemOver, IsProblemFault, IsProblemFaultOver}
 use Rattle.journey_problem.proofs.OneFeed.{one_feed_of}
 use Rattle.journey_problem.proofs.OneFeedProblem.{one_folder, one_window_fault}
 

@@ -1,17 +1,9 @@
 -- A cut file with delays makes one network.
-use Rattle.std.proofs.Common.{◌≡◌, ℕ, ◌<◌, ◌⊎◌, inl, inr, sym, ◌∙◌, subst, arith, List, [], length, get_or, ext_get_or}
-use Rattle.std.proofs.lemmas.Option.{slice_get-get_or}
-use Rattle.plan_model.specs.NameLists.{NameLists, AreDistinct}
-use Rattle.plan_model.specs.NetworkModel.{NetworkModel}
-use Rattle.plan_model.proofs.SameParts.{same_parts}
-use Rattle.plan_model.specs.Network.{change_of, connection, count, no_connection, IsValid}
+use Rattle.journey_problem.proofs.Common.{◌≡◌, ℕ, ◌<◌, ◌⊎◌, inl, inr, sym, ◌∙◌, subst, arith, List, [], length, get_or, ext_get_or, slice_get-get_or, NameLists, AreDistinct, NetworkModel}
+use Rattle.journey_problem.proofs.Common.{same_parts, change_of, connection, count, no_connection, IsValid, row_count, DelayLists, row, IsRide, IsCutNetwork, runs_distinct, places_distinct}
+use Rattle.journey_problem.proofs.Common.{one_number}
 use Rattle.plan_model.specs.declared.model.Connection.{Connection}
-use Rattle.csv_rows.specs.Tables.{row_count}
-use Rattle.delay_table.specs.DelayLists.{DelayLists}
 use Rattle.cut_file.specs.CutRows.{Row}
-use Rattle.cut_file.specs.Faults.{row}
-use Rattle.cut_file.specs.CutNetwork.{IsRide, IsCutNetwork}
-use Rattle.cut_file.proofs.Distinct.{runs_distinct, places_distinct, one_number}
 use Rattle.journey_problem.proofs.OneOrder.{Enumerates, agree, same_size}
 
 -- by run, and then by step

@@ -1,17 +1,6 @@
 -- A cut file with a delay file has one problem.
-use Rattle.std.proofs.Common.{◌≡◌, ℕ, sym, ap, ◌∙◌, subst, List, Option, Some, Result, Ok, slice_get}
-use Rattle.file_ports.specs.Ports.{FileMap, file_at}
-use Rattle.csv_rows.specs.declared.limits.Limits.{Limits}
-use Rattle.plan_model.specs.NameLists.{NameLists, AreDistinct}
-use Rattle.delay_table.specs.DelayLists.{DelayLists}
-use Rattle.delay_table.specs.Delays.{delays_of}
-use Rattle.cut_file.specs.CutNetwork.{IsCutNetwork}
-use Rattle.cut_file.proofs.Distinct.{one_number}
-use Rattle.command_line.specs.Jobs.{JourneyModel}
-use Rattle.journey_model.specs.declared.problem.Problem.{Problem}
-use Rattle.journey_problem.specs.Files.{Records}
-use Rattle.journey_problem.specs.InputTables.{AreDelaysOf}
-use Rattle.journey_problem.specs.CutProblems.{IsCutProblem}
+use Rattle.journey_problem.proofs.Common.{◌≡◌, ℕ, sym, ap, ◌∙◌, subst, List, Option, Some, Result, Ok, slice_get, FileMap, file_at, Limits, NameLists, AreDistinct, DelayLists, delays_of}
+use Rattle.journey_problem.proofs.Common.{IsCutNetwork, one_number, JourneyModel, Problem, Records, AreDelaysOf, IsCutProblem}
 use Rattle.journey_problem.proofs.OneCutNetwork.{one_network, same_names, runs_apart, places_apart}
 use Rattle.journey_problem.proofs.SameProblem.{same_problem}
 

@@ -1,13 +1,11 @@
 -- The tables of a feed make one feed.
-use Rattle.std.proofs.Common.{◌≡◌, ℕ, ◌<◌, sym, ap, ◌∙◌, arith, List, [], length, Some, Result, Ok, Err, true, is_some, ext_get_or}
-use Rattle.csv_rows.specs.Tables.{row_count}
-use Rattle.csv_rows.specs.declared.feed_tables.FeedFault.{FeedFault}
+use Rattle.journey_problem.proofs.Common.{◌≡◌, ℕ, ◌<◌, sym, ap, ◌∙◌, arith, List, [], length, Some, Result, Ok, Err, true, is_some, ext_get_or, row_count, FeedFault, FeedParts, Tables, IsFeed}
+use Rattle.journey_problem.proofs.Common.{IsFeedOf}
 use Rattle.stop_times.specs.declared.rows.StopRow.{StopRow}
 use Rattle.stop_times.specs.StopTimes.{row_at, is_kept, timed_rows}
 use Rattle.feed_lists.specs.Stops.{stop_ids, stop_places}
 use Rattle.feed_lists.specs.Trips.{trip_ids}
 use Rattle.stop_times.specs.Visits.{no_visit, IsVisit, AreStopTimes}
-use Rattle.gtfs_tables.specs.Feeds.{FeedParts, Tables, IsFeed, IsFeedOf}
 use Rattle.journey_problem.proofs.OneOrder.{Enumerates, agree, same_size}
 
 never_both : (rows : _) (a b : ℕ) → (row_at rows a).sequence < (row_at rows b).sequence → (row_at rows b).sequence < (row_at rows a).sequence → ⊥

@@ -1,21 +1,11 @@
 -- A folder with a delay file has one problem.
-use Rattle.std.proofs.Common.{◌≡◌, ℕ, ◌<◌, ◌≤◌, sym, ap, ◌∙◌, subst, arith, List, [], length, ⊎_elim, Some, None, Result, Ok, Err, IsOkAnd, option_map}
-use Rattle.std.proofs.lemmas.Bool.{cases_lt}
+use Rattle.journey_problem.proofs.Common.{◌≡◌, ℕ, ◌<◌, ◌≤◌, sym, ap, ◌∙◌, subst, arith, List, [], length, ⊎_elim, Some, None, Result, Ok, Err, IsOkAnd, option_map, cases_lt, FileMap, file_at}
+use Rattle.journey_problem.proofs.Common.{Limits, FeedFault, DelayLists, FeedParts, tables_in, ServiceParts, runs, Calendars, calendars_in, RunsBy, ChangeParts, AreCollectedChanges, place_seconds}
+use Rattle.journey_problem.proofs.Common.{links_of, transfers_in, place_of_stop, IsNetworkFrom, connection_count, entry_count, JourneyModel, GtfsFolder, IsFolder, IsFeedProblem, window_as}
+use Rattle.journey_problem.proofs.Common.{window_fault_of}
 use Rattle.std.proofs.lemmas.List.{get_or_past}
-use Rattle.file_ports.specs.Ports.{FileMap, file_at}
-use Rattle.csv_rows.specs.declared.limits.Limits.{Limits}
-use Rattle.csv_rows.specs.declared.feed_tables.FeedFault.{FeedFault}
-use Rattle.delay_table.specs.DelayLists.{DelayLists}
 use Rattle.table_files.specs.Required.{Records}
-use Rattle.gtfs_tables.specs.Feeds.{FeedParts, tables_in}
-use Rattle.service_days.specs.Services.{ServiceParts, runs}
-use Rattle.service_days.specs.Calendars.{Calendars, calendars_in, RunsBy}
-use Rattle.change_times.specs.Changes.{ChangeParts, AreCollectedChanges, place_seconds, links_of, transfers_in}
-use Rattle.change_times.specs.Transfers.{place_of_stop}
-use Rattle.connections.specs.Cut.{IsNetworkFrom, connection_count, entry_count}
 use Rattle.connections.specs.Faults.{window_fault}
-use Rattle.command_line.specs.Jobs.{JourneyModel}
-use Rattle.journey_problem.specs.FeedProblems.{GtfsFolder, IsFolder, IsFeedProblem, window_as, window_fault_of}
 use Rattle.journey_problem.proofs.OneCutProblem.{delays_of_one}
 use Rattle.journey_problem.proofs.OneFeed.{one_feed_of}
 use Rattle.journey_problem.proofs.SameProblem.{same_problem}

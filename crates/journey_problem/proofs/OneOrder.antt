@@ -1,6 +1,5 @@
 -- One set in one order has one list.
-use Rattle.std.proofs.Common.{◌≡◌, ℕ, zero, suc, ◌<◌, ◌≤◌, sym, ap, ◌∙◌, subst, arith, ⊎_elim}
-use Rattle.std.proofs.lemmas.Bool.{cases_lt}
+use Rattle.journey_problem.proofs.Common.{◌≡◌, ℕ, zero, suc, ◌<◌, ◌≤◌, sym, ap, ◌∙◌, subst, arith, ⊎_elim, cases_lt}
 
 -- f at 0, 1 and on below n goes through the set in a strict order
 pub record Enumerates {A : Type 0} (S : A → Type 0) (L : A → A → Type 0) (f : ℕ → A) (n : ℕ) : Type 0 where

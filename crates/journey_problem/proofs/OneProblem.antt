@@ -1,9 +1,5 @@
 -- A journey over the same files has one problem.
-use Rattle.std.proofs.Common.{◌≡◌}
-use Rattle.file_ports.specs.Ports.{FileMap}
-use Rattle.csv_rows.specs.declared.limits.Limits.{Limits}
-use Rattle.command_line.specs.Jobs.{TimetableModel, CutFile, FeedFolder, JourneyModel}
-use Rattle.journey_problem.specs.Problems.{IsProblem, IsProblemOver}
+use Rattle.journey_problem.proofs.Common.{◌≡◌, FileMap, Limits, TimetableModel, CutFile, FeedFolder, JourneyModel, IsProblem, IsProblemOver}
 use Rattle.journey_problem.proofs.OneCutProblem.{one_cut_problem}
 use Rattle.journey_problem.proofs.OneFeedProblem.{one_feed_problem}
 

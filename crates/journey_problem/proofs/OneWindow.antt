@@ -1,24 +1,16 @@
 -- The window of a feed has one network and one list of names.
-use Rattle.std.proofs.Common.{◌≡◌, ℕ, ◌+◌, ◌<◌, ◌++◌, ◌∷◌, [], sym, ap, ◌∙◌, subst, arith, List, length, Bool, ℤ, slice_index_or, if◌then◌else◌, ext_get_or}
-use mathlib.Core.Path.{fun_ext}
-use Rattle.plan_model.specs.declared.model.PlaceId.{PlaceId}
+use Rattle.journey_problem.proofs.Common.{◌≡◌, ℕ, ◌+◌, ◌<◌, ◌++◌, ◌∷◌, [], sym, ap, ◌∙◌, subst, arith, List, length, Bool, ℤ, slice_index_or, if◌then◌else◌, ext_get_or, fun_ext, PlaceId}
+use Rattle.journey_problem.proofs.Common.{NameLists, NetworkModel, same_parts, ChangeParts, place_seconds, links_of, DelayLists, FeedParts, ServiceParts, runs, IsNetworkFrom, connection_count}
+use Rattle.journey_problem.proofs.Common.{entry_count}
 use Rattle.plan_model.specs.declared.model.Way.{Way}
-use Rattle.plan_model.specs.NameLists.{NameLists}
-use Rattle.plan_model.specs.NetworkModel.{NetworkModel}
-use Rattle.plan_model.proofs.SameParts.{same_parts}
 use Rattle.csv_rows.specs.Lists.{list_below}
-use Rattle.change_times.specs.Changes.{ChangeParts, place_seconds, links_of}
 use Rattle.clock_text.proofs.OneDate.{one_date}
-use Rattle.delay_table.specs.DelayLists.{DelayLists}
-use Rattle.gtfs_tables.specs.Feeds.{FeedParts}
 use Rattle.gtfs_tables.specs.Timed.{rows_of}
-use Rattle.service_days.specs.Services.{ServiceParts, runs}
 use Rattle.connections.specs.Joins.{join_below, sum_below}
 use Rattle.connections.specs.Window.{day_at, window_of}
 use Rattle.connections.specs.TripRuns.{frequencies_of, runs_of_trip, day_runs, runs_below, window_runs, run_at, days}
 use Rattle.connections.specs.Counts.{runs_sum, day_sum, days_sum, window_sum}
 use Rattle.connections.specs.FeedNetworks.{start_text, IsRunName, AreRunNames, connections_below}
-use Rattle.connections.specs.Cut.{IsNetworkFrom, connection_count, entry_count}
 
 -- they run on the same days
 abbrev pub SameDays : ServiceParts → ServiceParts → Type 0

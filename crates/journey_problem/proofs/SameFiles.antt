@@ -1,19 +1,9 @@
 -- Files with the same bytes have the same problems.
-use Rattle.std.proofs.Common.{◌≡◌, ℕ, ap, subst, List, Option, None, IsOkAnd}
-use mathlib.Core.Path.{fun_ext}
-use Rattle.file_ports.specs.Ports.{FileMap, file_at}
-use Rattle.csv_rows.specs.declared.limits.Limits.{Limits}
-use Rattle.csv_rows.specs.FeedTables.{path_of}
+use Rattle.journey_problem.proofs.Common.{◌≡◌, ℕ, ap, subst, List, Option, None, IsOkAnd, fun_ext, FileMap, file_at, Limits, path_of, tables_in, tables_from, IsFeedOf, runs, calendars_in}
+use Rattle.journey_problem.proofs.Common.{calendars_from, calendar_from, dates_from, RunsBy, AreCollectedChanges, transfers_from, JourneyModel, Problem, AreDelaysOf, delay_fault, GtfsFolder}
+use Rattle.journey_problem.proofs.Common.{IsFolder, IsFeedProblem}
 use Rattle.table_files.specs.Loading.{load_of}
 use Rattle.csv_rows.specs.declared.feed_tables.Table.TheVariants.{Calendar, CalendarDates, Transfers}
-use Rattle.gtfs_tables.specs.Feeds.{tables_in, tables_from, IsFeedOf}
-use Rattle.service_days.specs.Services.{runs}
-use Rattle.service_days.specs.Calendars.{calendars_in, calendars_from, calendar_from, dates_from, RunsBy}
-use Rattle.change_times.specs.Changes.{AreCollectedChanges, transfers_from}
-use Rattle.command_line.specs.Jobs.{JourneyModel}
-use Rattle.journey_model.specs.declared.problem.Problem.{Problem}
-use Rattle.journey_problem.specs.InputTables.{AreDelaysOf, delay_fault}
-use Rattle.journey_problem.specs.FeedProblems.{GtfsFolder, IsFolder, IsFeedProblem}
 
 module _ (limits : Limits) (files other : FileMap) (same : (path : List ℕ) → file_at files path ≡ file_at other path) where
   same_tables : (folder : List ℕ) → tables_in files folder limits None ≡ tables_in other folder limits None

@@ -1,14 +1,8 @@
 -- Problems of the same parts are one: the facts that they have are the same.
-use Rattle.std.proofs.Common.{◌≡◌, ◌<◌, length, subst}
+use Rattle.journey_problem.proofs.Common.{◌≡◌, ◌<◌, length, subst, NetworkModel, IsValid, NameLists, NamesFit, PlaceId, Timetable, Problem}
 use Rattle.std.proofs.Props.{props}
 use Rattle.std.specs.Coded.{le_prop}
-use Rattle.plan_model.specs.NetworkModel.{NetworkModel}
-use Rattle.plan_model.specs.Network.{IsValid}
-use Rattle.plan_model.specs.NameLists.{NameLists, NamesFit}
 use Rattle.plan_model.specs.Propositions.{IsValid-prop}
-use Rattle.plan_model.specs.declared.model.PlaceId.{PlaceId}
-use Rattle.plan_model.specs.declared.timetable.Timetable.{Timetable}
-use Rattle.journey_model.specs.declared.problem.Problem.{Problem}
 
 NamesFit-prop : (names : NameLists) (network : NetworkModel) → IsProp (NamesFit names network)
 NamesFit-prop names network = Prim.hlevel props

@@ -1,11 +1,9 @@
 -- Whether the stops of a journey are among the names.
-use Rattle.std.proofs.Common.{◌≡◌, ℕ, zero, suc, List, [], ◌∷◌, Some, None, Bool, true, false, Contains, refl, slice_get, bytes_eq}
+use Rattle.journey_problem.proofs.Common.{◌≡◌, ℕ, zero, suc, List, [], ◌∷◌, Some, None, Bool, true, false, Contains, refl, slice_get, bytes_eq, UnknownStop, is_among, stop_fault}
 use Rattle.std.proofs.Math.Bool.{or-true}
 use Rattle.std.proofs.lemmas.Slice.Eq.{bytes_eq-Decides}
 use Rattle.std.proofs.lemmas.Map.Views.{Contains-from_any}
 use Rattle.journey_model.specs.declared.faults.Which.TheVariants as which
-use Rattle.journey_model.specs.declared.faults.Fault.TheVariants.{UnknownStop}
-use Rattle.journey_problem.specs.CutProblems.{is_among, stop_fault}
 
 among-at : (names : List (List ℕ)) (k : ℕ) (name : List ℕ) → slice_get names k ≡ Some name → is_among names name ≡ true
 among-at [] k name is = absurd (cc)

@@ -1,21 +1,12 @@
 -- The steps of reading a cut file and a delay file, put together.
-use Rattle.std.proofs.Common.{◌≡◌, ℕ, List, Option, Some, None, Result, Ok, option_map, sym, ap, ◌∙◌, ◌≢◌, ◌≤◌}
+use Rattle.journey_problem.proofs.Common.{◌≡◌, ℕ, List, Option, Some, None, Result, Ok, option_map, sym, ap, ◌∙◌, ◌≢◌, ◌≤◌, table_of, Limits, first_cut_fault, CutParts, IsCutRead, delays_of}
+use Rattle.journey_problem.proofs.Common.{first_delay_fault, DelayLists, Fault, Delays, NoMemory, IsFirst, unread_input, Records, cut_as, fault_in, cut_fault, cut_records, delay_records}
+use Rattle.journey_problem.proofs.Common.{delay_fault, IsCutOf, IsCutOfSome, AreDelaysOf}
 use Rattle.csv_rows.specs.Limits.{standard}
-use Rattle.csv_rows.specs.Tables.{table_of}
-use Rattle.csv_rows.specs.declared.limits.Limits.{Limits}
 use Rattle.cut_file.specs.declared.faults.CutFault.{CutFault}
 use Rattle.cut_file.specs.declared.faults.CutFault.TheVariants.{NoMemory as CutMemory}
-use Rattle.cut_file.specs.Faults.{first_cut_fault}
-use Rattle.cut_file.specs.Read.{Cut as CutParts, IsCutRead}
 use Rattle.delay_table.specs.declared.faults.DelayFault.{DelayFault}
 use Rattle.delay_table.specs.declared.faults.DelayFault.TheVariants.{NoMemory as DelayMemory}
-use Rattle.delay_table.specs.Delays.{delays_of, first_delay_fault}
-use Rattle.delay_table.specs.DelayLists.{DelayLists}
-use Rattle.journey_model.specs.declared.faults.Fault.{Fault}
-use Rattle.journey_model.specs.declared.faults.Fault.TheVariants.{Delays, NoMemory}
-use Rattle.journey_model.specs.Faults.{IsFirst, unread_input}
-use Rattle.journey_problem.specs.Files.{Records}
-use Rattle.journey_problem.specs.InputTables.{cut_as, fault_in, cut_fault, cut_records, delay_records, delay_fault, IsCutOf, IsCutOfSome, AreDelaysOf}
 
 -- a table that was read with no fault
 pub cut_of_some : (table : Records) (parts : CutParts) (text : List ℕ) (limit : ℕ) → table ≡ table_of text → limit ≤ standard.cut_rows

@@ -1,11 +1,7 @@
 -- The rows of departures.
-use Rattle.std.proofs.Common.{◌≡◌, ℕ, ◌+◌, ◌<◌, ◌≤◌, List, ◌++◌, length, drop, sym, ap, ◌∙◌, slice_index_or, append-nil}
-use Rattle.std.proofs.lemmas.List.{at_drop_all}
-use Rattle.plan_model.specs.NetworkModel.{NetworkModel}
-use Rattle.plan_model.specs.NameLists.{NameLists}
+use Rattle.journey_report.proofs.Common.{◌≡◌, ℕ, ◌+◌, ◌<◌, ◌≤◌, List, ◌++◌, length, drop, sym, ap, ◌∙◌, slice_index_or, append-nil, at_drop_all, NetworkModel, NameLists, split_at, text_step}
+use Rattle.journey_report.proofs.Common.{departure_text, rows_text}
 use Rattle.departure_table.specs.declared.DepartureRow.{DepartureRow}
-use Rattle.printed_rows.proofs.Lines.{split_at, text_step}
-use Rattle.journey_report.specs.DepartureTexts.{departure_text, rows_text}
 
 module _ (n : NetworkModel) (names : NameLists) (rows : List DepartureRow) where
   -- after one row more

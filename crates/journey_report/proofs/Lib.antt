@@ -1,3 +1,4 @@
+mod Common
 pub mod TextLemmas
 pub mod DepartureLines
 pub mod RowLemmas

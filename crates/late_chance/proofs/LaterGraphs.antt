@@ -1,32 +1,19 @@
 -- A graph for a view, with all moments greater by the shift, is one for the network.
-use Rattle.std.proofs.Common.{◌≡◌, ℕ, ◌+◌, ◌<◌, ◌≤◌, Bool, true, false, Option, Some, None, List, [], ◌∷◌, length, map, All, Contains, refl, sym, ap, ◌∙◌}
-use Rattle.std.proofs.Common.{subst, inl, inr, arith, ◌==◌, nat_le, if◌then◌else◌, MatchOption}
-use Rattle.std.proofs.lemmas.List.{length-map}
-use Rattle.std.proofs.lemmas.Bool.Decides.{nat_tests}
+use Rattle.late_chance.proofs.Common.{◌≡◌, ℕ, ◌+◌, ◌<◌, ◌≤◌, Bool, true, false, Option, Some, None, List, [], ◌∷◌, length, map, All, Contains, refl, sym, ap, ◌∙◌, subst, inl, inr, arith, ◌==◌}
+use Rattle.late_chance.proofs.Common.{nat_le, if◌then◌else◌, MatchOption, length-map, nat_tests, Outcome, Query, NetworkModel, from_of, dep_of, outcomes, Tree, Done, Ride, Stuck, Kids, Nil, Kid}
+use Rattle.late_chance.proofs.Common.{IsSafe, AreSafe, IsSafeFromStart, IsSafeFor, later_by, all_later_by, limit_of-some, way_takes, earlier_by-is, seen, leg_there, departs, same_way, start_there}
+use Rattle.late_chance.proofs.Common.{GraphRow, PlanGraph, IsFitRow, IsFitTable, IsFitStart, IsFit, IsPickedIn, IsTidy, unfold_plan, later_row, later_table, later_graph, later_query, IsShown}
+use Rattle.late_chance.proofs.Common.{LaterAlike}
 use Rattle.std.proofs.lemmas.List.Elements.{All-map, All-weaker}
-use Rattle.plan_model.specs.declared.model.Outcome.{Outcome}
 use Rattle.plan_model.specs.declared.model.Leg.{Leg}
-use Rattle.plan_model.specs.declared.model.Query.{Query}
-use Rattle.plan_model.specs.NetworkModel.{NetworkModel}
-use Rattle.plan_model.specs.Network.{from_of, dep_of, outcomes}
 use Rattle.plan_model.specs.Ways.{limit_of}
-use Rattle.plan_model.specs.Tree.{Tree, Done, Ride, Stuck, Kids, Nil, Kid}
-use Rattle.plan_model.specs.Strategy.{IsSafe, AreSafe, IsSafeFromStart, IsSafeFor}
 use Rattle.plan_model.specs.Unfold.{end_of, arrival_of, by_place}
-use Rattle.plan_model.specs.View.{later_by, all_later_by}
-use Rattle.plan_model.proofs.Boarding.{limit_of-some, way_takes, earlier_by-is}
-use Rattle.plan_model.proofs.Views.{seen, leg_there, departs, same_way, start_there}
 use Rattle.plan_model.proofs.LaterTrees.{same_end, same_arrival, same_row, unfold_from-later}
-use Rattle.plan_graph.specs.declared.GraphRow.{GraphRow}
 use Rattle.plan_graph.specs.declared.PlaceTable.{PlaceTable}
-use Rattle.plan_graph.specs.declared.PlanGraph.{PlanGraph}
 use Rattle.plan_graph.specs.PickedRows.{pick_row, pick_at, rows_of_place}
 use Rattle.plan_graph.specs.Ready.{IsLegOf, Stands, StandsIn, IsFirstInTime}
-use Rattle.plan_graph.specs.Tidy.{IsFitRow, IsFitTable, IsFitStart, IsFit, IsPickedIn, IsTidy}
-use Rattle.plan_graph.specs.Unfold.{unfold_plan}
 use Rattle.plan_model.proofs.Lists.{AllPairs-map}
 use Rattle.plan_graph.proofs.Picked.{picked_leg}
-use Rattle.late_chance.specs.LaterGraphs.{later_row, later_table, later_graph, later_query, IsShown, LaterAlike}
 
 -- what the later rows pick
 pick_row-later : (shift : ℕ) (rows : List GraphRow) (x : ℕ) → pick_row (map (later_row shift) rows) (x + shift) ≡ pick_row rows x

@@ -1,20 +1,7 @@
 -- The least chance of being late in a view is that in the network.
-use Rattle.std.proofs.Common.{◌≡◌, ℕ, ◌+◌, ◌≤◌, arith, Some, sym, ap, ◌∙◌, subst}
-use Rattle.interval_fixed.specs.Interval.{Interval}
-use Rattle.plan_model.specs.declared.model.Query.{Query}
-use Rattle.plan_model.specs.NetworkModel.{NetworkModel}
-use Rattle.plan_model.specs.Bounds.{certainty}
-use Rattle.plan_model.specs.Tree.{Tree}
-use Rattle.plan_model.specs.Strategy.{IsSafeFor}
-use Rattle.plan_model.specs.Late.{late, LateBelow, LateCovers}
-use Rattle.plan_model.specs.View.{later_by}
-use Rattle.plan_model.proofs.Views.{start_back}
+use Rattle.late_chance.proofs.Common.{◌≡◌, ℕ, ◌+◌, ◌≤◌, arith, Some, sym, ap, ◌∙◌, subst, Interval, Query, NetworkModel, certainty, Tree, IsSafeFor, late, LateBelow, LateCovers, later_by}
+use Rattle.late_chance.proofs.Common.{start_back, PlanGraph, unfold_plan, later_graph, later_query, IsShown, IsPunctual, PunctualAlike, rounded_up, rounded_down}
 use Rattle.plan_model.proofs.Later.{below-later, covers-later, late-later}
-use Rattle.plan_graph.specs.declared.PlanGraph.{PlanGraph}
-use Rattle.plan_graph.specs.Unfold.{unfold_plan}
-use Rattle.late_chance.specs.LaterGraphs.{later_graph, later_query, IsShown}
-use Rattle.late_chance.specs.Punctual.{IsPunctual, PunctualAlike}
-use Rattle.value_laws.specs.Rounded.{rounded_up, rounded_down}
 use Rattle.late_chance.proofs.LaterGraphs.{alike}
 use Rattle.late_chance.proofs.Rounded.{up-later, down-later}
 

@@ -1,20 +1,7 @@
 -- Means rounded ride by ride: of trees with all moments later, and of trees whose arrivals count for nothing.
-use Rattle.std.proofs.Common.{◌≡◌, ℕ, ◌+◌, ◌*◌, ◌/◌, ◌≤◌, arith, Some, List, [], ◌∷◌, true, refl, ◌∙◌, ap, nat_le}
-use Rattle.std.proofs.lemmas.Bool.Decides.{nat_tests}
-use Rattle.interval_fixed.specs.Interval.{Interval}
-use Rattle.plan_model.specs.declared.model.Outcome.{Outcome}
-use Rattle.plan_model.specs.declared.model.Query.{Query}
-use Rattle.plan_model.specs.NetworkModel.{NetworkModel}
-use Rattle.plan_model.specs.Network.{to_of, arr_of, outcomes}
-use Rattle.plan_model.specs.Bounds.{certainty}
-use Rattle.plan_model.specs.Tree.{Tree, Done, Ride, Stuck, Kids, Nil, Kid}
-use Rattle.plan_model.specs.Strategy.{IsSafe, AreSafe, IsSafeFor}
-use Rattle.plan_model.specs.Late.{late}
-use Rattle.plan_model.specs.View.{later_by, all_later_by}
-use Rattle.plan_graph.specs.declared.PlanGraph.{PlanGraph}
-use Rattle.plan_graph.specs.Unfold.{unfold_plan}
-use Rattle.value_laws.specs.Rounded.{rounded_up, sum_up, rounded_down, sum_down}
-use Rattle.late_chance.specs.Punctual.{IsPunctual}
+use Rattle.late_chance.proofs.Common.{◌≡◌, ℕ, ◌+◌, ◌*◌, ◌/◌, ◌≤◌, arith, Some, List, [], ◌∷◌, true, refl, ◌∙◌, ap, nat_le, nat_tests, Interval, Outcome, Query, NetworkModel, to_of, arr_of}
+use Rattle.late_chance.proofs.Common.{outcomes, certainty, Tree, Done, Ride, Stuck, Kids, Nil, Kid, IsSafe, AreSafe, IsSafeFor, late, later_by, all_later_by, PlanGraph, unfold_plan, rounded_up}
+use Rattle.late_chance.proofs.Common.{sum_up, rounded_down, sum_down, IsPunctual}
 
 module _ (scale shift : ℕ) (f g : ℕ → ℕ) (same : (a : ℕ) → f (a + shift) ≡ g a) where
   mutual

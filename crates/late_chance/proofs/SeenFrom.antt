@@ -1,13 +1,10 @@
 -- The shifted network is valid, and a view of the network.
-use Rattle.std.proofs.Common.{◌≡◌, ℕ, ◌-◌, ◌<◌, ◌≤◌, Bool, refl, sym, ap, ◌∙◌, inl, inr, ⊎_elim, arith, IsTrue, nat_le, ◌&&◌, ◌↔◌, leb-true, le-leb}
+use Rattle.late_chance.proofs.Common.{◌≡◌, ℕ, ◌-◌, ◌<◌, ◌≤◌, Bool, refl, sym, ap, ◌∙◌, inl, inr, ⊎_elim, arith, IsTrue, nat_le, ◌&&◌, ◌↔◌, leb-true, le-leb, length-map, get_or-map, NetworkModel}
+use Rattle.late_chance.proofs.Common.{IsValid, IsValidConnection, PrecedesByStep, count, connection, no_connection, dep_of, arr_of, run_of, step_of, change_of, row_of, IsSeen, IsView}
+use Rattle.late_chance.proofs.Common.{shifted_connection, shifted_parts}
 use Rattle.std.proofs.Math.Logic.{∥∥₁_map}
 use Rattle.std.proofs.lemmas.Bool.{and_parts, and_from}
-use Rattle.std.proofs.lemmas.List.{length-map, get_or-map}
 use Rattle.plan_model.specs.declared.model.Connection.{Connection}
-use Rattle.plan_model.specs.NetworkModel.{NetworkModel}
-use Rattle.plan_model.specs.Network.{IsValid, IsValidConnection, PrecedesByStep, count, connection, no_connection, dep_of, arr_of, run_of, step_of, change_of, row_of}
-use Rattle.plan_model.specs.View.{IsSeen, IsView}
-use Rattle.late_chance.specs.SeenFrom.{shifted_connection, shifted_parts}
 
 both_true : (a : Bool) (x y : ℕ) → IsTrue (a && nat_le x y) ↔ (IsTrue a × (x ≤ y))
 both_true a x y = (

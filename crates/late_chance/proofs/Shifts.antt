@@ -1,22 +1,8 @@
 -- From a graph over the network that is seen for a promise to one over the network.
-use Rattle.std.proofs.Common.{◌≡◌, ℕ, ◌+◌, ◌-◌, ◌<◌, ◌≤◌, ◌^◌, All, get_or, Some, subst, refl, arith}
-use Rattle.interval_fixed.specs.Interval.{Interval}
-use Rattle.plan_model.specs.declared.model.Query.{Query}
+use Rattle.late_chance.proofs.Common.{◌≡◌, ℕ, ◌+◌, ◌-◌, ◌<◌, ◌≤◌, ◌^◌, All, get_or, Some, subst, refl, arith, Interval, Query, end_of_arrivals, end_of_time, NetworkModel, IsValid, Tree, IsSafeFor}
+use Rattle.late_chance.proofs.Common.{later_by, limit_of-some, start_there, GraphRow, PlanGraph, IsTidy, IsFitRow, promised, seconds_per_week, later_graph, later_query, IsShown, IsPunctual}
+use Rattle.late_chance.proofs.Common.{PunctualAlike, IsAboutNetwork, shift_for, seen_for, asked_for}
 use Rattle.plan_model.specs.declared.model.PlaceId.{PlaceId}
-use Rattle.plan_model.specs.Bounds.{end_of_arrivals, end_of_time}
-use Rattle.plan_model.specs.NetworkModel.{NetworkModel}
-use Rattle.plan_model.specs.Network.{IsValid}
-use Rattle.plan_model.specs.Tree.{Tree}
-use Rattle.plan_model.specs.Strategy.{IsSafeFor}
-use Rattle.plan_model.specs.View.{later_by}
-use Rattle.plan_model.proofs.Boarding.{limit_of-some}
-use Rattle.plan_model.proofs.Views.{start_there}
-use Rattle.plan_graph.specs.declared.GraphRow.{GraphRow}
-use Rattle.plan_graph.specs.declared.PlanGraph.{PlanGraph}
-use Rattle.plan_graph.specs.Tidy.{IsTidy, IsFitRow}
-use Rattle.late_chance.specs.Chances.{promised, seconds_per_week}
-use Rattle.late_chance.specs.LaterGraphs.{later_graph, later_query, IsShown}
-use Rattle.late_chance.specs.Punctual.{IsPunctual, PunctualAlike, IsAboutNetwork, shift_for, seen_for, asked_for}
 use Rattle.late_chance.proofs.SeenFrom.{valid, view}
 use Rattle.late_chance.proofs.Punctual.{punctual_alike}
 

@@ -1,6 +1,5 @@
 -- The digits of a number, from its first one on.
-use Rattle.std.proofs.Common.{◌≡◌, ℕ, zero, suc, ◌+◌, ◌*◌, ◌/◌, ◌%◌, ◌^◌, List, [], ◌∷◌, ◌++◌, refl, ap, sym, ◌∙◌, arith}
-use Rattle.std.proofs.Math.Nat.{div-div-eq-div-mul, mul_comm}
+use Rattle.late_chance.proofs.Common.{◌≡◌, ℕ, zero, suc, ◌+◌, ◌*◌, ◌/◌, ◌%◌, ◌^◌, List, [], ◌∷◌, ◌++◌, refl, ap, sym, ◌∙◌, arith, div-div-eq-div-mul, mul_comm}
 use Rattle.std.proofs.lemmas.Grind.{pow_more}
 use Rattle.clock_text.specs.Digits.{digits}
 

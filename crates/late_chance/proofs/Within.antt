@@ -1,11 +1,7 @@
 -- The mean of chances is at most certainty.
-use Rattle.std.proofs.Common.{ℕ, ◌*◌, ◌≤◌, List, [], ◌∷◌, All, arith, zero, suc, sum_by}
-use Rattle.std.proofs.Math.Nat.{mul-le-mul_left, mul-add, mul_comm}
+use Rattle.late_chance.proofs.Common.{ℕ, ◌*◌, ◌≤◌, List, [], ◌∷◌, All, arith, zero, suc, sum_by, mul-le-mul_left, mul-add, mul_comm, Outcome, Interval, weighted_hi, mean_of}
 use Rattle.std.proofs.lemmas.List.Sums.{sum_by-cons}
-use Rattle.plan_model.specs.declared.model.Outcome.{Outcome}
 use Rattle.plan_model.specs.DelayRows.{IsValidRow}
-use Rattle.interval_fixed.specs.Interval.{Interval}
-use Rattle.interval_fixed.specs.Means.{weighted_hi, mean_of}
 
 weighted_within : (most : ℕ) (row : List Outcome) (spans : List Interval) → All (λ s. s.hi ≤ most) spans → weighted_hi row spans ≤ most * sum_by (λ o. o.weight) row
 weighted_within most [] spans few = omega arith

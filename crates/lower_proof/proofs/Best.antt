@@ -1,26 +1,16 @@
 -- What is accepted is a lower bound on each safe tree, and a tight certificate is the best.
-use Rattle.std.proofs.Common.{◌≡◌, ◌≢◌, ℕ, ◌+◌, ◌*◌, ◌/◌, ◌^◌, ◌≤◌, List, [], ◌∷◌, Option, Some, None, arith, subst, refl, map, length, sum_by, inl, inr}
-use Rattle.std.proofs.Math.Nat.{mul_assoc, mul-add, mul-le-mul_left}
-use Rattle.std.proofs.lemmas.Bool.Decides.{nat_tests}
-use Rattle.plan_model.specs.declared.model.Outcome.{Outcome}
-use Rattle.plan_model.specs.declared.model.Query.{Query}
-use Rattle.plan_model.specs.NetworkModel.{NetworkModel}
-use Rattle.plan_model.specs.Network.{to_of, arr_of, outcomes, IsValid, count, connection, dep_of}
+use Rattle.lower_proof.proofs.Common.{◌≡◌, ◌≢◌, ℕ, ◌+◌, ◌*◌, ◌/◌, ◌^◌, ◌≤◌, List, [], ◌∷◌, Option, Some, None, arith, subst, refl, map, length, sum_by, inl, inr, mul_assoc, mul-add}
+use Rattle.lower_proof.proofs.Common.{mul-le-mul_left, nat_tests, Outcome, Query, NetworkModel, to_of, arr_of, outcomes, IsValid, count, connection, dep_of, IsLeg, IsBoardable, IsBoardableAtStart}
+use Rattle.lower_proof.proofs.Common.{IsSafe, AreSafe, IsSafeFor, weighted, bound_of, IsLeastOf, Offers, arrived_by, IsLeastValue, IsLeastAt, AreLeast, HasValueUpTo, IsAccepted, IsLeastAtStart}
+use Rattle.lower_proof.proofs.Common.{IsVia, IsTight, cases_eq, cases_lt, sum_by-cons, forward}
 use Rattle.plan_model.specs.Tree.{Tree, Kids, Done, Ride, Stuck, Nil, Kid}
 use Rattle.plan_model.specs.DelayRows.{EachKid, IsValidRow}
-use Rattle.plan_model.specs.Strategy.{IsLeg, IsBoardable, IsBoardableAtStart, IsSafe, AreSafe, IsSafeFor}
 use Rattle.plan_model.specs.Expected.{Below, arrival as arrival_of, Covers}
-use Rattle.interval_fixed.specs.Means.{weighted}
-use Rattle.lower_proof.specs.Certificates.{bound_of, IsLeastOf, Offers, arrived_by, IsLeastValue, IsLeastAt, AreLeast, HasValueUpTo}
-use Rattle.lower_proof.specs.Certificates.{IsAccepted, IsLeastAtStart, IsVia, IsTight}
 use Rattle.lower_proof.specs.Promises.{IsSound, AreSoundValues, IsGreatestCertificate, IsBestCertificate}
 use Rattle.plan_model.specs.Bounds.{nanos_per_second}
 use Rattle.plan_model.proofs.Laws.{below_less, covers_more}
 use Rattle.interval_fixed.proofs.Sums.{mean_below, mean_covers}
 use Rattle.lower_proof.proofs.Leasts.{least_up_to, least_boardable, least_at_start, least_is}
-use Rattle.std.proofs.lemmas.Bool.{cases_eq, cases_lt}
-use Rattle.std.proofs.lemmas.List.Sums.{sum_by-cons}
-use Rattle.plan_model.proofs.Bounds.{forward}
 use Rattle.lower_proof.proofs.Departures.{after, after_less, after_starts, after_le, in_time_of, HoldsBy, holds_by}
 use Rattle.lower_proof.proofs.Vias.{IsLeast-unique}
 

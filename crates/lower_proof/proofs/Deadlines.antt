@@ -1,19 +1,10 @@
 -- The deadline of a certificate that is read has a text.
-use Rattle.std.proofs.Common.{◌≡◌, ℕ, ◌≤◌, List, Option, Some, Ok, subst, ap, sym, ◌∙◌, nat_le}
-use Rattle.clock_text.specs.Civil.{last_printable}
+use Rattle.lower_proof.proofs.Common.{◌≡◌, ℕ, ◌≤◌, List, Option, Some, Ok, subst, ap, sym, ◌∙◌, nat_le, last_printable, header, require-ok, Query, NetworkModel, NameLists, field, whole_at}
+use Rattle.lower_proof.proofs.Common.{number_of, is_query, if-value, BoundsRow, bounds_numbers, is_bounds, bounds_row_in, bounds_in, IsProofReported}
 use Rattle.clock_text.specs.Times.{moment_at}
 use Rattle.clock_text.proofs.OneText.{if_cases, some_cases}
 use Rattle.clock_text.proofs.Range.{moment_range}
-use Rattle.csv_rows.specs.Tables.{header}
-use Rattle.plan_model.proofs.Results.{require-ok}
 use Rattle.plan_model.specs.declared.model.Moment.{Moment}
-use Rattle.plan_model.specs.declared.model.Query.{Query}
-use Rattle.plan_model.specs.NetworkModel.{NetworkModel}
-use Rattle.plan_model.specs.NameLists.{NameLists}
-use Rattle.printed_rows.specs.Fields.{field, whole_at, number_of, is_query}
-use Rattle.printed_rows.proofs.Chains.{if-value}
-use Rattle.lower_proof.specs.declared.reader.BoundsRow.{BoundsRow}
-use Rattle.lower_proof.specs.Reading.{bounds_numbers, is_bounds, bounds_row_in, bounds_in, IsProofReported}
 
 by_numbers : (a b c : Option ℕ) (x : BoundsRow) → bounds_numbers a b c ≡ Some x → b ≡ Some x.deadline.0
 by_numbers (Some s) (Some d) (Some k) x is = ap (λ (y : BoundsRow). Some y.deadline.0) (some_cases (nat_le s d) _ x is).1

@@ -1,20 +1,10 @@
 -- The connections that depart by a moment, in order, are in the scan order.
-use Rattle.std.proofs.Common.{◌≡◌, ℕ, ◌+◌, ◌<◌, ◌≤◌, ◌∷◌, [], ◌++◌, List, length, map, All, AllPairs, Contains, arith, inl, inr, sym, ap, ◌∙◌, refl, subst}
-use Rattle.std.proofs.Common.{append_assoc, IsPermutation, append-nil}
-use Rattle.std.proofs.lemmas.Bool.{cases_lt}
-use Rattle.std.proofs.lemmas.List.{map-append}
-use Rattle.std.proofs.lemmas.List.Elements.{All-push, All-map, All-contains, Contains-append_left, Contains-append_right}
+use Rattle.lower_proof.proofs.Common.{◌≡◌, ℕ, ◌+◌, ◌<◌, ◌≤◌, ◌∷◌, [], ◌++◌, List, length, map, All, AllPairs, Contains, arith, inl, inr, sym, ap, ◌∙◌, refl, subst, append_assoc, IsPermutation}
+use Rattle.lower_proof.proofs.Common.{append-nil, cases_lt, map-append, All-push, All-map, All-contains, Contains-append_left, Contains-append_right, All-permutation, Contains-permutation}
+use Rattle.lower_proof.proofs.Common.{Departure, ConnectionId, NetworkModel, IsValid, count, dep_of, IsOrderBut, IsNext, Known, next_of, all_known, earlier_in_order, IsDepartingBy, AreDepartingBy}
 use Rattle.std.proofs.lemmas.List.Quantifiers.{all_pairs_push}
-use Rattle.std.proofs.lemmas.List.Sorted.{All-permutation, Contains-permutation}
-use Rattle.plan_model.specs.declared.departure.Departure.{Departure}
-use Rattle.plan_model.specs.declared.model.ConnectionId.{ConnectionId}
-use Rattle.plan_model.specs.NetworkModel.{NetworkModel}
-use Rattle.plan_model.specs.Network.{IsValid, count, dep_of}
 use Rattle.plan_model.specs.Order.{IsEarlier, departure_of, IsInOrder}
 use Rattle.plan_model.proofs.Lists.{AllPairs-map, Contains-map, Contains-from_map}
-use Rattle.plan_model.proofs.ScanOrders.{IsOrderBut, IsNext, Known, next_of, all_known}
-use Rattle.plan_model.proofs.Sorted.{earlier_in_order}
-use Rattle.lower_proof.specs.Departures.{IsDepartingBy, AreDepartingBy}
 
 -- ---- found one after the other
 

@@ -1,13 +1,6 @@
 -- How many connections depart after a moment, and what holds of each least value, since it does where it holds of those after later departures.
-use Rattle.std.proofs.Common.{◌≡◌, ◌≢◌, ℕ, zero, suc, ◌+◌, ◌*◌, ◌<◌, ◌≤◌, cond, ltb, List, Option, Some, arith, inl, inr, refl, subst}
-use Rattle.std.proofs.lemmas.Bool.{cases_eq, cases_lt}
-use Rattle.std.proofs.lemmas.Bool.Decides.{nat_tests}
-use Rattle.plan_model.specs.declared.model.Query.{Query}
-use Rattle.plan_model.specs.NetworkModel.{NetworkModel}
-use Rattle.plan_model.specs.Network.{IsValid, count, dep_of}
-use Rattle.plan_model.specs.Strategy.{IsBoardable}
-use Rattle.plan_model.proofs.Boarding.{boards_later}
-use Rattle.lower_proof.specs.Certificates.{Offers, arrived_by, IsLeastAt}
+use Rattle.lower_proof.proofs.Common.{◌≡◌, ◌≢◌, ℕ, zero, suc, ◌+◌, ◌*◌, ◌<◌, ◌≤◌, cond, ltb, List, Option, Some, arith, inl, inr, refl, subst, cases_eq, cases_lt, nat_tests, Query, NetworkModel}
+use Rattle.lower_proof.proofs.Common.{IsValid, count, dep_of, IsBoardable, boards_later, Offers, arrived_by, IsLeastAt}
 
 -- the sum of the first m
 abbrev total : (ℕ → ℕ) → ℕ → ℕ

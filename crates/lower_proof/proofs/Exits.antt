@@ -1,23 +1,12 @@
 -- The least values of leaving the runs, over the connections that are scanned.
-use Rattle.std.proofs.Common.{◌≡◌, ◌≢◌, ℕ, ◌<◌, ◌≤◌, List, [], ◌∷◌, ◌++◌, length, set, Option, Some, None, IsTrue, arith, inl, inr, sym, ◌∙◌, subst, refl, ◌+◌}
-use Rattle.std.proofs.Common.{length-set}
-use Rattle.plan_model.specs.declared.model.ConnectionId.{ConnectionId}
-use Rattle.plan_model.specs.declared.model.Query.{Query}
-use Rattle.plan_model.specs.NetworkModel.{NetworkModel}
-use Rattle.plan_model.specs.Network.{count, connection, dep_of, run_of, IsValid, to_of, arr_of, outcomes}
-use Rattle.plan_model.specs.Strategy.{IsLeg, IsBoardable}
-use Rattle.lower_proof.specs.Certificates.{bound_of, IsLeastOf, IsVia, IsLocal, IsAccepted, IsLastFault, Offers, IsLeastAt, AreLeast}
-use Rattle.lower_proof.specs.Steps.{lesser, KeepsTo, exit_of, IsBestExit}
+use Rattle.lower_proof.proofs.Common.{◌≡◌, ◌≢◌, ℕ, ◌<◌, ◌≤◌, List, [], ◌∷◌, ◌++◌, length, set, Option, Some, None, IsTrue, arith, inl, inr, sym, ◌∙◌, subst, refl, ◌+◌, length-set, ConnectionId}
+use Rattle.lower_proof.proofs.Common.{Query, NetworkModel, count, connection, dep_of, run_of, IsValid, to_of, arr_of, outcomes, IsLeg, IsBoardable, bound_of, IsLeastOf, IsVia, IsLocal, IsAccepted}
+use Rattle.lower_proof.proofs.Common.{IsLastFault, Offers, IsLeastAt, AreLeast, lesser, KeepsTo, exit_of, IsBestExit, Known, IsNext, forward, Departure, NoneAfter, AreDepartingBy, Outcome}
+use Rattle.lower_proof.proofs.Common.{boards_later}
 use Rattle.lower_proof.proofs.Minima.{get_or-set}
 use Rattle.lower_proof.proofs.Leasts.{least_with, least_same, least_is, IsLeastOf-unique, keeps_to_each, each_keeps_to}
 use Rattle.lower_proof.proofs.Vias.{least_via, no_via}
-use Rattle.plan_model.proofs.ScanOrders.{Known, IsNext}
-use Rattle.plan_model.proofs.Bounds.{forward}
-use Rattle.plan_model.specs.declared.departure.Departure.{Departure}
-use Rattle.lower_proof.specs.Departures.{NoneAfter, AreDepartingBy}
 use Rattle.lower_proof.proofs.Departing.{Late, IsRest, rest_first, rest_popped, next_popped, all_taken}
-use Rattle.plan_model.specs.declared.model.Outcome.{Outcome}
-use Rattle.plan_model.proofs.Boarding.{boards_later}
 
 -- one can leave the run by a known connection, for this value
 pub record LeavesBy (n : NetworkModel) (q : Query) (values : List (Option ℕ)) (last : ℕ) (taken : List ConnectionId) (run v : ℕ) : Type 0 where

@@ -1,12 +1,6 @@
 -- The least of numbers that are found one after the other.
-use Rattle.std.proofs.Common.{◌≡◌, ℕ, zero, suc, ◌+◌, ◌<◌, ◌≤◌, ◌⊎◌, min, List, Option, Some, None, IsTrue, arith, inl, inr, ap, subst, refl}
-use Rattle.std.proofs.lemmas.Bool.{both_ways, cases_Bool, cases_eq, cases_lt}
-use Rattle.plan_model.specs.NetworkModel.{NetworkModel}
-use Rattle.plan_model.specs.Network.{count, connection, from_of, dep_of}
-use Rattle.plan_model.specs.Ways.{way_of}
-use Rattle.plan_model.specs.Strategy.{IsBoardable, IsBoardableAtStart}
-use Rattle.lower_proof.specs.Certificates.{bound_of, IsLeastOf, Offers, HasValueUpTo}
-use Rattle.lower_proof.specs.Steps.{lesser, KeepsTo}
+use Rattle.lower_proof.proofs.Common.{◌≡◌, ℕ, zero, suc, ◌+◌, ◌<◌, ◌≤◌, ◌⊎◌, min, List, Option, Some, None, IsTrue, arith, inl, inr, ap, subst, refl, both_ways, cases_Bool, cases_eq, cases_lt}
+use Rattle.lower_proof.proofs.Common.{NetworkModel, count, connection, from_of, dep_of, way_of, IsBoardable, IsBoardableAtStart, bound_of, IsLeastOf, Offers, HasValueUpTo, lesser, KeepsTo}
 
 -- with what may be one number more
 module _ (P Q : ℕ → Type 0) (there : (v : ℕ) → P v → Q v) where

@@ -1,3 +1,4 @@
+mod Common
 pub mod Leasts
 pub mod Vias
 pub mod Departures

@@ -1,12 +1,6 @@
 -- Least values of front parts, one entry after the other.
-use Rattle.std.proofs.Common.{◌≡◌, ◌≢◌, ℕ, ◌+◌, ◌-◌, ◌<◌, ◌≤◌, List, get_or, length, take, set, Option, Some, None, arith, get_or-set_other, get_or-set_same}
-use Rattle.std.proofs.Common.{length-take, get_or-take}
-use Rattle.std.proofs.lemmas.Bool.{cases_eq, cases_lt}
-use Rattle.lower_proof.specs.declared.board.Entry.{Entry}
-use Rattle.lower_proof.specs.Certificates.{bound_of, IsLeastOf}
-use Rattle.lower_proof.specs.Steps.{lesser}
-use Rattle.lower_proof.specs.Boards.{entry_at, Falls, FrontValue, ValueInTime, least_of}
-use Rattle.lower_proof.specs.Minima.{AreMinima, IsBoard}
+use Rattle.lower_proof.proofs.Common.{◌≡◌, ◌≢◌, ℕ, ◌+◌, ◌-◌, ◌<◌, ◌≤◌, List, get_or, length, take, set, Option, Some, None, arith, get_or-set_other, get_or-set_same, length-take, get_or-take}
+use Rattle.lower_proof.proofs.Common.{cases_eq, cases_lt, Entry, bound_of, IsLeastOf, lesser, entry_at, Falls, FrontValue, ValueInTime, least_of, AreMinima, IsBoard}
 use Rattle.lower_proof.proofs.Leasts.{least_same, below_more}
 
 -- what holds of the elements of a list by their positions, after one is set

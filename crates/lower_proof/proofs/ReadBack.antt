@@ -1,37 +1,16 @@
 -- What was printed of a certificate is read back, and how its rows are printed one after another.
-use Rattle.std.proofs.Common.{◌≡◌, ◌≢◌, ℕ, zero, suc, ◌+◌, ◌<◌, ◌≤◌, ◌^◌, true, List, [], ◌∷◌, length, Option, Some, None, Ok, Err, Result, arith, inl, inr}
-use Rattle.std.proofs.Common.{sym, ◌∙◌, ap, subst, refl, ◌++◌, drop, cond, is_some, codes, decimal, slice_index_or, count_by, option_map, ext_get_or}
-use Rattle.std.proofs.Common.{append-nil, eq-eqb, lt-ltb, le-leb, IfOk, OnOk}
-use Rattle.std.specs.Result.{result_err}
-use Rattle.std.proofs.Math.Nat.{max-le}
-use Rattle.std.proofs.lemmas.List.Sums.{sum_by-cons}
-use Rattle.std.proofs.lemmas.List.{drop_all}
-use Rattle.std.proofs.lemmas.Bool.{cases_eq}
-use Rattle.clock_text.specs.Civil.{nanos_text, last_printable}
+use Rattle.lower_proof.proofs.Common.{◌≡◌, ◌≢◌, ℕ, zero, suc, ◌+◌, ◌<◌, ◌≤◌, ◌^◌, true, List, [], ◌∷◌, length, Option, Some, None, Ok, Err, Result, arith, inl, inr, sym, ◌∙◌, ap, subst, refl}
+use Rattle.lower_proof.proofs.Common.{◌++◌, drop, cond, is_some, codes, decimal, slice_index_or, count_by, option_map, ext_get_or, append-nil, eq-eqb, lt-ltb, le-leb, IfOk, OnOk, result_err}
+use Rattle.lower_proof.proofs.Common.{max-le, sum_by-cons, drop_all, cases_eq, nanos_text, last_printable, table_of, row_count, Query, NetworkModel, NameLists, NamesFit, AreNames, IsValid, count}
+use Rattle.lower_proof.proofs.Common.{run_of, step_of, rises, run_name, row_of_fields, text_of_records, text_step, split_at, LowerBounds, BoundsRow, ValueRow, ProofFault, bound_of, bounds_record}
+use Rattle.lower_proof.proofs.Common.{value_record, value_records, certificate_text, entry_text, bounds_row_in, bounds_in, value_row_in, connection_in, nanos_in, reported_in, value_row}
+use Rattle.lower_proof.proofs.Common.{connection_before, value_fault, AreValuesReported, IsProofReported, IsProofRead, IsReadBack, AllFit}
 use Rattle.clock_text.proofs.Walk.{text_reports}
 use Rattle.clock_text.proofs.NanosLemmas.{nanos_report}
-use Rattle.csv_rows.specs.Tables.{table_of, row_count}
-use Rattle.plan_model.specs.declared.model.Query.{Query}
-use Rattle.plan_model.specs.NetworkModel.{NetworkModel}
-use Rattle.plan_model.specs.NameLists.{NameLists, NamesFit, AreNames}
-use Rattle.plan_model.specs.Network.{IsValid, count, run_of, step_of}
-use Rattle.printed_rows.specs.Fields.{rises}
-use Rattle.printed_rows.specs.Writers.{run_name, row_of_fields, text_of_records}
 use Rattle.printed_rows.proofs.Found.{connection_back}
-use Rattle.printed_rows.proofs.Lines.{text_step, split_at}
 use Rattle.printed_rows.proofs.Plain.{moment_kept, nanos_kept, decimal_kept, whole_back}
 use Rattle.printed_rows.proofs.Names.{place_kept, run_kept, place_back, run_back, step_kept, step_back}
 use Rattle.printed_rows.proofs.Printed.{IsKept, AreKept, seven_kept, four_kept, table_back}
-use Rattle.lower_proof.specs.declared.LowerBounds.{LowerBounds}
-use Rattle.lower_proof.specs.declared.reader.BoundsRow.{BoundsRow}
-use Rattle.lower_proof.specs.declared.reader.ValueRow.{ValueRow}
-use Rattle.lower_proof.specs.declared.reader.ProofFault.{ProofFault}
-use Rattle.lower_proof.specs.Certificates.{bound_of}
-use Rattle.lower_proof.specs.CertificateTexts.{bounds_record, value_record, value_records, certificate_text, entry_text}
-use Rattle.lower_proof.specs.Reading.{bounds_row_in, bounds_in, value_row_in, connection_in}
-use Rattle.lower_proof.specs.Reading.{nanos_in, reported_in, value_row, connection_before}
-use Rattle.lower_proof.specs.Reading.{value_fault, AreValuesReported, IsProofReported, IsProofRead, IsReadBack}
-use Rattle.lower_proof.specs.Steps.{AllFit}
 
 -- two facts of one result
 pub IfOk-with : {T E : Type 0} (r : Result T E) (P Q : T → Type 0) (R : Type 0) → ((x : T) → P x → R → Q x) → IfOk r P → OnOk r R → IfOk r Q

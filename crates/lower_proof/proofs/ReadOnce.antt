@@ -1,21 +1,10 @@
 -- A text gives one certificate, or has one first fault, and that is never that memory ran out.
-use Rattle.std.proofs.Common.{◌≡◌, ◌≢◌, ℕ, zero, suc, ◌+◌, ◌<◌, ◌⊎◌, Bool, true, false, List, Option, Some, None, Ok, Err, Result, arith, inl, inr, sym, ◌∙◌, ap, subst, ext_get_or, if◌then◌else◌}
-use Rattle.std.specs.Result.{result_err}
-use Rattle.std.proofs.lemmas.Bool.{cases_eq, cases_lt, cases_order}
-use Rattle.csv_rows.specs.Tables.{table_of, row_count, header}
+use Rattle.lower_proof.proofs.Common.{◌≡◌, ◌≢◌, ℕ, zero, suc, ◌+◌, ◌<◌, ◌⊎◌, Bool, true, false, List, Option, Some, None, Ok, Err, Result, arith, inl, inr, sym, ◌∙◌, ap, subst, ext_get_or}
+use Rattle.lower_proof.proofs.Common.{if◌then◌else◌, result_err, cases_eq, cases_lt, cases_order, table_of, row_count, header, Query, NetworkModel, NameLists, field, number_of, connection_of}
+use Rattle.lower_proof.proofs.Common.{rises, is_query, LowerBounds, BoundsRow, RowValue, ProofFault, Row, UnknownName, NoConnection, NotRising, OtherQuery, NoMemory, bound_of, bounds_row_in}
+use Rattle.lower_proof.proofs.Common.{bounds_in, value_row_in, connection_in, reported_in, value_row, connection_before, value_fault, IsFirstLineFault, IsFaultAfter, AreValuesReported}
+use Rattle.lower_proof.proofs.Common.{IsProofReported, IsProofRead}
 use Rattle.plan_model.specs.Results.{require}
-use Rattle.plan_model.specs.declared.model.Query.{Query}
-use Rattle.plan_model.specs.NetworkModel.{NetworkModel}
-use Rattle.plan_model.specs.NameLists.{NameLists}
-use Rattle.printed_rows.specs.Fields.{field, number_of, connection_of, rises, is_query}
-use Rattle.lower_proof.specs.declared.LowerBounds.{LowerBounds}
-use Rattle.lower_proof.specs.declared.reader.BoundsRow.{BoundsRow}
-use Rattle.lower_proof.specs.declared.reader.RowValue.{RowValue}
-use Rattle.lower_proof.specs.declared.reader.ProofFault.{ProofFault}
-use Rattle.lower_proof.specs.declared.reader.ProofFault.TheVariants.{Row, UnknownName, NoConnection, NotRising, OtherQuery, NoMemory}
-use Rattle.lower_proof.specs.Certificates.{bound_of}
-use Rattle.lower_proof.specs.Reading.{bounds_row_in, bounds_in, value_row_in, connection_in, reported_in, value_row, connection_before}
-use Rattle.lower_proof.specs.Reading.{value_fault, IsFirstLineFault, IsFaultAfter, AreValuesReported, IsProofReported, IsProofRead}
 
 -- ---- memory is enough for each line
 

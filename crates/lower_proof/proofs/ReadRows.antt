@@ -1,23 +1,8 @@
 -- What is read of the value rows so far.
-use Rattle.std.proofs.Common.{◌≡◌, ◌≢◌, ℕ, suc, ◌+◌, ◌<◌, ◌≤◌, ◌⊎◌, true, List, [], length, set, Option, Some, None, Ok, Err, Result, arith, inl, inr, sym, ◌∙◌}
-use Rattle.std.proofs.Common.{ap, subst, refl, get_or-set_other, get_or-set_same, max, option_map, option_and_then, lt-ltb, ltb-true, le-ltb, length-set}
-use Rattle.std.specs.Result.{result_err}
-use Rattle.std.proofs.Math.Nat.{le-max_left}
-use Rattle.std.proofs.lemmas.Bool.{cases_lt}
-use Rattle.std.proofs.lemmas.List.{get_or_past}
-use Rattle.csv_rows.specs.Tables.{row_count}
-use Rattle.plan_model.proofs.Results.{require-ok}
-use Rattle.printed_rows.proofs.Chains.{if-value}
-use Rattle.plan_model.specs.NetworkModel.{NetworkModel}
-use Rattle.plan_model.specs.NameLists.{NameLists}
-use Rattle.plan_model.specs.Network.{count}
-use Rattle.printed_rows.specs.Fields.{field, number_of, connection_of, rises}
-use Rattle.lower_proof.specs.declared.reader.ValueRow.{ValueRow}
-use Rattle.lower_proof.specs.declared.reader.RowValue.{RowValue}
-use Rattle.lower_proof.specs.declared.reader.ProofFault.{ProofFault}
-use Rattle.lower_proof.specs.declared.reader.ProofFault.TheVariants.{Row}
-use Rattle.lower_proof.specs.Certificates.{bound_of}
-use Rattle.lower_proof.specs.Reading.{value_row_in, connection_in, nanos_in, reported_in, value_row, connection_before, value_fault, IsFirstLineFault, AreValuesReported}
+use Rattle.lower_proof.proofs.Common.{◌≡◌, ◌≢◌, ℕ, suc, ◌+◌, ◌<◌, ◌≤◌, ◌⊎◌, true, List, [], length, set, Option, Some, None, Ok, Err, Result, arith, inl, inr, sym, ◌∙◌, ap, subst, refl}
+use Rattle.lower_proof.proofs.Common.{get_or-set_other, get_or-set_same, max, option_map, option_and_then, lt-ltb, ltb-true, le-ltb, length-set, result_err, le-max_left, cases_lt, get_or_past}
+use Rattle.lower_proof.proofs.Common.{row_count, require-ok, if-value, NetworkModel, NameLists, count, field, number_of, connection_of, rises, ValueRow, RowValue, ProofFault, Row, bound_of}
+use Rattle.lower_proof.proofs.Common.{value_row_in, connection_in, nanos_in, reported_in, value_row, connection_before, value_fault, IsFirstLineFault, AreValuesReported}
 
 -- ---- a row that is well formed
 

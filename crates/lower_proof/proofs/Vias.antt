@@ -1,19 +1,8 @@
 -- The value of leaving by a connection.
-use Rattle.std.proofs.Common.{◌≡◌, ℕ, zero, suc, ◌+◌, ◌*◌, ◌/◌, ◌<◌, ◌≤◌, List, [], ◌∷◌, ◌++◌, length, take, drop, get_or, Option, Some, None, IsTrue, arith}
-use Rattle.std.proofs.Common.{sym, ◌∙◌, ap, subst, refl, sum_by}
+use Rattle.lower_proof.proofs.Common.{◌≡◌, ℕ, zero, suc, ◌+◌, ◌*◌, ◌/◌, ◌<◌, ◌≤◌, List, [], ◌∷◌, ◌++◌, length, take, drop, get_or, Option, Some, None, IsTrue, arith, sym, ◌∙◌, ap, subst, refl}
+use Rattle.lower_proof.proofs.Common.{sum_by, mul-le-mul_left, mul-add, mul_comm, cases_eq, take_more, sum_by-cons, Outcome, Query, NetworkModel, IsValid, count, connection, to_of, arr_of}
+use Rattle.lower_proof.proofs.Common.{outcomes, boards_later, weighted, IsLeastOf, IsLeastValue, IsLeastAt, AreLeast, IsVia, NoneAfter}
 use Rattle.std.proofs.Math.Seq.{drop-cons}
-use Rattle.std.proofs.Math.Nat.{mul-le-mul_left, mul-add, mul_comm}
-use Rattle.std.proofs.lemmas.Bool.{cases_eq}
-use Rattle.std.proofs.lemmas.List.{take_more}
-use Rattle.std.proofs.lemmas.List.Sums.{sum_by-cons}
-use Rattle.plan_model.specs.declared.model.Outcome.{Outcome}
-use Rattle.plan_model.specs.declared.model.Query.{Query}
-use Rattle.plan_model.specs.NetworkModel.{NetworkModel}
-use Rattle.plan_model.specs.Network.{IsValid, count, connection, to_of, arr_of, outcomes}
-use Rattle.plan_model.proofs.Boarding.{boards_later}
-use Rattle.interval_fixed.specs.Means.{weighted}
-use Rattle.lower_proof.specs.Certificates.{IsLeastOf, IsLeastValue, IsLeastAt, AreLeast, IsVia}
-use Rattle.lower_proof.specs.Departures.{NoneAfter}
 use Rattle.lower_proof.proofs.Leasts.{IsLeastOf-unique}
 
 -- there is only one least value

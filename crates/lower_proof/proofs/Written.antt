@@ -1,25 +1,12 @@
 -- The boards of all places, and what is known while a certificate is written.
-use Rattle.std.proofs.Common.{◌≡◌, ◌≢◌, ℕ, ◌+◌, ◌<◌, ◌≤◌, List, length, set, Option, Some, [], arith, inl, inr, sym, ◌∙◌, ap, subst, ◌∷◌, ◌++◌, None, IsTrue}
-use Rattle.std.proofs.Common.{Bool, true, false, cond, refl, get_or-set_other, length-set}
-use Rattle.std.proofs.lemmas.Bool.{cases_lt}
-use Rattle.plan_model.specs.declared.model.Query.{Query}
-use Rattle.plan_model.specs.NetworkModel.{NetworkModel}
-use Rattle.plan_model.specs.Network.{count, dep_of, IsValid, connection, arr_of, run_of}
-use Rattle.plan_model.specs.Strategy.{IsBoardable}
-use Rattle.lower_proof.specs.declared.board.Entry.{Entry}
-use Rattle.plan_model.specs.declared.departure.Departure.{Departure}
-use Rattle.lower_proof.specs.Certificates.{bound_of, IsLeastOf, Offers, IsLeastAt, IsTight}
-use Rattle.lower_proof.specs.Boards.{ShownBoard, entry_at, AreEntries, FrontValue, ValueInTime, least_of}
-use Rattle.lower_proof.specs.Departures.{NoneAfter, AreDepartingBy}
-use Rattle.lower_proof.specs.Minima.{AreLate, IsBoard, board_at, IsBoardOf, AreBoards, AllLate}
+use Rattle.lower_proof.proofs.Common.{◌≡◌, ◌≢◌, ℕ, ◌+◌, ◌<◌, ◌≤◌, List, length, set, Option, Some, [], arith, inl, inr, sym, ◌∙◌, ap, subst, ◌∷◌, ◌++◌, None, IsTrue, Bool, true, false, cond, refl}
+use Rattle.lower_proof.proofs.Common.{get_or-set_other, length-set, cases_lt, Query, NetworkModel, count, dep_of, IsValid, connection, arr_of, run_of, IsBoardable, Entry, Departure, bound_of}
+use Rattle.lower_proof.proofs.Common.{IsLeastOf, Offers, IsLeastAt, IsTight, ShownBoard, entry_at, AreEntries, FrontValue, ValueInTime, least_of, NoneAfter, AreDepartingBy, AreLate, IsBoard}
+use Rattle.lower_proof.proofs.Common.{board_at, IsBoardOf, AreBoards, AllLate, boards_later, ConnectionId, exit_of, IsBestExit, Known, known_left_out}
 use Rattle.lower_proof.proofs.Minima.{get_or-set}
 use Rattle.lower_proof.proofs.Entries.{no_board}
 use Rattle.lower_proof.proofs.Leasts.{least_same}
-use Rattle.plan_model.proofs.Boarding.{boards_later}
 use Rattle.lower_proof.proofs.Exits.{Agree, Rides, IsScanned, scanned_first, scanned_is_next, scanned_next, best_ride, none_rides, rides_agree, scanned_agrees}
-use Rattle.plan_model.specs.declared.model.ConnectionId.{ConnectionId}
-use Rattle.lower_proof.specs.Steps.{exit_of, IsBestExit}
-use Rattle.plan_model.proofs.ScanOrders.{Known, known_left_out}
 use Rattle.lower_proof.proofs.Departing.{Late, all_taken}
 
 -- the least value in time is the least value after the arrival

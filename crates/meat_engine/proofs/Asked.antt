@@ -1,21 +1,7 @@
 -- What a line of `ask_over` promises, said of what is asked.
-use Rattle.std.proofs.Common.{◌≡◌, ℕ, Option, None, Some, Result, Ok, Err, sym, subst, ◌≢◌, IfOk, IfErr}
-use Rattle.file_ports.specs.Ports.{FileMap, FilesState}
-use Rattle.csv_rows.specs.declared.limits.Limits.{Limits}
+use Rattle.meat_engine.proofs.Common.{◌≡◌, ℕ, Option, None, Some, Result, Ok, Err, sym, subst, ◌≢◌, IfOk, IfErr, FileMap, FilesState, Limits, AskModel, ask_shown, Fault, NoSafe, NoMemory, Problem}
+use Rattle.meat_engine.proofs.Common.{unread_input, parts_of, HasSite, OrNoMemory, Answer, findings_of, HasCauses, own_paths, AnswersAsk, FailsAsk}
 use Rattle.command_line.specs.declared.job.Ask.{Ask}
-use Rattle.command_line.specs.Jobs.{AskModel}
-use Rattle.command_line.specs.Shown.{ask_shown}
-use Rattle.journey_model.specs.declared.faults.Fault.{Fault}
-use Rattle.journey_model.specs.declared.faults.Fault.TheVariants.{NoSafe, NoMemory}
-use Rattle.journey_model.specs.declared.problem.Problem.{Problem}
-use Rattle.journey_model.specs.Faults.{unread_input}
-use Rattle.journey_model.specs.Known.{parts_of}
-use Rattle.journey_model.specs.Sites.{HasSite}
-use Rattle.journey_model.specs.Wants.{OrNoMemory}
-use Rattle.journey_report.specs.declared.answer.Answer.{Answer}
-use Rattle.journey_report.specs.Findings.{findings_of}
-use Rattle.journey_problem.specs.Files.{HasCauses}
-use Rattle.meat_engine.specs.Asks.{own_paths, AnswersAsk, FailsAsk}
 use Rattle.meat_engine.proofs.Asking.{unsafe_reported}
 
 module _ (contents : Option FileMap) (limits : Limits) (start : ℕ) (p : Problem) where

@@ -1,25 +1,12 @@
 -- Answers and faults, one from another.
-use Rattle.std.proofs.Common.{◌≡◌, ℕ, List, Option, None, Result, inl, inr, refl, ap, sym, ◌∙◌, subst, ◌≢◌, option_map}
-use Rattle.file_ports.specs.Counts.{RoseAt}
-use Rattle.file_ports.specs.Ports.{FilesState}
-use Rattle.command_line.specs.Jobs.{TimetableModel, JourneyModel, AskModel, Safe, Expand, Plan, Replay, Certify, CheckProof, CheckGraph, Punctual, Departures, Latest}
-use Rattle.journey_model.specs.declared.faults.Input.{Input}
+use Rattle.meat_engine.proofs.Common.{◌≡◌, ℕ, List, Option, None, Result, inl, inr, refl, ap, sym, ◌∙◌, subst, ◌≢◌, option_map, RoseAt, FilesState, TimetableModel, JourneyModel, AskModel, Safe}
+use Rattle.meat_engine.proofs.Common.{Expand, Plan, Replay, Certify, CheckProof, CheckGraph, Punctual, Departures, Latest, Input, Fault, Read, NoSafe, NoMemory, unread_input, NamedParts, HasSite}
+use Rattle.meat_engine.proofs.Common.{IsStageBeforeSearch, Problem, path_of, HasCauses, OrNoMemory, own_paths, parts_of, IsRefusalBy}
 use Rattle.journey_model.specs.declared.faults.Input.TheVariants as input
-use Rattle.journey_model.specs.declared.faults.Fault.{Fault}
-use Rattle.journey_model.specs.declared.faults.Fault.TheVariants.{Read, NoSafe, NoMemory}
-use Rattle.journey_model.specs.Faults.{unread_input}
-use Rattle.journey_model.specs.Sites.{NamedParts, HasSite}
-use Rattle.journey_model.specs.Stages.{IsStageBeforeSearch}
 use Rattle.journey_model.proofs.Sited.{has_site}
-use Rattle.journey_model.specs.declared.problem.Problem.{Problem}
 use Rattle.journey_problem.specs.FaultsBeforeSearch.{IsBeforeSearch}
-use Rattle.journey_problem.specs.Files.{path_of, HasCauses}
 use Rattle.meat_engine.specs.declared.refusal.Refusal.{Refusal}
-use Rattle.journey_model.specs.Wants.{OrNoMemory}
 use Rattle.journey_problem.specs.Paths.{graph_path, certificate_path}
-use Rattle.meat_engine.specs.Asks.{own_paths}
-use Rattle.journey_model.specs.Known.{parts_of}
-use Rattle.meat_engine.specs.Refusals.{IsRefusalBy}
 
 -- an early fault is at no site
 pub early_has_site : (known : Option NamedParts) (timetable : TimetableModel) (fault : Fault) → IsBeforeSearch timetable fault → HasSite known fault

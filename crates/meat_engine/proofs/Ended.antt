@@ -1,28 +1,15 @@
 -- A question about a problem ends as the problem says.
-use Rattle.std.proofs.Common.{◌≡◌, ℕ, refl, sym, ap, ◌∙◌, subst, inl, inr, List, Option, Some, ◌⊎◌}
-use Rattle.file_ports.specs.Ports.{FileMap, file_at}
-use Rattle.csv_rows.specs.declared.limits.Limits.{Limits}
+use Rattle.meat_engine.proofs.Common.{◌≡◌, ℕ, refl, sym, ap, ◌∙◌, subst, inl, inr, List, Option, Some, ◌⊎◌, FileMap, file_at, Limits, JourneyModel, AskModel, Safe, Expand, Plan, Replays, Certify}
+use Rattle.meat_engine.proofs.Common.{CheckProof, CheckGraph, Punctual, Departures, Latest, Input, Fault, Read, status_of, NamedParts, Problem, IsProblem, IsProblemFault, bytes_of, none_unread}
+use Rattle.meat_engine.proofs.Common.{IsQueryOf, IsNoSafe, AnswersAsk, FailsAsk, EndsAsk, FailsJourney, FailsCheck, FailsReplay, FailsScore, HasSafe, EndsBySafety, EndsByGraphFile}
+use Rattle.meat_engine.proofs.Common.{EndsByCertificateFile, EndsByScore, Findings}
 use Rattle.plan_model.specs.declared.model.Query.{Query}
 use Rattle.plan_model.specs.declared.model.Moment.{Moment}
 use Rattle.plan_model.specs.NetworkModel.{NetworkModel}
 use Rattle.plan_model.specs.Strategy.{Reaches, IsLeastWorst}
-use Rattle.command_line.specs.Jobs.{JourneyModel, AskModel, Safe, Expand, Plan, Replay as Replays, Certify, CheckProof, CheckGraph, Punctual, Departures, Latest}
-use Rattle.journey_model.specs.declared.faults.Input.{Input}
 use Rattle.journey_model.specs.declared.faults.Input.TheVariants as input
-use Rattle.journey_model.specs.declared.faults.Fault.{Fault}
-use Rattle.journey_model.specs.declared.faults.Fault.TheVariants.{Read}
-use Rattle.journey_model.specs.Faults.{status_of}
-use Rattle.journey_model.specs.Sites.{NamedParts}
-use Rattle.journey_model.specs.declared.problem.Problem.{Problem}
-use Rattle.journey_problem.specs.Problems.{IsProblem, IsProblemFault}
-use Rattle.journey_problem.specs.Files.{bytes_of}
 use Rattle.journey_problem.proofs.OneProblem.{one_problem}
-use Rattle.journey_problem.proofs.NoFaults.{none_unread}
-use Rattle.journey_answers.specs.Answers.{IsQueryOf, IsNoSafe}
-use Rattle.meat_engine.specs.Asks.{AnswersAsk, FailsAsk, EndsAsk, FailsJourney, FailsCheck, FailsReplay, FailsScore}
 use Rattle.journey_problem.specs.CertificateFiles.{FailsFile}
-use Rattle.meat_engine.specs.Ends.{HasSafe, EndsBySafety, EndsByGraphFile, EndsByCertificateFile, EndsByScore}
-use Rattle.journey_report.specs.Findings.{Findings}
 use Rattle.journey_problem.specs.GraphFiles.{graph_in}
 
 -- a least worst arrival is that of a strategy

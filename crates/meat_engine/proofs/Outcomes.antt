@@ -1,24 +1,12 @@
 -- What a run comes to.
-use Rattle.std.proofs.Common.{◌≡◌, ℕ, List, Option, Some, None, Ok, inl, inr, refl, ap, sym, subst, ⊎_elim, ◌∙◌, ◌≢◌, ◌⊎◌}
+use Rattle.meat_engine.proofs.Common.{◌≡◌, ℕ, List, Option, Some, None, Ok, inl, inr, refl, ap, sym, subst, ⊎_elim, ◌∙◌, ◌≢◌, ◌⊎◌, Keeps, FileMap, Limits, AskModel, Safe, Expand, Plan, Replays}
+use Rattle.meat_engine.proofs.Common.{Certify, CheckProof, CheckGraph, Punctual, Departures, Latest, JobModel, Ask, Sample, job_of, Input, Fault, Missing, Limit, Read, Write, NoMemory, line_of}
+use Rattle.meat_engine.proofs.Common.{IsFormatted, NamedParts, stage_of_input, stage_of_limit, Problem, Report, FailsAsk, Findings, findings_of, no_findings, Ending, Refused, ending_at, ending_of}
+use Rattle.meat_engine.proofs.Common.{AnswersJob, FailsJob, IsExplained, IsRefused, IsRefusedWith, IsWritten, IsWrittenBy, IsLineWritten, Outcome, OutcomeBy}
 use Rattle.std.proofs.lemmas.Option.{same_Some}
-use Rattle.std.specs.Io.KnownBytes.{Keeps}
-use Rattle.file_ports.specs.Ports.{FileMap}
-use Rattle.csv_rows.specs.declared.limits.Limits.{Limits}
-use Rattle.command_line.specs.Jobs.{AskModel, Safe, Expand, Plan, Replay as Replays, Certify, CheckProof, CheckGraph, Punctual, Departures, Latest, JobModel, Ask, Sample, job_of}
-use Rattle.journey_model.specs.declared.faults.Input.{Input}
 use Rattle.journey_model.specs.declared.faults.Input.TheVariants as input
 use Rattle.journey_model.specs.declared.faults.LimitKind.{LimitKind}
 use Rattle.journey_model.specs.declared.faults.LimitKind.TheVariants.{Bytes}
-use Rattle.journey_model.specs.declared.faults.Fault.{Fault}
-use Rattle.journey_model.specs.declared.faults.Fault.TheVariants.{Missing, Limit, Read, Write, NoMemory}
-use Rattle.journey_model.specs.FaultLines.{line_of, IsFormatted}
-use Rattle.journey_model.specs.Sites.{NamedParts}
-use Rattle.journey_model.specs.Stages.{stage_of_input, stage_of_limit}
-use Rattle.journey_model.specs.declared.problem.Problem.{Problem}
-use Rattle.journey_report.specs.declared.report.Report.{Report}
-use Rattle.meat_engine.specs.Asks.{FailsAsk}
-use Rattle.journey_report.specs.Findings.{Findings, findings_of, no_findings}
-use Rattle.meat_engine.specs.Received.{Ending, Refused, ending_at, ending_of, AnswersJob, FailsJob, IsExplained, IsRefused, IsRefusedWith, IsWritten, IsWrittenBy, IsLineWritten, Outcome, OutcomeBy}
 
 -- a fault of an input ends a run with nothing but the fault
 of_input : (file : Input) → ending_at (stage_of_input file) ≡ Refused

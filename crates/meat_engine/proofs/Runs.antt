@@ -1,19 +1,7 @@
 -- A run by its steps.
-use Rattle.std.proofs.Common.{◌≡◌, ◌<◌, ℕ, sym, subst, arith, ⊎_elim, List, Option, Some, None, Ok, ◌≢◌, IsSome}
-use Rattle.std.specs.Io.KnownBytes.{Keeps}
-use Rattle.file_ports.specs.Counts.{Rose, RoseAt}
-use Rattle.file_ports.specs.Ports.{FilesState}
-use Rattle.csv_rows.specs.declared.limits.Limits.{Limits}
-use Rattle.command_line.specs.Jobs.{JobModel, job_of}
-use Rattle.journey_model.specs.declared.faults.Input.{Input}
-use Rattle.journey_model.specs.declared.faults.Fault.{Fault}
-use Rattle.journey_model.specs.declared.faults.Fault.TheVariants.{Read, Write, NoMemory}
-use Rattle.journey_model.specs.Faults.{status_of}
-use Rattle.journey_model.specs.FaultLines.{line_of, IsFormatted}
-use Rattle.journey_model.specs.Sites.{NamedParts}
-use Rattle.journey_report.specs.declared.report.Report.{Report}
-use Rattle.journey_report.specs.Findings.{Findings, findings_of, no_findings}
-use Rattle.meat_engine.specs.Received.{Ending, AnswersJob, IsExplained, IsRefusedWith, IsWritten, IsWrittenBy, Outcome, path_in}
+use Rattle.meat_engine.proofs.Common.{◌≡◌, ◌<◌, ℕ, sym, subst, arith, ⊎_elim, List, Option, Some, None, Ok, ◌≢◌, IsSome, Keeps, Rose, RoseAt, FilesState, Limits, JobModel, job_of, Input, Fault}
+use Rattle.meat_engine.proofs.Common.{Read, Write, NoMemory, status_of, line_of, IsFormatted, NamedParts, Report, Findings, findings_of, no_findings, Ending, AnswersJob, IsExplained}
+use Rattle.meat_engine.proofs.Common.{IsRefusedWith, IsWritten, IsWrittenBy, Outcome, path_in}
 use Rattle.meat_engine.specs.RunPromises.{SinkState, WritesLine, IsRun}
 use Rattle.meat_engine.proofs.Outcomes.{refused_ending, keeps_same, refused_outcome, answered_outcome, refused_some, refused_is, refused_read}
 use Rattle.meat_engine.proofs.Statuses.{complete}

@@ -1,25 +1,10 @@
 -- The status of a call, by what it comes to.
-use Rattle.std.proofs.Common.{◌≡◌, ℕ, ap, refl, sym, ◌∙◌, subst, inl, inr, List, Option, Some, None, Ok, ◌≢◌, ◌⊎◌}
-use Rattle.file_ports.specs.Ports.{FileMap}
-use Rattle.csv_rows.specs.declared.limits.Limits.{Limits}
+use Rattle.meat_engine.proofs.Common.{◌≡◌, ℕ, ap, refl, sym, ◌∙◌, subst, inl, inr, List, Option, Some, None, Ok, ◌≢◌, ◌⊎◌, FileMap, Limits, JourneyModel, AskModel, Plan, Ask, Sample, job_of}
+use Rattle.meat_engine.proofs.Common.{Input, Fault, Read, NoMemory, status_of, IsUndisturbed, NamedParts, Problem, IsProblem, IsProblemFault, IsFaultless, no_fault, Report, EndsAsk, EndsBySafety}
+use Rattle.meat_engine.proofs.Common.{findings_of, Outcome, sample_journey, sample_alpha, FailsSample}
 use Rattle.feed_maker.specs.Made.{made, SameFolder}
-use Rattle.command_line.specs.Jobs.{JourneyModel, AskModel, Plan, Ask, Sample, job_of}
-use Rattle.journey_model.specs.declared.faults.Input.{Input}
-use Rattle.journey_model.specs.declared.faults.Fault.{Fault}
-use Rattle.journey_model.specs.declared.faults.Fault.TheVariants.{Read, NoMemory}
-use Rattle.journey_model.specs.Faults.{status_of, IsUndisturbed}
-use Rattle.journey_model.specs.Sites.{NamedParts}
-use Rattle.journey_model.specs.declared.problem.Problem.{Problem}
-use Rattle.journey_problem.specs.Problems.{IsProblem, IsProblemFault, IsFaultless}
-use Rattle.journey_problem.proofs.NoFaults.{no_fault}
 use Rattle.journey_problem.proofs.SameFiles.{same_feed_problem}
-use Rattle.journey_report.specs.declared.report.Report.{Report}
-use Rattle.meat_engine.specs.Asks.{EndsAsk}
 use Rattle.meat_engine.specs.Completeness.{IsComplete}
-use Rattle.meat_engine.specs.Ends.{EndsBySafety}
-use Rattle.journey_report.specs.Findings.{findings_of}
-use Rattle.meat_engine.specs.Received.{Outcome}
-use Rattle.meat_engine.specs.Samples.{sample_journey, sample_alpha, FailsSample}
 use Rattle.meat_engine.proofs.Ended.{asked_ends, answers_end, EndsOver, ends_in, fails_over}
 use Rattle.meat_engine.proofs.Outcomes.{no_memory_or_not}
 use Rattle.meat_engine.proofs.Undisturbed.{fails, answered}

@@ -1,14 +1,6 @@
 -- What an outcome says, where no file failed to be read and the answer was written.
-use Rattle.std.proofs.Common.{◌≡◌, ℕ, subst, inl, inr, List, Option, Some, None, Ok, ◌≢◌}
-use Rattle.file_ports.specs.Ports.{FileMap}
-use Rattle.csv_rows.specs.declared.limits.Limits.{Limits}
-use Rattle.command_line.specs.Jobs.{JobModel, job_of}
-use Rattle.journey_report.specs.declared.report.Report.{Report}
-use Rattle.journey_model.specs.declared.faults.Fault.{Fault}
-use Rattle.journey_model.specs.declared.faults.Fault.TheVariants.{Write, NoMemory}
-use Rattle.journey_model.specs.Sites.{NamedParts}
-use Rattle.journey_report.specs.Findings.{findings_of}
-use Rattle.meat_engine.specs.Received.{Ending, AnswersJob, FailsJob, IsExplained, IsRefused, Outcome, OutcomeBy}
+use Rattle.meat_engine.proofs.Common.{◌≡◌, ℕ, subst, inl, inr, List, Option, Some, None, Ok, ◌≢◌, FileMap, Limits, JobModel, job_of, Report, Fault, Write, NoMemory, NamedParts, findings_of}
+use Rattle.meat_engine.proofs.Common.{Ending, AnswersJob, FailsJob, IsExplained, IsRefused, Outcome, OutcomeBy}
 use Rattle.meat_engine.proofs.Outcomes.{refused_ending}
 
 pub one_job : (words : List (List ℕ)) (a b : JobModel) → job_of words ≡ Ok a → job_of words ≡ Ok b → a ≡ b

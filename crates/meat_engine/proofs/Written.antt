@@ -1,10 +1,7 @@
 -- What a sink received.
-use Rattle.std.proofs.Common.{ℕ, List, length, Option, Result, Ok, Err, sym, subst, arith, OnOk, OnErr}
-use Rattle.std.specs.Io.KnownBytes.{Appends}
+use Rattle.meat_engine.proofs.Common.{ℕ, List, length, Option, Result, Ok, Err, sym, subst, arith, OnOk, OnErr, Appends, HasCause, IsLineWritten}
 use Rattle.std.proofs.Math.Seq.{take-length}
-use Rattle.file_ports.specs.Counts.{HasCause}
 use Rattle.file_ports.specs.Loading.{AppendsFront}
-use Rattle.meat_engine.specs.Received.{IsLineWritten}
 
 -- the whole is a front
 front_of : (old new : Option (List ℕ)) (bytes : List ℕ) → Appends old new bytes → AppendsFront old new bytes

@@ -1,25 +1,9 @@
 -- When all connections are scanned.
-use Rattle.std.proofs.Common.{◌≡◌, ◌≢◌, ℕ, zero, suc, ◌+◌, ◌-◌, ◌<◌, ◌≤◌, List, [], ◌∷◌, Option, Some, None, MatchOption, arith, sym, subst, refl, inl, inr}
-use Rattle.std.proofs.Common.{◌∙◌, ap, option_map}
-use Rattle.std.proofs.lemmas.Grind.{common_steps}
-use Rattle.std.proofs.lemmas.Bool.{cases_lt}
-use Rattle.std.proofs.lemmas.Bool.Decides.{nat_tests}
-use Rattle.plan_model.specs.declared.model.Leg.{Leg}
-use Rattle.plan_model.specs.declared.model.Outcome.{Outcome}
-use Rattle.plan_model.specs.declared.model.Query.{Query}
-use Rattle.plan_model.specs.NetworkModel.{NetworkModel}
-use Rattle.plan_model.specs.Network.{count, to_of, arr_of, outcomes}
-use Rattle.plan_model.specs.Tree.{Tree, Kids, Done, Ride, Stuck, Nil, Kid, height, height_of}
-use Rattle.plan_model.specs.Strategy.{IsSafe, AreSafe, IsSafeFor}
-use Rattle.plan_model.specs.Unfold.{end_of, kids_after, ride_of, ride_or_stuck, unfold_after, unfold_from, by_place}
-use Rattle.value_laws.specs.ScoreLaws.{Scoring}
-use Rattle.stop_profile.specs.declared.Row.{Row}
-use Rattle.stop_profile.specs.Inserts.{row_in_time}
-use Rattle.trip_exit.specs.Offers.{Exit}
-use Rattle.meat_scan.specs.ScanResult.{ScanResult, found_rows, leg_choice, chosen_at, chosen_by}
-use Rattle.meat_scan.specs.Solves.{IsSafeAt, HasAnswers, SolvesEach, IsStartAnswer, SolvesStart}
+use Rattle.meat_scan.proofs.Common.{◌≡◌, ◌≢◌, ℕ, zero, suc, ◌+◌, ◌-◌, ◌<◌, ◌≤◌, List, [], ◌∷◌, Option, Some, None, MatchOption, arith, sym, subst, refl, inl, inr, ◌∙◌, ap, option_map}
+use Rattle.meat_scan.proofs.Common.{common_steps, cases_lt, nat_tests, Leg, Outcome, Query, NetworkModel, count, to_of, arr_of, outcomes, Tree, Kids, Done, Ride, Stuck, Nil, Kid, height}
+use Rattle.meat_scan.proofs.Common.{height_of, IsSafe, AreSafe, IsSafeFor, end_of, kids_after, ride_of, ride_or_stuck, unfold_after, unfold_from, by_place, Scoring, Row, row_in_time, Exit}
+use Rattle.meat_scan.proofs.Common.{ScanResult, found_rows, leg_choice, chosen_at, chosen_by, IsSafeAt, HasAnswers, SolvesEach, IsStartAnswer, SolvesStart, picked_in_time}
 use Rattle.meat_scan.proofs.Ways.{boards-limit_of}
-use Rattle.stop_profile.proofs.Looks.{picked_in_time}
 use Rattle.meat_scan.proofs.Claims.{IsChosen, ChosenChildren, by_ride, PlaceOk}
 use Rattle.meat_scan.proofs.Starts.{StartOk}
 use Rattle.meat_scan.proofs.ScanStep.{ScanOk}

@@ -1,21 +1,10 @@
 -- The memory of a scan.
-use Rattle.std.proofs.Common.{Bool, ◌≡◌, ℕ, zero, suc, ◌+◌, ◌<◌, ◌≤◌, List, [], ◌∷◌, ◌++◌, length, get_or, take, replicate, Option, None, arith, ◌∙◌, refl}
-use Rattle.std.proofs.Common.{cond, length-take-le, count_by, All, ap, sym, append-nil}
-use Rattle.std.proofs.lemmas.Bool.Decides.{nat_tests}
-use Rattle.std.proofs.lemmas.Grind.{common_steps}
-use Rattle.std.proofs.lemmas.List.{length-replicate}
-use Rattle.std.proofs.lemmas.List.Elements.{All-nil, All-tail}
-use Rattle.std.proofs.lemmas.List.Sums.{count_by-le-length, sum_by-append, sum_by-cons}
-use Rattle.plan_model.specs.declared.model.Connection.{Connection}
-use Rattle.plan_model.specs.declared.model.ConnectionId.{ConnectionId}
-use Rattle.plan_model.specs.NetworkModel.{NetworkModel}
+use Rattle.meat_scan.proofs.Common.{Bool, ◌≡◌, ℕ, zero, suc, ◌+◌, ◌<◌, ◌≤◌, List, [], ◌∷◌, ◌++◌, length, get_or, take, replicate, Option, None, arith, ◌∙◌, refl, cond, length-take-le, count_by}
+use Rattle.meat_scan.proofs.Common.{All, ap, sym, append-nil, nat_tests, common_steps, length-replicate, All-nil, All-tail, count_by-le-length, sum_by-append, sum_by-cons, Connection}
+use Rattle.meat_scan.proofs.Common.{ConnectionId, NetworkModel, count, connection, dep_of, from_of, run_of, no_connection, IsValid, IsScanOrder, IsPrefixUpTo, count_in_order, has_each_id}
+use Rattle.meat_scan.proofs.Common.{ShownProfile, Exit, rows_of_profile, spare_at, exit_at, has_way, is_boardable_by, boardable, HasRoom, FitsTables, FitsTablesBy, ShownTables, capacity_at}
+use Rattle.meat_scan.proofs.Common.{IsEmpty}
 use Rattle.plan_model.specs.Bounds.{end_of_arrivals}
-use Rattle.plan_model.specs.Network.{count, connection, dep_of, from_of, run_of, no_connection, IsValid}
-use Rattle.plan_model.specs.Order.{IsScanOrder, IsPrefixUpTo}
-use Rattle.plan_model.proofs.ScanOrders.{count_in_order, has_each_id}
-use Rattle.stop_profile.specs.Shown.{ShownProfile}
-use Rattle.trip_exit.specs.Offers.{Exit}
-use Rattle.meat_scan.specs.ScanTables.{rows_of_profile, spare_at, exit_at, has_way, is_boardable_by, boardable, HasRoom, FitsTables, FitsTablesBy, ShownTables, capacity_at, IsEmpty}
 
 -- one connection more is counted, where it passes
 pub count_by-take_more : (p : Connection → Bool) (connections : List Connection) (i : ℕ) → i < length connections

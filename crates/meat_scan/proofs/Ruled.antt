@@ -1,17 +1,7 @@
 -- The strategy of a scan's start is the one that the rules keep.
-use Rattle.std.proofs.Common.{◌≡◌, ℕ, List, Option, Some, None, sym, refl, ap, ◌∙◌}
+use Rattle.meat_scan.proofs.Common.{◌≡◌, ℕ, List, Option, Some, None, sym, refl, ap, ◌∙◌, ConnectionId, Leg, Query, NetworkModel, IsScanOrder, unfolding_of, by_place, Scoring, Row, row_in_time}
+use Rattle.meat_scan.proofs.Common.{FollowsRules, IsByRules, kept_after, kept_leg, ScanResult, chosen_by, leg_choice, found_rows}
 use Rattle.std.specs.Option.{option_map}
-use Rattle.plan_model.specs.declared.model.ConnectionId.{ConnectionId}
-use Rattle.plan_model.specs.declared.model.Leg.{Leg}
-use Rattle.plan_model.specs.declared.model.Query.{Query}
-use Rattle.plan_model.specs.NetworkModel.{NetworkModel}
-use Rattle.plan_model.specs.Order.{IsScanOrder}
-use Rattle.plan_model.specs.Unfold.{unfolding_of, by_place}
-use Rattle.value_laws.specs.ScoreLaws.{Scoring}
-use Rattle.stop_profile.specs.declared.Row.{Row}
-use Rattle.stop_profile.specs.Inserts.{row_in_time}
-use Rattle.meat_scan.specs.Rules.{FollowsRules, IsByRules, kept_after, kept_leg}
-use Rattle.meat_scan.specs.ScanResult.{ScanResult, chosen_by, leg_choice, found_rows}
 
 module _ {V : Type 0} (scoring : Scoring V) (n : NetworkModel) (q : Query) (found : ScanResult V) where
   leg_of_row : (row : Option (Row V)) → option_map (λ (c : V × Leg). c.1) (option_map (λ (r : Row V). (r.value, r.leg)) row) ≡ option_map (λ (r : Row V). r.leg) row

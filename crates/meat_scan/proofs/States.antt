@@ -1,30 +1,12 @@
 -- What holds while the scan runs.
-use Rattle.std.proofs.Common.{◌≡◌, ◌≢◌, ℕ, zero, suc, get_or, map, ◌+◌, ◌<◌, ◌≤◌, List, [], ◌∷◌, ◌++◌, length, Option, None, arith, sym, refl, ◌∙◌, ap}
-use Rattle.std.proofs.Common.{append_assoc, cond, Bool, true, false, All, subst, append-nil}
-use Rattle.std.proofs.lemmas.Bool.Decides.{nat_tests}
-use Rattle.std.proofs.lemmas.Grind.{common_steps}
-use Rattle.std.proofs.lemmas.List.Sums.{sum_by_push}
-use Rattle.plan_model.specs.declared.model.ConnectionId.{ConnectionId}
-use Rattle.plan_model.specs.declared.model.Leg.{Leg}
-use Rattle.plan_model.specs.declared.model.Outcome.{Outcome}
-use Rattle.plan_model.specs.declared.model.Query.{Query}
-use Rattle.plan_model.specs.NetworkModel.{NetworkModel}
-use Rattle.plan_model.specs.Network.{count, from_of, run_of, IsValid, connection, to_of, dep_of, arr_of, outcomes}
-use Rattle.plan_model.specs.Order.{IsScanOrder, IsPrefixUpTo}
-use Rattle.plan_model.proofs.ScanOrders.{has_each_id, Known, Never, whole_order, next_of, all_known}
-use Rattle.value_laws.specs.ScoreLaws.{Scoring, ScoreLaws}
-use Rattle.stop_profile.specs.declared.Row.{Row}
-use Rattle.stop_profile.specs.Shown.{ShownProfile}
-use Rattle.trip_exit.specs.Offers.{Exit}
-use Rattle.meat_scan.specs.Step.{exits_next, rows_next, start_next, alighted_by, boarding_exit, exits_with, rows_with, start_with}
-use Rattle.meat_scan.specs.Rules.{Kept, kept_in, kept_next, kept_after, FollowsRules}
-use Rattle.meat_scan.specs.ScanTables.{rows_of_profile, spare_at, exit_at, has_way, boardable, HasRoom, HasRoomFor, IsEmpty}
-use Rattle.meat_scan.specs.ScanResult.{ScanResult, found_rows}
-use Rattle.meat_scan.specs.Solves.{HasAnswers}
+use Rattle.meat_scan.proofs.Common.{◌≡◌, ◌≢◌, ℕ, zero, suc, get_or, map, ◌+◌, ◌<◌, ◌≤◌, List, [], ◌∷◌, ◌++◌, length, Option, None, arith, sym, refl, ◌∙◌, ap, append_assoc, cond, Bool, true, false}
+use Rattle.meat_scan.proofs.Common.{All, subst, append-nil, nat_tests, common_steps, sum_by_push, ConnectionId, Leg, Outcome, Query, NetworkModel, count, from_of, run_of, IsValid, connection}
+use Rattle.meat_scan.proofs.Common.{to_of, dep_of, arr_of, outcomes, IsScanOrder, IsPrefixUpTo, has_each_id, Known, Never, whole_order, next_of, all_known, Scoring, ScoreLaws, Row, ShownProfile}
+use Rattle.meat_scan.proofs.Common.{Exit, exits_next, rows_next, start_next, alighted_by, boarding_exit, exits_with, rows_with, start_with, Kept, kept_in, kept_next, kept_after, FollowsRules}
+use Rattle.meat_scan.proofs.Common.{rows_of_profile, spare_at, exit_at, has_way, boardable, HasRoom, HasRoomFor, IsEmpty, ScanResult, found_rows, HasAnswers, All-tail, All-head}
+use Rattle.meat_scan.proofs.Common.{value_after_arrival, values_after, in_front}
 use Rattle.meat_scan.proofs.ScanStep.{ScanOk, scan_ok_step}
 use Rattle.meat_scan.proofs.Ends.{scan_ok_start, solves_end}
-use Rattle.std.proofs.lemmas.List.Elements.{All-tail, All-head}
-use Rattle.meat_scan.specs.Values.{value_after_arrival, values_after, in_front}
 
 -- functions that agree everywhere are one
 pub same_function : {A B : Type 0} (f g : A → B) → ((x : A) → f x ≡ g x) → f ≡ g

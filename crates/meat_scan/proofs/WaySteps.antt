@@ -1,24 +1,11 @@
 -- One way after the other.
-use Rattle.std.proofs.Common.{◌≡◌, ◌≢◌, ℕ, suc, ◌+◌, ◌<◌, ◌≤◌, true, List, [], ◌∷◌, ◌++◌, Option, Some, None, AllPairs, length, get_or, take, cond, slice_get}
-use Rattle.std.proofs.Common.{arith, sym, ap, ◌∙◌, refl, inl, inr, subst, set, length-take-le, get_or-set_same, get_or-set_other, find, ◌==◌, is_some}
-use Rattle.std.proofs.Common.{option_map, eq-eqb, ne_eqb, get_or-take}
-use Rattle.std.proofs.lemmas.Grind.{common_steps}
-use Rattle.std.specs.Option.{option_or}
-use Rattle.std.proofs.lemmas.Bool.{cases_eq}
+use Rattle.meat_scan.proofs.Common.{◌≡◌, ◌≢◌, ℕ, suc, ◌+◌, ◌<◌, ◌≤◌, true, List, [], ◌∷◌, ◌++◌, Option, Some, None, AllPairs, length, get_or, take, cond, slice_get, arith, sym, ap, ◌∙◌, refl, inl}
+use Rattle.meat_scan.proofs.Common.{inr, subst, set, length-take-le, get_or-set_same, get_or-set_other, find, ◌==◌, is_some, option_map, eq-eqb, ne_eqb, get_or-take, common_steps, option_or}
+use Rattle.meat_scan.proofs.Common.{cases_eq, nat_tests, take_more, Leg, NetworkModel, IsValid, ways_into, way_of-listed, way_takes, ways_into-distinct, Scoring, Row, with_way, way_of_place}
+use Rattle.meat_scan.proofs.Common.{has_way}
 use Rattle.std.proofs.lemmas.List.Folds.{find-append}
 use Rattle.std.proofs.lemmas.Option.{slice_get-get_or}
-use Rattle.std.proofs.lemmas.Bool.Decides.{nat_tests}
-use Rattle.std.proofs.lemmas.List.{take_more}
-use Rattle.plan_model.specs.declared.model.Leg.{Leg}
 use Rattle.plan_model.specs.declared.model.Way.{Way}
-use Rattle.plan_model.specs.NetworkModel.{NetworkModel}
-use Rattle.plan_model.specs.Network.{IsValid}
-use Rattle.plan_model.specs.Ways.{ways_into}
-use Rattle.plan_model.proofs.Boarding.{way_of-listed, way_takes, ways_into-distinct}
-use Rattle.value_laws.specs.ScoreLaws.{Scoring}
-use Rattle.stop_profile.specs.declared.Row.{Row}
-use Rattle.meat_scan.specs.Step.{with_way, way_of_place}
-use Rattle.meat_scan.specs.ScanTables.{has_way}
 
 -- the way from a place, in a list of them
 abbrev pub way_in : List Way → ℕ → Option Way

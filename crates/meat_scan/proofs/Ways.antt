@@ -1,13 +1,6 @@
 -- Who can board a leg: a traveller who arrives by its limit.
-use Rattle.std.proofs.Common.{◌≡◌, ℕ, ◌-◌, ◌<◌, ◌≤◌, Some, None, arith}
-use Rattle.std.proofs.lemmas.Bool.Decides.{nat_tests}
-use Rattle.std.proofs.lemmas.Grind.{common_steps}
-use Rattle.plan_model.specs.declared.model.Leg.{Leg}
-use Rattle.plan_model.specs.NetworkModel.{NetworkModel}
-use Rattle.plan_model.specs.Network.{count, from_of, dep_of, IsValid}
-use Rattle.plan_model.specs.Ways.{limit_of}
-use Rattle.plan_model.specs.Strategy.{IsBoardable}
-use Rattle.plan_model.proofs.Boarding.{way_takes, earlier_by-is, limit_of-some}
+use Rattle.meat_scan.proofs.Common.{◌≡◌, ℕ, ◌-◌, ◌<◌, ◌≤◌, Some, None, arith, nat_tests, common_steps, Leg, NetworkModel, count, from_of, dep_of, IsValid, limit_of, IsBoardable, way_takes}
+use Rattle.meat_scan.proofs.Common.{earlier_by-is, limit_of-some}
 
 -- a traveller who can board has arrived by the limit
 pub limit_of-boards : (n : NetworkModel) (p x : ℕ) (leg : Leg) → IsBoardable n p x leg.enter.0 → (by : ℕ) × (limit_of n p leg ≡ Some by) × (x ≤ by)

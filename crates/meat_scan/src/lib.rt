@@ -189,7 +189,11 @@ struct ChildValues<V> {
 }
 
 // The value of leaving a run by a connection, if that is allowed and safe.
-fn alighted_value<V: Score>(profiles: &[Profile<V>], site: &Site, kids: &mut ChildValues<V>) -> Option<V>
+fn alighted_value<V: Score>(
+    profiles: &[Profile<V>],
+    site: &Site,
+    kids: &mut ChildValues<V>,
+) -> Option<V>
     ensures { let rows = rows_of_profile profiles.now in
         result ≡ alighted_by V.scoring site.now.network.now site.now.query.now rows site.now.id.0 }
 {

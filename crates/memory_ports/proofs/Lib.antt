@@ -1,2 +1,3 @@
+mod Common
 pub mod FailingLemmas
 pub mod Silent

@@ -1,12 +1,6 @@
 -- Entries whose calls are forgotten one after the other, and whose counts stay.
-use Rattle.std.proofs.Common.{◌≡◌, ◌<◌, ℕ, ◌+◌, List, [], ◌∷◌, Bool, true, false, map, get_or, set, length, refl, ap, sym, ◌∙◌, arith, Option, if◌then◌else◌}
-use Rattle.std.proofs.Common.{Some, bytes_eq, string_bytes, nat_eq, get_or-set_same, get_or-set_other}
-use Rattle.std.specs.List.{list_any}
-use Rattle.file_ports.specs.declared.named.Named.{Named}
-use Rattle.memory_ports.specs.declared.memory.Failing.{Failing}
-use Rattle.file_ports.specs.Named.{value_at}
-use Rattle.memory_ports.specs.Failing.{faults_in, fails_in}
-use Rattle.file_ports.proofs.NamedLemmas.{get_or_next}
+use Rattle.memory_ports.proofs.Common.{◌≡◌, ◌<◌, ℕ, ◌+◌, List, [], ◌∷◌, Bool, true, false, map, get_or, set, length, refl, ap, sym, ◌∙◌, arith, Option, if◌then◌else◌, Some, bytes_eq, string_bytes}
+use Rattle.memory_ports.proofs.Common.{nat_eq, get_or-set_same, get_or-set_other, list_any, Named, Failing, value_at, faults_in, fails_in, get_or_next}
 use Rattle.memory_ports.proofs.FailingLemmas.{count_of, names_of}
 
 -- an entry by its path and its count

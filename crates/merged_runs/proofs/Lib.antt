@@ -1,3 +1,4 @@
+mod Common
 pub mod ScanLemmas
 pub mod StretchLemmas
 pub mod StartLemmas

@@ -1,18 +1,9 @@
 -- The scan order of a network, and what remains of it.
-use Rattle.std.proofs.Common.{◌≡◌, ℕ, zero, suc, ◌<◌, ◌≤◌, ltb, List, [], ◌∷◌, ◌++◌, All, AllPairs, arith, sym, subst, IsPermutation, ltb-true, ltb-false}
-use Rattle.std.proofs.lemmas.Grind.{common_steps}
-use Rattle.std.proofs.lemmas.Bool.{cond_both}
-use Rattle.std.proofs.lemmas.List.Elements.{All-cons, All-tail, All-head}
+use Rattle.merged_runs.proofs.Common.{◌≡◌, ℕ, zero, suc, ◌<◌, ◌≤◌, ltb, List, [], ◌∷◌, ◌++◌, All, AllPairs, arith, sym, subst, IsPermutation, ltb-true, ltb-false, common_steps, cond_both}
+use Rattle.merged_runs.proofs.Common.{All-cons, All-tail, All-head, AllPairs-first, AllPairs-tail, most_connections, ConnectionId, NetworkModel, IsValid, count, IsScanOrder, IsEarlier, ids_below}
+use Rattle.merged_runs.proofs.Common.{length_ids, get_ids, rank, with_connection, in_order}
 use Rattle.std.proofs.lemmas.List.Kept.{AllPairs-cons}
 use Rattle.std.proofs.lemmas.List.Sorted.{IsPermutation-refl, IsPermutation-cons, IsPermutation-trans, IsPermutation-to_front, IsPermutation-sym, IsPermutation-middle, All-permutation}
-use Rattle.plan_model.proofs.Lists.{AllPairs-first, AllPairs-tail}
-use Rattle.plan_model.specs.Bounds.{most_connections}
-use Rattle.plan_model.specs.declared.model.ConnectionId.{ConnectionId}
-use Rattle.plan_model.specs.NetworkModel.{NetworkModel}
-use Rattle.plan_model.specs.Network.{IsValid, count}
-use Rattle.plan_model.specs.Order.{IsScanOrder, IsEarlier, ids_below}
-use Rattle.plan_model.proofs.ScanOrders.{length_ids, get_ids}
-use Rattle.merged_runs.specs.Merged.{rank, with_connection, in_order}
 
 -- a connection is scanned before another
 abbrev pub Scanned : NetworkModel → ConnectionId → ConnectionId → Type 0

@@ -1,17 +1,8 @@
 -- What remains of the runs of a network up to a moment.
-use Rattle.std.proofs.Common.{◌≡◌, ℕ, suc, ◌+◌, ◌-◌, ◌<◌, ◌≤◌, inl, inr, ⊎_elim, Bool, true, false, cond, ltb, List, [], ◌∷◌, ◌++◌, length, get_or, set, All}
-use Rattle.std.proofs.Common.{AllPairs, arith, refl, sym, ap, ◌∙◌, filter, lt-ltb, ltb-true}
-use Rattle.std.proofs.lemmas.Grind.{common_steps}
-use Rattle.std.proofs.lemmas.Bool.{cases_lt, cases_Bool}
-use Rattle.std.proofs.lemmas.Bool.Decides.{nat_tests}
-use Rattle.std.proofs.lemmas.List.Elements.{All-tail, All-head, All-cons, All-weaker, filter_agree, filter_passes}
-use Rattle.plan_model.specs.declared.model.ConnectionId.{ConnectionId}
-use Rattle.plan_model.specs.NetworkModel.{NetworkModel}
-use Rattle.plan_model.specs.Network.{IsValid, count, dep_of, run_of}
-use Rattle.plan_model.specs.Order.{IsPrefixUpTo}
-use Rattle.plan_model.proofs.Lists.{AllPairs-tail}
+use Rattle.merged_runs.proofs.Common.{◌≡◌, ℕ, suc, ◌+◌, ◌-◌, ◌<◌, ◌≤◌, inl, inr, ⊎_elim, Bool, true, false, cond, ltb, List, [], ◌∷◌, ◌++◌, length, get_or, set, All, AllPairs, arith, refl, sym}
+use Rattle.merged_runs.proofs.Common.{ap, ◌∙◌, filter, lt-ltb, ltb-true, common_steps, cases_lt, cases_Bool, nat_tests, All-tail, All-head, All-cons, All-weaker, filter_agree, filter_passes}
+use Rattle.merged_runs.proofs.Common.{ConnectionId, NetworkModel, IsValid, count, dep_of, run_of, IsPrefixUpTo, AllPairs-tail, in_order, rest_of, AreStretches, DepartsInOrder, IsParted}
 use Rattle.plan_model.proofs.Skips.{dep_of_earlier}
-use Rattle.merged_runs.specs.Merged.{in_order, rest_of, AreStretches, DepartsInOrder, IsParted}
 use Rattle.merged_runs.proofs.ScanLemmas.{IsScanOrder-in_order}
 use Rattle.merged_runs.proofs.StretchLemmas.{run_between, filter_none}
 

@@ -1,14 +1,9 @@
 -- Where the runs of a network start.
-use Rattle.std.proofs.Common.{◌≡◌, ℕ, ◌+◌, ◌<◌, ◌≤◌, ⊎_elim, List, [], ◌∷◌, ◌++◌, length, get_or, arith}
+use Rattle.merged_runs.proofs.Common.{◌≡◌, ℕ, ◌+◌, ◌<◌, ◌≤◌, ⊎_elim, List, [], ◌∷◌, ◌++◌, length, get_or, arith, nat_tests, common_steps, cases_lt, NetworkModel, IsValid, count, run_of, IsStart}
+use Rattle.merged_runs.proofs.Common.{AreStarts}
 use Rattle.std.proofs.Math.Logic.{∥∥₁_elim}
 use Rattle.std.specs.Coded.{le_prop}
-use Rattle.std.proofs.lemmas.Bool.Decides.{nat_tests}
-use Rattle.std.proofs.lemmas.Grind.{common_steps}
-use Rattle.std.proofs.lemmas.Bool.{cases_lt}
-use Rattle.plan_model.specs.NetworkModel.{NetworkModel}
-use Rattle.plan_model.specs.Network.{IsValid, count, run_of}
 use Rattle.plan_model.proofs.Runs.{run_mono}
-use Rattle.merged_runs.specs.Merged.{IsStart, AreStarts}
 
 -- where the runs of the first i connections start
 pub record AreStartsBelow (n : NetworkModel) (i : ℕ) (starts : List ℕ) : Type 0 where

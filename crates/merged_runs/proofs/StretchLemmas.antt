@@ -1,19 +1,8 @@
 -- What remains of the runs of a network.
-use Rattle.std.proofs.Common.{◌≡◌, ℕ, zero, suc, ◌+◌, ◌-◌, ◌<◌, ◌≤◌, ⊎_elim, Bool, true, false, cond, ltb, List, [], ◌∷◌, ◌++◌, length, get_or, set, take, drop}
-use Rattle.std.proofs.Common.{add-one, All, AllPairs, arith, refl, sym, ap, ◌∙◌, subst, Contains, filter, lt-ltb, le-ltb, ltb-true, get_or-set_same}
-use Rattle.std.proofs.Common.{get_or-set_other, length-set, take_all}
-use Rattle.std.proofs.lemmas.Bool.Decides.{nat_tests}
-use Rattle.std.proofs.lemmas.Grind.{common_steps}
-use Rattle.std.proofs.lemmas.Bool.{cases_lt, cases_eq, cond-true, cond-false, false_from_ne_true}
-use Rattle.std.proofs.lemmas.List.{get_or_past}
-use Rattle.std.proofs.lemmas.List.Elements.{All-tail, All-head}
-use Rattle.plan_model.specs.Bounds.{most_connections}
-use Rattle.plan_model.specs.declared.model.ConnectionId.{ConnectionId}
-use Rattle.plan_model.specs.NetworkModel.{NetworkModel}
-use Rattle.plan_model.specs.Network.{IsValid, count, run_of}
-use Rattle.plan_model.specs.Order.{IsScanOrder}
-use Rattle.plan_model.proofs.ScanOrders.{has_each_id}
-use Rattle.merged_runs.specs.Merged.{rank, in_order, rest_of, IsStart, AreStarts, AreStretches, key_of}
+use Rattle.merged_runs.proofs.Common.{◌≡◌, ℕ, zero, suc, ◌+◌, ◌-◌, ◌<◌, ◌≤◌, ⊎_elim, Bool, true, false, cond, ltb, List, [], ◌∷◌, ◌++◌, length, get_or, set, take, drop, add-one, All, AllPairs}
+use Rattle.merged_runs.proofs.Common.{arith, refl, sym, ap, ◌∙◌, subst, Contains, filter, lt-ltb, le-ltb, ltb-true, get_or-set_same, get_or-set_other, length-set, take_all, nat_tests}
+use Rattle.merged_runs.proofs.Common.{common_steps, cases_lt, cases_eq, cond-true, cond-false, false_from_ne_true, get_or_past, All-tail, All-head, most_connections, ConnectionId, NetworkModel}
+use Rattle.merged_runs.proofs.Common.{IsValid, count, run_of, IsScanOrder, has_each_id, rank, in_order, rest_of, IsStart, AreStarts, AreStretches, key_of}
 use Rattle.merged_runs.proofs.ScanLemmas.{IsScanOrder-in_order, All-in_order, AllPairs-in_order}
 
 -- a run is one of those that have a start, and its connections lie from there to the next start

@@ -1,13 +1,7 @@
 -- A tournament over the runs of a network.
-use Rattle.std.proofs.Common.{◌≡◌, ℕ, zero, suc, ◌+◌, ◌-◌, ◌*◌, ◌/◌, ◌%◌, ◌<◌, ◌≤◌, ◌⊎◌, inl, inr, ⊎_elim, List, [], ◌∷◌, ◌++◌, length, get_or, set, arith}
-use Rattle.std.proofs.Common.{refl, sym, ap, ◌∙◌, subst, get_or-set_same, get_or-set_other, length-set}
-use Rattle.std.proofs.lemmas.Bool.Decides.{nat_tests}
-use Rattle.std.proofs.lemmas.Grind.{common_steps}
-use Rattle.std.proofs.lemmas.Bool.{cases_lt, cases_eq}
-use Rattle.plan_model.specs.Bounds.{most_connections}
-use Rattle.plan_model.specs.NetworkModel.{NetworkModel}
-use Rattle.plan_model.specs.Network.{count, run_of}
-use Rattle.merged_runs.specs.Merged.{rank, key_of, above, IsOver, IsWinner, IsTournament, IsMerge, rest_of}
+use Rattle.merged_runs.proofs.Common.{◌≡◌, ℕ, zero, suc, ◌+◌, ◌-◌, ◌*◌, ◌/◌, ◌%◌, ◌<◌, ◌≤◌, ◌⊎◌, inl, inr, ⊎_elim, List, [], ◌∷◌, ◌++◌, length, get_or, set, arith, refl, sym, ap, ◌∙◌, subst}
+use Rattle.merged_runs.proofs.Common.{get_or-set_same, get_or-set_other, length-set, nat_tests, common_steps, cases_lt, cases_eq, most_connections, NetworkModel, count, run_of, rank, key_of}
+use Rattle.merged_runs.proofs.Common.{above, IsOver, IsWinner, IsTournament, IsMerge, rest_of}
 use Rattle.merged_runs.proofs.StretchLemmas.{run_between, within_count, key_of-set_other, key_of-none, key_of-some, rest_of-none, rest_of-last}
 
 above_le : (rounds k : ℕ) → above rounds k ≤ k

@@ -1,10 +1,6 @@
 -- What is found first in a list is what is picked.
-use Rattle.std.proofs.Common.{◌≡◌, ℕ, Bool, true, false, List, [], ◌∷◌, Option, Some, None, refl, ◌∙◌, ap, nat_le, find, if◌then◌else◌}
-use Rattle.plan_model.specs.declared.model.Leg.{Leg}
-use Rattle.plan_graph.specs.declared.GraphRow.{GraphRow}
-use Rattle.plan_graph.specs.declared.Ride.{Ride}
-use Rattle.plan_graph.specs.declared.PlaceTable.{PlaceTable}
-use Rattle.plan_graph.specs.PickedRows.{pick_row, rows_after, rows_of_place, is_ride_of, is_table_of}
+use Rattle.plan_graph.proofs.Common.{◌≡◌, ℕ, Bool, true, false, List, [], ◌∷◌, Option, Some, None, refl, ◌∙◌, ap, nat_le, find, if◌then◌else◌, Leg, GraphRow, Ride, PlaceTable, pick_row}
+use Rattle.plan_graph.proofs.Common.{rows_after, rows_of_place, is_ride_of, is_table_of}
 
 -- F looks for the first that passes, and gives what g makes of it, and `miss` where none does
 module _ {X Y : Type 0} (F : List X → Y) (p : X → Bool) (g : X → Y) (miss : Y) (none : F [] ≡ miss) (step : (x : X) (xs : List X) → F (x ∷ xs) ≡ (if p x then g x else F xs)) where

@@ -1,23 +1,8 @@
 -- A graph of the rides that were walked is ready, where what is chosen is kept.
-use Rattle.std.proofs.Common.{◌≡◌, ◌≢◌, ℕ, List, Option, Some, Contains, All, AllPairs, sym, subst, inl, inr, ◌∙◌, ap}
-use Rattle.std.proofs.lemmas.Bool.{cases_eq}
-use Rattle.std.proofs.lemmas.List.Elements.{All-contains}
-use Rattle.plan_model.specs.declared.model.Leg.{Leg}
-use Rattle.plan_model.specs.declared.model.Outcome.{Outcome}
-use Rattle.plan_model.specs.declared.model.Query.{Query}
-use Rattle.plan_model.specs.NetworkModel.{NetworkModel}
-use Rattle.plan_model.specs.Network.{IsValid, arr_of}
-use Rattle.plan_model.specs.Tree.{Tree}
-use Rattle.plan_model.specs.Ways.{limit_of}
-use Rattle.plan_model.specs.Unfold.{end_of, arrival_of, outcomes_of, unfolding_of}
-use Rattle.plan_graph.specs.declared.GraphRow.{GraphRow}
-use Rattle.plan_graph.specs.declared.Ride.{Ride}
+use Rattle.plan_graph.proofs.Common.{◌≡◌, ◌≢◌, ℕ, List, Option, Some, Contains, All, AllPairs, sym, subst, inl, inr, ◌∙◌, ap, cases_eq, All-contains, Leg, Outcome, Query, NetworkModel, IsValid}
+use Rattle.plan_graph.proofs.Common.{arr_of, Tree, limit_of, end_of, arrival_of, outcomes_of, unfolding_of, GraphRow, Ride, pick_row, IsLegOf, IsReady, IsReadyRide, IsReadyRow, MayPrecede, IsBusy}
+use Rattle.plan_graph.proofs.Common.{IsPickedAfter, IsSafeForSome, IsFirstInTime, Stands, pick_in_time, row_by, table_after, IsWalked, AllPairs-nil, All-from_contains}
 use Rattle.plan_graph.specs.declared.ExpandedGraph.{ExpandedGraph}
-use Rattle.plan_graph.specs.PickedRows.{pick_row}
-use Rattle.plan_graph.specs.Ready.{IsLegOf, IsReady, IsReadyRide, IsReadyRow, MayPrecede, IsBusy, IsPickedAfter, IsSafeForSome, IsFirstInTime, Stands, pick_in_time}
-use Rattle.plan_graph.specs.WalkTables.{row_by, table_after}
-use Rattle.plan_graph.specs.Walked.{IsWalked}
-use Rattle.plan_model.proofs.Lists.{AllPairs-nil, All-from_contains}
 use Rattle.plan_graph.proofs.Tables.{IsChosenAt, IsTableRow, Sooner, table_row, table_away, table_there, first_in_table, first_pick, in_time_for, before_for, one_found}
 use Rattle.plan_graph.proofs.Walks.{delays_rise}
 

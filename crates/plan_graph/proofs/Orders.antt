@@ -1,14 +1,7 @@
 -- The order of legs.
-use Rattle.std.proofs.Common.{◌≡◌, ℕ, ◌<◌, ◌⊎◌, arith, refl, inl, inr, nat_cmp, Ordering, Less, Equal, Greater}
-use Rattle.std.proofs.lemmas.Grind.{common_steps}
-use Rattle.std.specs.Cmp.{IsTotalOrder, on_total, then_total}
-use Rattle.std.specs.Ordering.{ordering_then}
-use Rattle.std.proofs.lemmas.Bool.Decides.{nat_tests}
+use Rattle.plan_graph.proofs.Common.{◌≡◌, ℕ, ◌<◌, ◌⊎◌, arith, refl, inl, inr, nat_cmp, Ordering, Less, Equal, Greater, common_steps, IsTotalOrder, on_total, then_total, ordering_then, nat_tests}
+use Rattle.plan_graph.proofs.Common.{CmpEqualImpliesEq, Leg, Precedes, leg_cmp}
 use Rattle.std.proofs.lemmas.Cmp.{nat_cmp_total}
-use Rattle.std.proofs.lemmas.Map.Lookups.{CmpEqualImpliesEq}
-use Rattle.plan_model.specs.declared.model.Leg.{Leg}
-use Rattle.plan_graph.specs.PickedRows.{Precedes}
-use Rattle.plan_graph.specs.WalkTables.{leg_cmp}
 
 pub nat_cmp-Less : (x y : ℕ) → nat_cmp x y ≡ Less → x < y
 nat_cmp-Less x y is = grind (arith, nat_tests)

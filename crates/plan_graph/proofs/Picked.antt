@@ -1,16 +1,7 @@
 -- What is picked is the leg of a row.
-use Rattle.std.proofs.Common.{◌≡◌, ℕ, ◌<◌, ◌≤◌, true, false, List, [], ◌∷◌, Some, All, arith, sym, subst, refl, inl, inr, ◌∙◌, nat_le}
-use Rattle.std.proofs.lemmas.Bool.{cases_lt, cases_eq}
-use Rattle.std.proofs.lemmas.Bool.Decides.{nat_tests}
-use Rattle.std.proofs.lemmas.List.Elements.{All-nil, All-tail}
-use Rattle.plan_model.specs.declared.model.Leg.{Leg}
-use Rattle.plan_model.specs.declared.model.Query.{Query}
-use Rattle.plan_model.specs.NetworkModel.{NetworkModel}
-use Rattle.plan_graph.specs.declared.GraphRow.{GraphRow}
-use Rattle.plan_graph.specs.declared.PlaceTable.{PlaceTable}
+use Rattle.plan_graph.proofs.Common.{◌≡◌, ℕ, ◌<◌, ◌≤◌, true, false, List, [], ◌∷◌, Some, All, arith, sym, subst, refl, inl, inr, ◌∙◌, nat_le, cases_lt, cases_eq, nat_tests, All-nil, All-tail, Leg}
+use Rattle.plan_graph.proofs.Common.{Query, NetworkModel, GraphRow, PlaceTable, pick_row, pick_at, rows_of_place, is_table_of, HasRisingTables, IsLegOf}
 use Rattle.plan_graph.specs.declared.PlanGraph.{PlanGraph}
-use Rattle.plan_graph.specs.PickedRows.{pick_row, pick_at, rows_of_place, is_table_of, HasRisingTables}
-use Rattle.plan_graph.specs.Ready.{IsLegOf}
 use Rattle.plan_graph.specs.Tidy.{IsFitRow, IsFitTable, IsFit}
 
 pub pick_here : (row : GraphRow) (rows : List GraphRow) (x : ℕ) → x ≤ row.by.0 → pick_row (row ∷ rows) x ≡ Some row.leg

@@ -1,15 +1,7 @@
 -- From a placed leg to those that are chosen after it.
-use Rattle.std.proofs.Common.{◌≡◌, ◌≢◌, ℕ, zero, suc, ◌+◌, List, [], ◌∷◌, Option, Some, None, Contains, sym, subst, refl, inl, inr, ne_eqb}
-use Rattle.plan_model.specs.declared.model.Leg.{Leg}
-use Rattle.plan_model.specs.declared.model.Outcome.{Outcome}
-use Rattle.plan_model.specs.NetworkModel.{NetworkModel}
-use Rattle.plan_model.specs.Network.{arr_of}
-use Rattle.plan_model.specs.Tree.{Tree}
+use Rattle.plan_graph.proofs.Common.{◌≡◌, ◌≢◌, ℕ, zero, suc, ◌+◌, List, [], ◌∷◌, Option, Some, None, Contains, sym, subst, refl, inl, inr, ne_eqb, Leg, Outcome, NetworkModel, arr_of, Tree, end_of}
+use Rattle.plan_graph.proofs.Common.{arrival_of, outcomes_of, kids_after, ride_or_stuck, unfold_after, Stands, StandsIn, StandsSafely, Contains-nil, Contains-cons_cases}
 use Rattle.plan_model.specs.Strategy.{IsBoardable, IsSafe, AreSafe}
-use Rattle.plan_model.specs.Unfold.{end_of, arrival_of, outcomes_of, kids_after, ride_or_stuck, unfold_after}
-use Rattle.plan_graph.specs.Ready.{Stands, StandsIn}
-use Rattle.plan_graph.specs.Placed.{StandsSafely}
-use Rattle.plan_model.proofs.Lists.{Contains-nil, Contains-cons_cases}
 
 -- the leg that is chosen after a leg that arrives at a moment is placed
 pub record IsPlacedNext (n : NetworkModel) (target : ℕ) (by : Option ℕ) (choice : Leg → ℕ → Option Leg) (whole : Tree) (leg : Leg) (arrival : ℕ) : Type 0 where

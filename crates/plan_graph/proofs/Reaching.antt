@@ -1,23 +1,9 @@
 -- What is kept while legs are reached.
-use Rattle.std.proofs.Common.{◌≡◌, ◌≢◌, ℕ, ◌<◌, ◌⊎◌, Bool, true, false, List, [], ◌∷◌, ◌++◌, map, length, Option, Some, Contains, arith, sym, subst, refl}
-use Rattle.std.proofs.Common.{inl, inr, ◌∙◌, ap, MatchBool}
-use Rattle.std.proofs.lemmas.Bool.Decides.{nat_tests}
-use Rattle.std.proofs.lemmas.Grind.{common_steps}
+use Rattle.plan_graph.proofs.Common.{◌≡◌, ◌≢◌, ℕ, ◌<◌, ◌⊎◌, Bool, true, false, List, [], ◌∷◌, ◌++◌, map, length, Option, Some, Contains, arith, sym, subst, refl, inl, inr, ◌∙◌, ap, MatchBool}
+use Rattle.plan_graph.proofs.Common.{nat_tests, common_steps, list_any, Contains-append_left, Contains-append_right, Contains-append_cases, Contains-push, Contains-push_cases, Contains-from_any}
+use Rattle.plan_graph.proofs.Common.{tells_apart, Leg, Query, NetworkModel, count, Tree, arrival_of, unfolding_of, GraphRow, IsSafeForSome, table_after, leg_cmp, with_leg, StandsSafely}
+use Rattle.plan_graph.proofs.Common.{Contains-nil, Contains-map, Contains-from_map}
 use Rattle.std.specs.BTreeMap.{is_at}
-use Rattle.std.specs.List.{list_any}
-use Rattle.std.proofs.lemmas.List.Elements.{Contains-append_left, Contains-append_right, Contains-append_cases, Contains-push, Contains-push_cases}
-use Rattle.std.proofs.lemmas.Map.Views.{Contains-from_any, tells_apart}
-use Rattle.plan_model.specs.declared.model.Leg.{Leg}
-use Rattle.plan_model.specs.declared.model.Query.{Query}
-use Rattle.plan_model.specs.NetworkModel.{NetworkModel}
-use Rattle.plan_model.specs.Network.{count}
-use Rattle.plan_model.specs.Tree.{Tree}
-use Rattle.plan_model.specs.Unfold.{arrival_of, unfolding_of}
-use Rattle.plan_graph.specs.declared.GraphRow.{GraphRow}
-use Rattle.plan_graph.specs.Ready.{IsSafeForSome}
-use Rattle.plan_graph.specs.WalkTables.{table_after, leg_cmp, with_leg}
-use Rattle.plan_graph.specs.Placed.{StandsSafely}
-use Rattle.plan_model.proofs.Lists.{Contains-nil, Contains-map, Contains-from_map}
 use Rattle.plan_graph.proofs.Sets.{Contains-insert_key, Contains-insert_key_cases, Contains-inserted_key}
 use Rattle.plan_graph.proofs.Orders.{leg_cmp-exact}
 use Rattle.plan_graph.proofs.Places.{next_after}

@@ -1,10 +1,7 @@
 -- The rides of legs.
-use Rattle.std.proofs.Common.{◌≡◌, ℕ, Bool, true, false, List, [], ◌∷◌, Some, AllPairs, Contains, refl, inl, inr, ◌∙◌, ap, ◌==◌, ◌&&◌, if◌then◌else◌}
-use Rattle.plan_model.specs.declared.model.Leg.{Leg}
-use Rattle.plan_graph.specs.declared.Ride.{Ride}
-use Rattle.plan_graph.specs.PickedRows.{pick_row, pick_after, rows_after, Precedes}
+use Rattle.plan_graph.proofs.Common.{◌≡◌, ℕ, Bool, true, false, List, [], ◌∷◌, Some, AllPairs, Contains, refl, inl, inr, ◌∙◌, ap, ◌==◌, ◌&&◌, if◌then◌else◌, Leg, Ride, pick_row, pick_after}
+use Rattle.plan_graph.proofs.Common.{rows_after, Precedes, Contains-nil, Contains-head, Contains-tail, Contains-cons_cases, AllPairs-head, AllPairs-tail}
 use Rattle.plan_graph.proofs.Searches.{leg_test, rows_here, rows_further, precedes_itself}
-use Rattle.plan_model.proofs.Lists.{Contains-nil, Contains-head, Contains-tail, Contains-cons_cases, AllPairs-head, AllPairs-tail}
 
 -- a ride of the leg, with its rows
 pub record IsRideOf (rides : List Ride) (leg : Leg) : Type 0 where

@@ -1,16 +1,8 @@
 -- Tables and rows that rise, searched by binary search.
-use Rattle.std.proofs.Common.{◌≡◌, ℕ, ◌<◌, true, false, List, [], length, Some, None, AllPairs, arith, subst, refl, inl, inr, nat_lt, nat_le, slice_index_or, Bool, Bor}
-use Rattle.std.proofs.Common.{ne_eqb, lt-ltb, ltb-true, ltb-false}
+use Rattle.plan_graph.proofs.Common.{◌≡◌, ℕ, ◌<◌, true, false, List, [], length, Some, None, AllPairs, arith, subst, refl, inl, inr, nat_lt, nat_le, slice_index_or, Bool, Bor, ne_eqb, lt-ltb}
+use Rattle.plan_graph.proofs.Common.{ltb-true, ltb-false, AllWithin, IsPartitionedBy, IsPartitionPoint, cases_lt, IsPartitionPoint-from_clause, nat_tests, GraphRow, PlaceTable, found_at}
+use Rattle.plan_graph.proofs.Common.{found_nowhere, pick_row, rows_of_place, is_table_of}
 use Rattle.std.specs.Fn.{Mut, Called, ComputesKey}
-use Rattle.std.specs.List.{AllWithin}
-use Rattle.std.specs.List.Sorted.{IsPartitionedBy, IsPartitionPoint}
-use Rattle.std.proofs.lemmas.Bool.{cases_lt}
-use Rattle.std.proofs.lemmas.List.Sorted.{IsPartitionPoint-from_clause}
-use Rattle.std.proofs.lemmas.Bool.Decides.{nat_tests}
-use Rattle.plan_graph.specs.declared.GraphRow.{GraphRow}
-use Rattle.plan_graph.specs.declared.PlaceTable.{PlaceTable}
-use Rattle.std.proofs.lemmas.List.Recursion.{found_at, found_nowhere}
-use Rattle.plan_graph.specs.PickedRows.{pick_row, rows_of_place, is_table_of}
 
 -- a list that rises is parted by a number
 pub parted : {X : Type 0} (f : X → ℕ) (xs : List X) (t : ℕ) → AllPairs (λ a b. f a < f b) xs → IsPartitionedBy (λ x. nat_lt (f x) t) xs

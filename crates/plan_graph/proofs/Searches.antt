@@ -1,15 +1,7 @@
 -- Binary searches find what comes first in a list that rises.
-use Rattle.std.proofs.Common.{◌≡◌, ℕ, ◌<◌, Bool, true, false, not, List, [], ◌∷◌, length, None, AllPairs, arith, sym, subst, refl, inl, inr, ◌∙◌, ap, ap₂, ◌==◌}
-use Rattle.std.proofs.Common.{◌&&◌, slice_index_or}
-use Rattle.std.specs.List.{AllWithin}
-use Rattle.std.specs.List.Sorted.{IsPartitionedBy, IsPartitionPoint}
-use Rattle.std.proofs.lemmas.Bool.{cases_Bool, cases_lt, false≢true}
-use Rattle.std.proofs.lemmas.Bool.Decides.{nat_tests}
-use Rattle.std.proofs.lemmas.List.Recursion.{found_at, found_nowhere}
-use Rattle.plan_model.specs.declared.model.Leg.{Leg}
-use Rattle.plan_graph.specs.declared.GraphRow.{GraphRow}
-use Rattle.plan_graph.specs.declared.Ride.{Ride}
-use Rattle.plan_graph.specs.PickedRows.{pick_row, rows_after, is_ride_of, Precedes, leg_lt}
+use Rattle.plan_graph.proofs.Common.{◌≡◌, ℕ, ◌<◌, Bool, true, false, not, List, [], ◌∷◌, length, None, AllPairs, arith, sym, subst, refl, inl, inr, ◌∙◌, ap, ap₂, ◌==◌, ◌&&◌, slice_index_or}
+use Rattle.plan_graph.proofs.Common.{AllWithin, IsPartitionedBy, IsPartitionPoint, cases_Bool, cases_lt, false≢true, nat_tests, found_at, found_nowhere, Leg, GraphRow, Ride, pick_row, rows_after}
+use Rattle.plan_graph.proofs.Common.{is_ride_of, Precedes, leg_lt}
 
 -- rides that rise are parted by a leg
 leg_before : (a b : Leg) → Precedes a b → leg_lt a b ≡ true

@@ -1,14 +1,8 @@
 -- The keys of a set, with one key more.
-use Rattle.std.proofs.Common.{◌≡◌, ◌⊎◌, List, [], ◌∷◌, Contains, arith, sym, refl, inl, inr, ◌∙◌, ap, Ordering, Less, Equal, Greater}
-use Rattle.std.specs.Cmp.{IsTotalOrder}
-use Rattle.std.specs.Ordering.{match_ordering, ordering_reverse}
+use Rattle.plan_graph.proofs.Common.{◌≡◌, ◌⊎◌, List, [], ◌∷◌, Contains, arith, sym, refl, inl, inr, ◌∙◌, ap, Ordering, Less, Equal, Greater, IsTotalOrder, match_ordering, ordering_reverse}
+use Rattle.plan_graph.proofs.Common.{IsStrictlySortedBy, All-contains, All-weaker, All-from_recursion, recursion_from_All, sorted_head, sorted_tail, CmpEqualImpliesEq, All-insert_key}
+use Rattle.plan_graph.proofs.Common.{Contains-nil, Contains-head, Contains-tail, Contains-cons_cases, All-from_contains}
 use Rattle.std.specs.BTreeSet.{insert_key}
-use Rattle.std.specs.List.Sorted.{IsStrictlySortedBy}
-use Rattle.std.proofs.lemmas.List.Elements.{All-contains, All-weaker, All-from_recursion, recursion_from_All}
-use Rattle.std.proofs.lemmas.Map.Keys.{sorted_head, sorted_tail}
-use Rattle.std.proofs.lemmas.Map.Lookups.{CmpEqualImpliesEq}
-use Rattle.std.proofs.lemmas.Map.Views.{All-insert_key}
-use Rattle.plan_model.proofs.Lists.{Contains-nil, Contains-head, Contains-tail, Contains-cons_cases, All-from_contains}
 
 module _ {K : Type 0} (cmp : K → K → Ordering) where
   pub Contains-insert_key : (ks : List K) (key x : K) → Contains ks x → Contains (insert_key cmp ks key) x

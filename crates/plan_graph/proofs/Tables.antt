@@ -1,20 +1,10 @@
 -- The rows of a table, and what they pick.
-use Rattle.std.proofs.lemmas.Bool.Decides.{nat_tests}
-use Rattle.std.proofs.lemmas.Grind.{common_steps}
-use Rattle.std.proofs.Common.{◌≡◌, ◌≢◌, ℕ, ◌+◌, ◌≤◌, ◌<◌, List, [], ◌∷◌, map, Option, Some, None, AllPairs, Contains, arith, sym, subst, refl, inl, inr, ◌∙◌, ap}
-use Rattle.std.proofs.lemmas.Bool.{cases_lt, cases_eq, ne_eqb, eq-eqb, le-leb, lt-leb}
-use Rattle.plan_model.specs.declared.model.Leg.{Leg}
-use Rattle.plan_model.specs.declared.model.Outcome.{Outcome}
-use Rattle.plan_model.specs.NetworkModel.{NetworkModel}
-use Rattle.plan_model.specs.Network.{arr_of}
-use Rattle.plan_model.specs.Ways.{limit_of}
-use Rattle.plan_model.specs.Unfold.{end_of, outcomes_of}
-use Rattle.plan_graph.specs.declared.GraphRow.{GraphRow}
-use Rattle.plan_graph.specs.PickedRows.{pick_row}
-use Rattle.plan_graph.specs.Ready.{IsFirstInTime, MayPrecede, pick_in_time}
+use Rattle.plan_graph.proofs.Common.{nat_tests, common_steps, ◌≡◌, ◌≢◌, ℕ, ◌+◌, ◌≤◌, ◌<◌, List, [], ◌∷◌, map, Option, Some, None, AllPairs, Contains, arith, sym, subst, refl, inl, inr, ◌∙◌, ap}
+use Rattle.plan_graph.proofs.Common.{cases_lt, cases_eq, eq-eqb, le-leb, lt-leb, Leg, Outcome, NetworkModel, arr_of, limit_of, end_of, outcomes_of, GraphRow, pick_row, IsFirstInTime, MayPrecede}
+use Rattle.plan_graph.proofs.Common.{pick_in_time, row_by, with_row, rows_for, table_after, Contains-nil, Contains-head, Contains-tail, Contains-cons_cases, AllPairs-nil, AllPairs-head}
+use Rattle.plan_graph.proofs.Common.{AllPairs-tail, AllPairs-with}
+use Rattle.std.proofs.lemmas.Bool.{ne_eqb}
 use Rattle.plan_graph.proofs.Picked.{pick_here, pick_further}
-use Rattle.plan_graph.specs.WalkTables.{row_by, with_row, rows_for, table_after}
-use Rattle.plan_model.proofs.Lists.{Contains-nil, Contains-head, Contains-tail, Contains-cons_cases, AllPairs-nil, AllPairs-head, AllPairs-tail, AllPairs-with}
 
 -- what is found is one thing
 pub one_found : {A : Type 0} (found : Option A) (a b : A) → found ≡ Some a → found ≡ Some b → a ≡ b

@@ -1,9 +1,5 @@
 -- Two choices that take the same legs from a start leg on fix the same tree.
-use Rattle.std.proofs.Common.{◌≡◌, ◌≢◌, ℕ, Option, Some, Contains, sym, subst, refl, ◌∙◌}
-use Rattle.plan_model.specs.declared.model.Leg.{Leg}
-use Rattle.plan_model.specs.declared.model.Outcome.{Outcome}
-use Rattle.plan_model.specs.NetworkModel.{NetworkModel}
-use Rattle.plan_model.specs.Unfold.{end_of, arrival_of, outcomes_of, unfold_from}
+use Rattle.plan_graph.proofs.Common.{◌≡◌, ◌≢◌, ℕ, Option, Some, Contains, sym, subst, refl, ◌∙◌, Leg, Outcome, NetworkModel, end_of, arrival_of, outcomes_of, unfold_from}
 use Rattle.plan_model.proofs.SameTree.{unfold_from-same}
 use Rattle.plan_graph.proofs.Tables.{one_found}
 

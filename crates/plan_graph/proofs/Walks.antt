@@ -1,29 +1,14 @@
 -- The rides of the legs that were reached.
-use Rattle.std.proofs.Common.{◌≡◌, ◌≢◌, ℕ, List, map, Option, Some, Contains, All, AllPairs, sym, subst, refl, ◌∙◌, ap, zero, suc, ◌+◌, ◌-◌, [], ◌∷◌, None, inl}
-use Rattle.std.proofs.Common.{inr, slice_index_or, ne_eqb, eq-eqb}
-use Rattle.std.proofs.lemmas.List.Elements.{All-map, All-contains}
-use Rattle.std.proofs.lemmas.Map.Keys.{Less-from_sorted}
-use Rattle.plan_model.specs.declared.model.Leg.{Leg}
-use Rattle.plan_model.specs.declared.model.Outcome.{Outcome}
-use Rattle.plan_model.specs.declared.model.Query.{Query}
-use Rattle.plan_model.specs.NetworkModel.{NetworkModel}
-use Rattle.plan_model.specs.Network.{IsValid, count, arr_of}
-use Rattle.plan_model.specs.Tree.{Tree}
-use Rattle.plan_model.specs.Unfold.{end_of, arrival_of, outcomes_of, unfolding_of, kids_after, ride_or_stuck, unfold_after, unfold_from}
-use Rattle.plan_graph.specs.declared.GraphRow.{GraphRow}
-use Rattle.plan_graph.specs.declared.Ride.{Ride}
-use Rattle.plan_graph.specs.PickedRows.{pick_row, pick_after, Precedes}
-use Rattle.plan_graph.specs.Ready.{IsLegOf, Stands, StandsIn}
-use Rattle.plan_graph.specs.WalkTables.{row_by, table_after, ride_of_leg, leg_cmp}
-use Rattle.plan_graph.specs.Placed.{IsReached}
-use Rattle.plan_graph.specs.Walked.{IsWalked, IsTaken, HasRideOf}
-use Rattle.plan_model.proofs.Lists.{Contains-map, AllPairs-map, All-from_contains}
+use Rattle.plan_graph.proofs.Common.{◌≡◌, ◌≢◌, ℕ, List, map, Option, Some, Contains, All, AllPairs, sym, subst, refl, ◌∙◌, ap, zero, suc, ◌+◌, ◌-◌, [], ◌∷◌, None, inl, inr, slice_index_or, ne_eqb}
+use Rattle.plan_graph.proofs.Common.{All-map, All-contains, Less-from_sorted, Leg, Outcome, Query, NetworkModel, IsValid, count, arr_of, Tree, end_of, arrival_of, outcomes_of, unfolding_of}
+use Rattle.plan_graph.proofs.Common.{kids_after, ride_or_stuck, unfold_after, unfold_from, GraphRow, Ride, pick_row, pick_after, Precedes, IsLegOf, Stands, StandsIn, row_by, table_after}
+use Rattle.plan_graph.proofs.Common.{ride_of_leg, leg_cmp, IsReached, IsWalked, IsTaken, HasRideOf, Contains-map, AllPairs-map, All-from_contains, cases_eq}
+use Rattle.std.proofs.Common.{eq-eqb}
 use Rattle.plan_graph.proofs.Orders.{leg_cmp-Less}
 use Rattle.plan_graph.proofs.Places.{IsPlacedNext, next_after}
 use Rattle.plan_graph.proofs.Tables.{first_pick, first_there, Sooner, first_in_table, one_found, picked_there}
 use Rattle.plan_graph.proofs.Together.{IsSameNext, unfold_from-together}
 use Rattle.plan_graph.proofs.Rides.{rows_after-own, ride_there}
-use Rattle.std.proofs.lemmas.Bool.{cases_eq}
 use Rattle.plan_graph.proofs.Searches.{same_leg}
 
 -- what comes after the outcomes of a ride comes after one of them

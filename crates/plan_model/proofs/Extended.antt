@@ -1,20 +1,12 @@
 -- The network with a place more is one, and an extension.
-use Rattle.std.proofs.Common.{◌≡◌, ◌≢◌, ℕ, zero, suc, ◌+◌, ◌<◌, ◌≤◌, true, false, Some, None, List, [], ◌∷◌, ◌++◌, length, All, arith, refl, sym, ap, ◌∙◌}
-use Rattle.std.proofs.Common.{subst, inl, inr, length-append, ◌==◌, if◌then◌else◌, append-nil}
-use Rattle.std.proofs.lemmas.Bool.{cases_lt, cases_eq}
-use Rattle.std.proofs.lemmas.Bool.Decides.{nat_tests}
-use Rattle.std.proofs.lemmas.List.{get_or_append_left, get_or-append_right, get_or_past}
+use Rattle.plan_model.proofs.Common.{◌≡◌, ◌≢◌, ℕ, zero, suc, ◌+◌, ◌<◌, ◌≤◌, true, false, Some, None, List, [], ◌∷◌, ◌++◌, length, All, arith, refl, sym, ap, ◌∙◌, subst, inl, inr, length-append}
+use Rattle.plan_model.proofs.Common.{◌==◌, if◌then◌else◌, append-nil, cases_lt, cases_eq, nat_tests, get_or_append_left, get_or-append_right, get_or_past, All-cons, Way, NetworkModel, IsValid}
+use Rattle.plan_model.proofs.Common.{AreLinksInto, change_of, row_of, connection, links_into, own_way, ways_into, way_in, way_of, first_way, links_from_added, extended, IsSeen, IsExtension}
+use Rattle.plan_model.proofs.Common.{common_steps}
 use Rattle.std.proofs.lemmas.List.FromFn.{length-map-range_with_len, get_or-map-range_with_len}
-use Rattle.std.proofs.lemmas.List.Elements.{All-cons}
-use Rattle.plan_model.specs.declared.model.Way.{Way}
-use Rattle.plan_model.specs.NetworkModel.{NetworkModel}
-use Rattle.plan_model.specs.Network.{IsValid, AreLinksInto, change_of, row_of, connection, links_into}
-use Rattle.plan_model.specs.Ways.{own_way, ways_into, way_in, way_of}
-use Rattle.plan_model.specs.View.{first_way, links_from_added, extended, IsSeen, IsExtension}
 use Rattle.plan_model.proofs.Boarding.{way_in-here, way_in-away}
 use Rattle.plan_model.proofs.Links.{AreLinksInto-none}
 use Rattle.plan_model.proofs.MoreLinks.{AreLinksInto-wider, AreLinksInto-push}
-use Rattle.std.proofs.lemmas.Grind.{common_steps}
 
 -- a way is looked for in the first list, and then in the second
 way_in-first : (ways more : List Way) (p : ℕ) → way_in more p ≡ None → way_in (ways ++ more) p ≡ way_in ways p

@@ -1,15 +1,8 @@
 -- What is safe from a place that was added is safe from the source a second later.
-use Rattle.std.proofs.Common.{◌≡◌, ◌≢◌, ℕ, ◌+◌, ◌<◌, arith, Option, Some, length, sym, ap, ◌∙◌, subst}
-use Rattle.plan_model.specs.NetworkModel.{NetworkModel}
-use Rattle.plan_model.specs.Network.{IsValid, from_of}
-use Rattle.plan_model.specs.Ways.{way_of}
-use Rattle.plan_model.specs.Tree.{Tree, Done, Ride, Stuck}
-use Rattle.plan_model.specs.Strategy.{IsLeg, IsBoardable, IsSafe, IsSafeFromStart}
-use Rattle.plan_model.specs.View.{later_by, deadline_later_by, IsView, IsExtension, SafeAlike}
+use Rattle.plan_model.proofs.Common.{◌≡◌, ◌≢◌, ℕ, ◌+◌, ◌<◌, arith, Option, Some, length, sym, ap, ◌∙◌, subst, NetworkModel, IsValid, from_of, way_of, Tree, Done, Ride, Stuck, IsLeg, IsBoardable}
+use Rattle.plan_model.proofs.Common.{IsSafe, IsSafeFromStart, later_by, deadline_later_by, IsView, IsExtension, SafeAlike, nat_tests, common_steps}
 use Rattle.plan_model.proofs.Later.{later_by-none, deadline-none, later_by-same}
 use Rattle.plan_model.proofs.Views.{leg_there, safe_there, safe_back, start_there, start_back}
-use Rattle.std.proofs.lemmas.Bool.Decides.{nat_tests}
-use Rattle.std.proofs.lemmas.Grind.{common_steps}
 
 module _ (n m : NetworkModel) (source : ℕ) (extends : IsExtension n m source) (valid : IsValid m) (target : ℕ) (by : Option ℕ) (inside : target < length m.change) (away : source ≢ target) where
   abbrev added : ℕ

@@ -1,13 +1,7 @@
 -- What choices unfold to in a network, and what the same choices unfold to in a view of it.
-use Rattle.std.proofs.Common.{◌≡◌, ℕ, zero, suc, ◌+◌, ◌-◌, Bool, true, false, Option, Some, None, List, [], ◌∷◌, refl, sym, ap, ◌∙◌, arith, ◌==◌, if◌then◌else◌}
-use Rattle.plan_model.specs.declared.model.Outcome.{Outcome}
-use Rattle.plan_model.specs.declared.model.Leg.{Leg}
-use Rattle.plan_model.specs.NetworkModel.{NetworkModel}
-use Rattle.plan_model.specs.Network.{IsValid, count, arr_of}
-use Rattle.plan_model.specs.Tree.{Tree, Done, Ride, Stuck}
-use Rattle.plan_model.specs.Strategy.{IsLeg}
-use Rattle.plan_model.specs.Unfold.{end_of, outcomes_of, kids_after, ride_of, ride_or_stuck, unfold_after, unfold_from}
-use Rattle.plan_model.specs.View.{later_by, all_later_by, IsView}
+use Rattle.plan_model.proofs.Common.{◌≡◌, ℕ, zero, suc, ◌+◌, ◌-◌, Bool, true, false, Option, Some, None, List, [], ◌∷◌, refl, sym, ap, ◌∙◌, arith, ◌==◌, if◌then◌else◌, Outcome, Leg, NetworkModel}
+use Rattle.plan_model.proofs.Common.{IsValid, count, arr_of, Tree, Done, Ride, Stuck, IsLeg, end_of, outcomes_of, kids_after, ride_of, ride_or_stuck, unfold_after, unfold_from, later_by}
+use Rattle.plan_model.proofs.Common.{all_later_by, IsView}
 use Rattle.plan_model.proofs.Views.{leg_there, arrives, seen, same_outcomes}
 
 kids_after-later : (shift : ℕ) (f g : ℕ → Tree) (a : ℕ) (row : List Outcome) → ((y : ℕ) → g (y + shift) ≡ later_by shift (f y)) → kids_after g (a + shift) row ≡ all_later_by shift (kids_after f a row)

@@ -1,9 +1,6 @@
 -- How many links lead into a place: not more than there are other places.
-use Rattle.std.proofs.Common.{ℕ, zero, suc, ◌+◌, ◌<◌, ◌≤◌, List, [], ◌∷◌, length, get_or, arith, inl, inr}
-use Rattle.std.proofs.lemmas.Bool.{cases_lt}
-use Rattle.plan_model.specs.declared.model.Way.{Way}
-use Rattle.plan_model.specs.NetworkModel.{NetworkModel}
-use Rattle.plan_model.specs.Network.{AreLinksInto, AreLinks, IsValid, links_into, change_of, row_of, connection}
+use Rattle.plan_model.proofs.Common.{ℕ, zero, suc, ◌+◌, ◌<◌, ◌≤◌, List, [], ◌∷◌, length, get_or, arith, inl, inr, cases_lt, Way, NetworkModel, AreLinksInto, AreLinks, IsValid, links_into}
+use Rattle.plan_model.proofs.Common.{change_of, row_of, connection}
 
 module _ (places r : ℕ) (links : List Way) (are : AreLinksInto places r links) (d : Way) where
   -- the k-th link comes from place k or a later one

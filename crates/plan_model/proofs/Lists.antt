@@ -1,10 +1,6 @@
 -- Elements of lists, one at a time.
-use Rattle.std.proofs.Common.{◌≡◌, suc, ◌<◌, ◌⊎◌, ℕ, List, [], ◌∷◌, ◌++◌, map, length, get_or, All, AllPairs, Contains, arith, refl, inl, inr, ap}
-use Rattle.std.proofs.Common.{slice_index_or}
-use Rattle.std.proofs.lemmas.List.Elements.{All-append, All-contains, All-map, Contains-get_or}
-use Rattle.std.proofs.lemmas.List.Kept.{AllPairs-cons}
-use Rattle.std.proofs.lemmas.Bool.Decides.{nat_tests}
-use Rattle.std.proofs.lemmas.Grind.{common_steps}
+use Rattle.plan_model.proofs.Common.{◌≡◌, suc, ◌<◌, ◌⊎◌, ℕ, List, [], ◌∷◌, ◌++◌, map, length, get_or, All, AllPairs, Contains, arith, refl, inl, inr, ap, slice_index_or, All-append, All-contains}
+use Rattle.plan_model.proofs.Common.{All-map, Contains-get_or, AllPairs-cons, nat_tests, common_steps}
 
 module _ {X : Type 0} where
   pub Contains-nil : (x : X) → Contains [] x → ⊥

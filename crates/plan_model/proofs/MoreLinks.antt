@@ -1,11 +1,6 @@
 -- One place more, and a link from it.
-use Rattle.std.proofs.Common.{◌≡◌, ◌≢◌, ℕ, ◌+◌, ◌≤◌, List, [], ◌∷◌, ◌++◌, arith}
-use Rattle.std.proofs.lemmas.List.Elements.{All-append, All-cons, All-nil}
+use Rattle.plan_model.proofs.Common.{◌≡◌, ◌≢◌, ℕ, ◌+◌, ◌≤◌, List, [], ◌∷◌, ◌++◌, arith, All-append, All-cons, All-nil, Way, seconds_per_day, AreLinksInto, common_steps}
 use Rattle.std.proofs.lemmas.List.Quantifiers.{all_pairs_push}
-use Rattle.plan_model.specs.declared.model.Way.{Way}
-use Rattle.plan_model.specs.Bounds.{seconds_per_day}
-use Rattle.plan_model.specs.Network.{AreLinksInto}
-use Rattle.std.proofs.lemmas.Grind.{common_steps}
 
 -- of the next place no link comes yet
 pub AreLinksInto-wider : (places r : ℕ) (links : List Way) → AreLinksInto places r links → AreLinksInto (places + 1) r links

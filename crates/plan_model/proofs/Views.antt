@@ -1,15 +1,8 @@
 -- What is safe in a network is safe in a view of it, and the other way round.
-use Rattle.std.proofs.Common.{◌≡◌, ℕ, ◌+◌, ◌<◌, ◌≤◌, arith, Option, Some, None, List, [], ◌∷◌, length, refl, sym, ap, ◌∙◌}
-use Rattle.plan_model.specs.declared.model.Outcome.{Outcome}
-use Rattle.plan_model.specs.NetworkModel.{NetworkModel}
-use Rattle.plan_model.specs.Network.{IsValid, count, connection, from_of, to_of, dep_of, arr_of, row_of, outcomes}
-use Rattle.plan_model.specs.Ways.{way_of}
-use Rattle.plan_model.specs.Tree.{Tree, Done, Ride, Stuck, Kids, Nil, Kid}
-use Rattle.plan_model.specs.Strategy.{IsLeg, IsBoardable, IsBoardableAtStart, IsInTime, IsSafe, AreSafe, IsSafeFromStart}
-use Rattle.plan_model.specs.View.{later_by, all_later_by, deadline_later_by, IsSeen, IsView}
+use Rattle.plan_model.proofs.Common.{◌≡◌, ℕ, ◌+◌, ◌<◌, ◌≤◌, arith, Option, Some, None, List, [], ◌∷◌, length, refl, sym, ap, ◌∙◌, Outcome, NetworkModel, IsValid, count, connection, from_of, to_of}
+use Rattle.plan_model.proofs.Common.{dep_of, arr_of, row_of, outcomes, way_of, Tree, Done, Ride, Stuck, Kids, Nil, Kid, IsLeg, IsBoardable, IsBoardableAtStart, IsInTime, IsSafe, AreSafe}
+use Rattle.plan_model.proofs.Common.{IsSafeFromStart, later_by, all_later_by, deadline_later_by, IsSeen, IsView, nat_tests, common_steps}
 use Rattle.plan_model.proofs.Bounds.{forward}
-use Rattle.std.proofs.lemmas.Bool.Decides.{nat_tests}
-use Rattle.std.proofs.lemmas.Grind.{common_steps}
 
 in_time_there : (shift : ℕ) (by : Option ℕ) (x : ℕ) → IsInTime by x → IsInTime (deadline_later_by shift by) (x + shift)
 in_time_there shift None x h = tt

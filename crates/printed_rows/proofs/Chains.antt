@@ -1,5 +1,5 @@
 -- What has a value at the end of a chain has one at each of its steps.
-use Rattle.std.proofs.Common.{◌≡◌, Bool, true, false, Result, Ok, Err, refl, if◌then◌else◌}
+use Rattle.printed_rows.proofs.Common.{◌≡◌, Bool, true, false, Result, Ok, Err, refl, if◌then◌else◌}
 use Rattle.plan_model.specs.Results.{and_then}
 
 pub and_then-value : {A B E : Type 0} (r : Result A E) (next : A → Result B E) (b : B) → and_then r next ≡ Ok b → (a : A) × (r ≡ Ok a) × (next a ≡ Ok b)

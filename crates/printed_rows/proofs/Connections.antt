@@ -1,10 +1,5 @@
 -- What a connection of a network has can be printed.
-use Rattle.std.proofs.Common.{◌≡◌, ℕ, ◌<◌, ◌≤◌, length, ap, arith}
-use Rattle.plan_model.specs.declared.model.Connection.{Connection}
-use Rattle.plan_model.specs.NetworkModel.{NetworkModel}
-use Rattle.plan_model.specs.NameLists.{NameLists, NamesFit}
-use Rattle.plan_model.specs.Network.{count, connection, IsValid}
-use Rattle.clock_text.specs.Civil.{last_printable}
+use Rattle.printed_rows.proofs.Common.{◌≡◌, ℕ, ◌<◌, ◌≤◌, length, ap, arith, Connection, NetworkModel, NameLists, NamesFit, count, connection, IsValid, last_printable}
 
 pub dep_printable : (n : NetworkModel) (i : ℕ) (x : Connection) → IsValid n → i < count n → x ≡ connection n i → x.dep.0 ≤ last_printable
 dep_printable n i x v l e =

@@ -1,17 +1,10 @@
 -- Where connections are found.
-use Rattle.std.proofs.Common.{◌≡◌, ℕ, zero, suc, ◌+◌, ◌<◌, Bool, true, false, List, [], ◌∷◌, length, Contains, IsUtf8, Option, Some, None, arith, sym, refl}
-use Rattle.std.proofs.Common.{inl, inr, ◌∙◌, ap, ◌==◌, ◌&&◌, slice_get, slice_index_or, IfSome, IfNone, if◌then◌else◌, option_map, bytes_eq}
-use Rattle.std.specs.List.{position_from}
-use Rattle.std.proofs.lemmas.Bool.{cases_Bool}
-use Rattle.std.proofs.lemmas.Bool.Decides.{nat_tests}
-use Rattle.plan_model.specs.declared.model.Connection.{Connection}
+use Rattle.printed_rows.proofs.Common.{◌≡◌, ℕ, zero, suc, ◌+◌, ◌<◌, Bool, true, false, List, [], ◌∷◌, length, Contains, IsUtf8, Option, Some, None, arith, sym, refl, inl, inr, ◌∙◌, ap, ◌==◌, ◌&&◌}
+use Rattle.printed_rows.proofs.Common.{slice_get, slice_index_or, IfSome, IfNone, if◌then◌else◌, option_map, bytes_eq, position_from, cases_Bool, nat_tests, Connection, NetworkModel, IsValid}
+use Rattle.printed_rows.proofs.Common.{count, no_connection, run_of, step_of, position_found, position_none, false_if, connection_of}
 use Rattle.plan_model.specs.declared.model.ConnectionId.{ConnectionId}
-use Rattle.plan_model.specs.NetworkModel.{NetworkModel}
-use Rattle.plan_model.specs.Network.{IsValid, count, no_connection, run_of, step_of}
 use Rattle.plan_model.specs.Search.{connection_at}
 use Rattle.plan_model.proofs.Searches.{connection_is}
-use Rattle.text_index.proofs.Numbers.{position_found, position_none, false_if}
-use Rattle.printed_rows.specs.Fields.{connection_of}
 
 -- where an index was found, the test holds
 found_holds : {X : Type 0} (t : X → Bool) (xs : List X) (from k : ℕ) (d : X) → position_from t from xs ≡ Some k → (j : ℕ) × (k ≡ from + j) × (j < length xs) × (t (slice_index_or xs j d) ≡ true)

@@ -1,6 +1,5 @@
 -- The fields of printed rows, and texts one after another.
-use Rattle.std.proofs.Common.{◌≡◌, ℕ, ◌+◌, ◌<◌, List, [], ◌∷◌, ◌++◌, length, drop, Some, Result, sym, ◌∙◌, ap, refl, subst, append_assoc, slice_get}
-use Rattle.std.proofs.Common.{slice_index_or, IfOk, Vec, Global}
+use Rattle.printed_rows.proofs.Common.{◌≡◌, ℕ, ◌+◌, ◌<◌, List, [], ◌∷◌, ◌++◌, length, drop, Some, Result, sym, ◌∙◌, ap, refl, subst, append_assoc, slice_get, slice_index_or, IfOk, Vec, Global}
 use Rattle.std.proofs.lemmas.List.{drop_more}
 use Rattle.std.proofs.lemmas.Option.{get_or_from_slice_get}
 

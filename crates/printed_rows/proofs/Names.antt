@@ -1,11 +1,6 @@
 -- The names of a network's places and runs in printed rows.
-use Rattle.std.proofs.Common.{◌≡◌, ℕ, ◌<◌, length, Some, arith, decimal}
-use Rattle.csv_rows.specs.Spaces.{trimmed_text}
-use Rattle.plan_model.specs.NetworkModel.{NetworkModel}
-use Rattle.plan_model.specs.NameLists.{NameLists, NamesFit, AreNames}
-use Rattle.plan_model.specs.Network.{IsValid, count, run_of, step_of}
-use Rattle.printed_rows.specs.Fields.{number_of, whole_at}
-use Rattle.printed_rows.specs.Writers.{place_name, run_name}
+use Rattle.printed_rows.proofs.Common.{◌≡◌, ℕ, ◌<◌, length, Some, arith, decimal, trimmed_text, NetworkModel, NameLists, NamesFit, AreNames, IsValid, count, run_of, step_of, number_of, whole_at}
+use Rattle.printed_rows.proofs.Common.{place_name, run_name}
 use Rattle.printed_rows.proofs.Plain.{decimal_kept, whole_back, name_back, name_kept}
 
 module _ (n : NetworkModel) (names : NameLists) (fit : NamesFit names n) where

@@ -1,22 +1,15 @@
 -- Printed fields: no space is at their ends, and they give their numbers.
-use Rattle.std.proofs.Common.{◌≡◌, ℕ, ◌+◌, ◌-◌, ◌*◌, ◌/◌, ◌%◌, ◌<◌, ◌≤◌, ◌^◌, Bool, true, List, [], ◌∷◌, length, Some, All, arith, sym, refl, ap, ◌∙◌, nat_lt}
-use Rattle.std.proofs.Common.{decimal, slice_index_or, bytes_eq, IsUtf8, le-leb}
-use Rattle.std.specs.List.{list_all}
+use Rattle.printed_rows.proofs.Common.{◌≡◌, ℕ, ◌+◌, ◌-◌, ◌*◌, ◌/◌, ◌%◌, ◌<◌, ◌≤◌, ◌^◌, Bool, true, List, [], ◌∷◌, length, Some, All, arith, sym, refl, ap, ◌∙◌, nat_lt, decimal, slice_index_or}
+use Rattle.printed_rows.proofs.Common.{bytes_eq, IsUtf8, le-leb, list_all, false≢true, and_parts, nat_tests, moment_text, nanos_text, parts_of_day, AreDistinct, IsTrimmed, trimmed_text, number_of}
+use Rattle.printed_rows.proofs.Common.{whole_at, position_found, false_if, with_utf8}
 use Rattle.std.specs.Char.{is_ascii_digit}
 use Rattle.std.specs.Cmp.Lexicographic.{bytes_decides}
-use Rattle.std.proofs.lemmas.Bool.{false≢true, and_parts}
-use Rattle.std.proofs.lemmas.Bool.Decides.{nat_tests}
 use Rattle.std.proofs.lemmas.Fmt.{decimal_by_steps, decimal_nonempty, length-decimal-le}
 use Rattle.std.proofs.lemmas.List.Folds.{list_all-append}
 use Rattle.std.proofs.lemmas.List.Sums.{fold-append}
-use Rattle.clock_text.specs.Civil.{moment_text, nanos_text, parts_of_day}
 use Rattle.clock_text.specs.Digits.{digits, value_of}
 use Rattle.clock_text.specs.Times.{Parts, text_of_parts}
-use Rattle.plan_model.specs.NameLists.{AreDistinct, IsTrimmed}
-use Rattle.csv_rows.specs.Spaces.{trimmed_text}
 use Rattle.csv_rows.proofs.SpaceLemmas.{trimmed_text-IsTrimmed}
-use Rattle.printed_rows.specs.Fields.{number_of, whole_at}
-use Rattle.text_index.proofs.Numbers.{position_found, false_if, with_utf8}
 
 -- each byte is above the space
 abbrev is_plain : List ℕ → Bool

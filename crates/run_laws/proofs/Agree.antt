@@ -1,17 +1,10 @@
 -- Two choices that fix one tree, which is safe, choose the same after each leg in it.
-use Rattle.std.proofs.Common.{◌≡◌, ◌≢◌, ℕ, zero, suc, ◌+◌, List, [], ◌∷◌, Option, Some, None, Contains, sym, subst, refl, inl, inr, ap, ne_eqb, ◌-◌}
-use Rattle.std.proofs.lemmas.Bool.{cases_eq, eq-eqb}
-use Rattle.plan_model.specs.declared.model.Leg.{Leg}
-use Rattle.plan_model.specs.declared.model.Outcome.{Outcome}
-use Rattle.plan_model.specs.NetworkModel.{NetworkModel}
-use Rattle.plan_model.specs.Network.{arr_of, count}
-use Rattle.plan_model.specs.Tree.{Tree, Done, Ride, Stuck, Kids, Nil, Kid}
-use Rattle.plan_model.specs.Strategy.{IsSafe, IsSafeFromStart, AreSafe}
-use Rattle.plan_model.specs.Unfold.{end_of, arrival_of, outcomes_of, kids_after, ride_of, ride_or_stuck, unfold_after, unfold_from}
-use Rattle.plan_graph.specs.Ready.{Stands, StandsIn}
+use Rattle.run_laws.proofs.Common.{◌≡◌, ◌≢◌, ℕ, zero, suc, ◌+◌, List, [], ◌∷◌, Option, Some, None, Contains, sym, subst, refl, inl, inr, ap, ◌-◌, cases_eq, eq-eqb, Leg, Outcome, NetworkModel}
+use Rattle.run_laws.proofs.Common.{arr_of, count, Tree, Done, Ride, Stuck, Kids, Nil, Kid, IsSafe, IsSafeFromStart, AreSafe, end_of, arrival_of, outcomes_of, kids_after, ride_of, ride_or_stuck}
+use Rattle.run_laws.proofs.Common.{unfold_after, unfold_from, Stands, StandsIn, Contains-nil, Contains-head, Contains-tail, Contains-cons_cases}
+use Rattle.std.proofs.Common.{ne_eqb}
 use Rattle.plan_graph.proofs.Searches.{same_leg}
 use Rattle.plan_graph.proofs.Places.{safe_child}
-use Rattle.plan_model.proofs.Lists.{Contains-nil, Contains-head, Contains-tail, Contains-cons_cases}
 
 abbrev first_tree : Tree → Kids → Tree
 first_tree else Nil = else

@@ -1,48 +1,21 @@
 -- Two runs agree.
-use Rattle.std.proofs.Common.{◌≡◌, ◌≢◌, ℕ, ◌≤◌, List, length, Option, None, Some, Result, Ok, Err, false, arith, nat_lt, ◌↔◌, inl, inr, refl, sym, subst, ap, ◌∙◌}
+use Rattle.run_laws.proofs.Common.{◌≡◌, ◌≢◌, ℕ, ◌≤◌, List, length, Option, None, Some, Result, Ok, Err, false, arith, nat_lt, ◌↔◌, inl, inr, refl, sym, subst, ap, ◌∙◌, Appends, FileMap, file_at}
+use Rattle.run_laws.proofs.Common.{Limits, Moment, Query, IsLeastWorst, PlanGraph, JobModel, JourneyModel, AskModel, Ask, Safe, Expand, Plan, Certify, CheckProof, CheckGraph, Punctual, Departures}
+use Rattle.run_laws.proofs.Common.{Latest, job_of, Fault, Problem, status_of, HasOneProblem, IsProblem, Findings, findings_of, Head, graph_of, NetworkModel, IsValid, nat_tests, bytes_of, graph_in}
+use Rattle.run_laws.proofs.Common.{graph_as, trip_by, AnswersPlan, head_of, AnswersCertify, query_until, AnswersAsk, EndsAsk, FailsJourney, FailsScore, EndsByGraphFile, EndsByWalk, AnswersJob}
+use Rattle.run_laws.proofs.Common.{WritesLine, NamedParts, KnownRun, EndsWell, IsCalmRun, worst_kept, no_worse, of_last_row}
 use Rattle.std.proofs.lemmas.List.{append_cancel_left}
-use Rattle.std.specs.Io.KnownBytes.{Appends}
-use Rattle.file_ports.specs.Ports.{FileMap, file_at}
-use Rattle.csv_rows.specs.declared.limits.Limits.{Limits}
-use Rattle.plan_model.specs.declared.model.Moment.{Moment}
-use Rattle.plan_model.specs.declared.model.Query.{Query}
-use Rattle.plan_model.specs.Strategy.{IsLeastWorst}
-use Rattle.plan_graph.specs.declared.PlanGraph.{PlanGraph}
-use Rattle.command_line.specs.Jobs.{JobModel, JourneyModel, AskModel, Ask, Safe, Expand, Plan, Replay, Certify, CheckProof, CheckGraph, Punctual, Departures, Latest, job_of}
-use Rattle.journey_model.specs.declared.faults.Fault.{Fault}
+use Rattle.command_line.specs.Jobs.{Replay}
 use Rattle.journey_model.specs.declared.faults.Fault.TheVariants as fault
 use Rattle.journey_model.specs.declared.faults.Input.TheVariants as input
-use Rattle.journey_model.specs.declared.problem.Problem.{Problem}
-use Rattle.journey_model.specs.Faults.{status_of}
-use Rattle.journey_problem.specs.OneProblem.{HasOneProblem}
-use Rattle.journey_problem.specs.Problems.{IsProblem}
-use Rattle.journey_report.specs.Findings.{Findings, findings_of}
-use Rattle.graph_text.specs.declared.Head.{Head}
 use Rattle.graph_text.specs.declared.reader.TextFault.{TextFault}
 use Rattle.graph_text.specs.declared.reader.TextFault.TheVariants as reader
 use Rattle.graph_text.specs.FirstFaults.{IsFirstFaultOf}
-use Rattle.graph_text.specs.Reading.{graph_of}
 use Rattle.plan_model.specs.NameLists.{NameLists}
-use Rattle.plan_model.specs.NetworkModel.{NetworkModel}
-use Rattle.plan_model.specs.Network.{IsValid}
-use Rattle.std.proofs.lemmas.Bool.Decides.{nat_tests}
-use Rattle.journey_problem.specs.Files.{bytes_of}
 use Rattle.plan_model.specs.Results.{and_then}
-use Rattle.journey_problem.specs.GraphFiles.{graph_in, graph_as}
-use Rattle.journey_answers.specs.Trips.{trip_by}
-use Rattle.journey_answers.specs.Answers.{AnswersPlan, head_of}
-use Rattle.journey_answers.specs.Certified.{AnswersCertify}
-use Rattle.journey_answers.specs.Departures.{query_until}
-use Rattle.meat_engine.specs.Asks.{AnswersAsk, EndsAsk, FailsJourney, FailsScore}
-use Rattle.meat_engine.specs.Ends.{EndsByGraphFile, EndsByWalk}
-use Rattle.meat_engine.specs.Received.{AnswersJob, Outcome}
-use Rattle.meat_engine.specs.RunPromises.{WritesLine}
+use Rattle.meat_engine.specs.Received.{Outcome}
 use Rattle.meat_engine.proofs.Undisturbed.{fails as job_fails}
-use Rattle.journey_model.specs.Sites.{NamedParts}
-use Rattle.run_laws.specs.OneRun.{KnownRun, EndsWell, IsCalmRun}
 use Rattle.run_laws.specs.Pairs.{RunModel, IsRunWithin, IsUntroubled, AskBoth, IsKept, OrStatus9, EndAlike, PlanIsAccepted, PlanIsReplayed, CertificateIsAccepted, LeaveAlike, LeaveByWorst, CertificateIsWithin, ShareStrategy, PromiseIsSure, WorstIsKept, LaterIsNoWorse, LatestIsOfLastRow, FaultIsFirst, Agree}
-use Rattle.decision_graph.proofs.Deadlines.{worst_kept, no_worse}
-use Rattle.departure_table.proofs.Latest.{of_last_row}
 use Rattle.late_chance.proofs.Rounded.{no_chance}
 use Rattle.run_laws.proofs.Asks.{answer_of}
 use Rattle.run_laws.proofs.Certified.{printed_certificate, value_within}

@@ -1,38 +1,12 @@
 -- What is asked about a problem has an answer or one first fault.
-use Rattle.std.proofs.Common.{◌≡◌, ◌≢◌, ℕ, ◌<◌, ◌⊎◌, List, Option, Some, Result, Ok, Err, inl, inr, sym, subst, ap, ◌∙◌, arith}
-use Rattle.std.proofs.lemmas.Bool.{cases_eq, cases_order}
-use Rattle.file_ports.specs.Ports.{FileMap, file_at}
-use Rattle.csv_rows.specs.Tables.{table_of}
-use Rattle.csv_rows.specs.declared.limits.Limits.{Limits}
-use Rattle.plan_model.specs.declared.model.Query.{Query}
-use Rattle.plan_model.specs.NetworkModel.{NetworkModel}
-use Rattle.plan_model.specs.Network.{IsValid, count, dep_of}
-use Rattle.plan_model.specs.Order.{IsEarlier}
-use Rattle.plan_graph.specs.declared.PlanGraph.{PlanGraph}
-use Rattle.graph_text.specs.declared.Head.{Head}
-use Rattle.trip_replay.specs.declared.ReplayFault.{ReplayFault}
+use Rattle.run_laws.proofs.Common.{◌≡◌, ◌≢◌, ℕ, ◌<◌, ◌⊎◌, List, Option, Some, Result, Ok, Err, inl, inr, sym, subst, ap, ◌∙◌, arith, cases_eq, cases_order, FileMap, file_at, table_of, Limits}
+use Rattle.run_laws.proofs.Common.{Query, NetworkModel, IsValid, count, dep_of, IsEarlier, PlanGraph, Head, ReplayFault, LowerBounds, ProofFault, IsLastFault, read_once, never_memory, AskModel}
+use Rattle.run_laws.proofs.Common.{Safe, Expand, Plan, Replays, Certify, CheckProof, CheckGraph, Punctual, Departures, Latest, Input, Fault, Replay, ProofFile, ProofFails, Unsafe, Problem}
+use Rattle.run_laws.proofs.Common.{Findings, none_unread, bytes_of, AnswersReplay, IsTripFault, trip_by, IsEnclosed, IsUnsafeGraph, IsHeld, IsBroken, graph_in, InGraphFile, FailsGraph, FailsText}
+use Rattle.run_laws.proofs.Common.{FailsFile, FailsCertificate, InCertificateFile, IsNoSafe, AnswersAsk, FailsAsk, FailsCheck, FailsReplay, FailsScore}
 use Rattle.graph_score.specs.Failures.{IsNotAfter, IsFirstFailure}
-use Rattle.lower_proof.specs.declared.LowerBounds.{LowerBounds}
-use Rattle.lower_proof.specs.declared.reader.ProofFault.{ProofFault}
 use Rattle.lower_proof.specs.declared.reader.ProofFault.TheVariants.{NoMemory as NoRoom}
-use Rattle.lower_proof.specs.Certificates.{IsLastFault}
-use Rattle.lower_proof.proofs.ReadOnce.{read_once, never_memory}
-use Rattle.command_line.specs.Jobs.{AskModel, Safe, Expand, Plan, Replay as Replays, Certify, CheckProof, CheckGraph, Punctual, Departures, Latest}
-use Rattle.journey_model.specs.declared.faults.Input.{Input}
 use Rattle.journey_model.specs.declared.faults.Input.TheVariants as input
-use Rattle.journey_model.specs.declared.faults.Fault.{Fault}
-use Rattle.journey_model.specs.declared.faults.Fault.TheVariants.{Replay, ProofFile, ProofFails, Unsafe}
-use Rattle.journey_model.specs.declared.problem.Problem.{Problem}
-use Rattle.journey_report.specs.Findings.{Findings}
-use Rattle.journey_problem.proofs.NoFaults.{none_unread}
-use Rattle.journey_problem.specs.Files.{bytes_of}
-use Rattle.journey_answers.specs.Trips.{AnswersReplay, IsTripFault, trip_by}
-use Rattle.journey_answers.specs.Scores.{IsEnclosed, IsUnsafeGraph}
-use Rattle.journey_answers.specs.Checks.{IsHeld, IsBroken}
-use Rattle.journey_problem.specs.GraphFiles.{graph_in, InGraphFile, FailsGraph}
-use Rattle.journey_problem.specs.CertificateFiles.{FailsText, FailsFile, FailsCertificate, InCertificateFile}
-use Rattle.journey_answers.specs.Answers.{IsNoSafe}
-use Rattle.meat_engine.specs.Asks.{AnswersAsk, FailsAsk, FailsCheck, FailsReplay, FailsScore}
 use Rattle.run_laws.proofs.FirstFaults.{NotRead}
 use Rattle.run_laws.proofs.OneFile.{one_err, never_both, read_graph, in_graph, read_bytes, Reads, in_certificate}
 use Rattle.run_laws.proofs.Queries.{not_none}

@@ -1,27 +1,10 @@
 -- The answers of two runs are one.
-use Rattle.std.proofs.Common.{◌≡◌, ℕ, ◌++◌, List, Option, None, Some, Ok, sym, subst, ap, ap₂, ◌∙◌}
-use Rattle.interval_fixed.specs.Interval.{Interval}
-use Rattle.std.specs.Io.KnownBytes.{Appends}
-use Rattle.file_ports.specs.Ports.{FileMap}
-use Rattle.csv_rows.specs.declared.limits.Limits.{Limits}
-use Rattle.plan_model.specs.declared.model.Moment.{Moment}
-use Rattle.plan_model.specs.declared.model.Query.{Query}
-use Rattle.plan_model.specs.Network.{count}
-use Rattle.plan_graph.specs.declared.PlanGraph.{PlanGraph}
-use Rattle.command_line.specs.Jobs.{JobModel, Ask, Sample, AskModel, Safe, Expand, Plan, Replay, Certify, CheckProof, CheckGraph, Punctual, Departures, Latest}
-use Rattle.journey_model.specs.declared.problem.Problem.{Problem}
-use Rattle.journey_model.specs.declared.faults.Fault.{Fault}
-use Rattle.journey_problem.specs.OneProblem.{HasOneProblem}
-use Rattle.journey_problem.proofs.SameFiles.{same_feed_problem}
-use Rattle.journey_report.specs.Findings.{Findings, findings_of, sample_findings}
-use Rattle.journey_report.specs.AnswerTexts.{leg_count, sample_text}
-use Rattle.journey_report.specs.declared.report.Report.{Report}
-use Rattle.journey_answers.specs.Departures.{query_until}
-use Rattle.meat_engine.specs.Asks.{AnswersAsk}
-use Rattle.meat_engine.specs.Received.{AnswersJob, AnswersWords, HasAnswer, Outcome}
-use Rattle.meat_engine.specs.Samples.{sample_journey, sample_alpha, AnswersSampled, IsSampled}
-use Rattle.meat_engine.specs.RunPromises.{WritesLine}
-use Rattle.run_laws.specs.OneAnswer.{IsOneAnswer}
+use Rattle.run_laws.proofs.Common.{◌≡◌, ℕ, ◌++◌, List, Option, None, Some, Ok, sym, subst, ap, ap₂, ◌∙◌, Interval, Appends, FileMap, Limits, Moment, Query, count, PlanGraph, JobModel, Ask, Sample}
+use Rattle.run_laws.proofs.Common.{AskModel, Safe, Expand, Plan, Certify, CheckProof, CheckGraph, Punctual, Departures, Latest, Problem, Fault, HasOneProblem, same_feed_problem, Findings}
+use Rattle.run_laws.proofs.Common.{findings_of, sample_findings, leg_count, sample_text, Report, query_until, AnswersAsk, AnswersJob, AnswersWords, HasAnswer, sample_journey, sample_alpha}
+use Rattle.run_laws.proofs.Common.{AnswersSampled, IsSampled, WritesLine, IsOneAnswer, KnownRun, EndsWell, HasOneRun}
+use Rattle.command_line.specs.Jobs.{Replay}
+use Rattle.meat_engine.specs.Received.{Outcome}
 use Rattle.run_laws.proofs.Plans.{one_planned}
 use Rattle.run_laws.proofs.Queries.{in_one_query}
 use Rattle.run_laws.proofs.Certificates.{one_certificate_answer, one_check_answer}
@@ -29,7 +12,6 @@ use Rattle.run_laws.proofs.Departures.{one_departures_answer}
 use Rattle.run_laws.proofs.Texts.{one_safe_answer, one_plan_answer, one_expanded_answer}
 use Rattle.run_laws.proofs.Punctuals.{one_punctual_answer}
 use Rattle.run_laws.proofs.Files.{one_trip_answer, one_score_answer, one_latest_answer}
-use Rattle.run_laws.specs.OneRun.{KnownRun, EndsWell, HasOneRun}
 
 module _ (found others : Findings) (text other : List ℕ) where
   abbrev One : Type 0

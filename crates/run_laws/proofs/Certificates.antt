@@ -1,22 +1,7 @@
 -- The answers about a certificate, and about a certificate file, follow from the problem and the files.
-use Rattle.std.proofs.Common.{◌≡◌, ℕ, List, Option, Some, sym, ap, ◌∙◌}
-use Rattle.file_ports.specs.Ports.{FileMap}
-use Rattle.csv_rows.specs.declared.limits.Limits.{Limits}
-use Rattle.plan_model.specs.declared.model.Moment.{Moment}
-use Rattle.plan_model.specs.declared.model.Query.{Query}
-use Rattle.plan_model.specs.Strategy.{IsBoardableAtStart}
-use Rattle.lower_proof.specs.declared.LowerBounds.{LowerBounds}
+use Rattle.run_laws.proofs.Common.{◌≡◌, ℕ, List, Option, Some, sym, ap, ◌∙◌, FileMap, Limits, Moment, Query, IsBoardableAtStart, LowerBounds, IsLeast-unique, place_name, Problem, Findings}
+use Rattle.run_laws.proofs.Common.{certify_findings, check_findings, holds_text, IsHeld, InCertificateFile, InQuery, AnswersCertify, IsOneAnswer}
 use Rattle.lower_proof.specs.CertificateTexts.{certificate_text}
-use Rattle.lower_proof.proofs.Vias.{IsLeast-unique}
-use Rattle.printed_rows.specs.Writers.{place_name}
-use Rattle.journey_model.specs.declared.problem.Problem.{Problem}
-use Rattle.journey_report.specs.Findings.{Findings, certify_findings, check_findings}
-use Rattle.journey_report.specs.AnswerTexts.{holds_text}
-use Rattle.journey_answers.specs.Checks.{IsHeld}
-use Rattle.journey_problem.specs.CertificateFiles.{InCertificateFile}
-use Rattle.journey_answers.specs.Answers.{InQuery}
-use Rattle.journey_answers.specs.Certified.{AnswersCertify}
-use Rattle.run_laws.specs.OneAnswer.{IsOneAnswer}
 use Rattle.run_laws.proofs.Queries.{in_one_query}
 use Rattle.run_laws.proofs.OneFile.{in_certificate}
 use Rattle.run_laws.proofs.Tight.{one_tight}

@@ -1,32 +1,10 @@
 -- What `certify` prints is read as a certificate file, and its certificate is accepted; and its value is within the bounds of a plan.
-use Rattle.std.proofs.Common.{◌≡◌, ℕ, ◌+◌, ◌≤◌, false, refl, subst, arith, inl, inr, List, Option, None, Some, Result, Ok, Err, length, nat_lt}
-use Rattle.std.proofs.lemmas.Bool.Decides.{nat_tests}
-use Rattle.file_ports.specs.Ports.{FileMap, file_at}
-use Rattle.csv_rows.specs.declared.limits.Limits.{Limits}
-use Rattle.csv_rows.specs.Tables.{table_of}
-use Rattle.interval_fixed.specs.Interval.{Interval}
-use Rattle.plan_model.specs.declared.model.Query.{Query}
-use Rattle.plan_model.specs.NetworkModel.{NetworkModel}
-use Rattle.plan_model.specs.Network.{count}
-use Rattle.plan_model.specs.Strategy.{IsBoardableAtStart}
-use Rattle.plan_graph.specs.declared.PlanGraph.{PlanGraph}
-use Rattle.plan_graph.specs.Unfold.{unfold_plan}
-use Rattle.decision_graph.specs.Planned.{IsPlanned}
-use Rattle.decision_graph.proofs.Deadlines.{below_covers}
-use Rattle.lower_proof.specs.Certificates.{IsAccepted, IsLeastAtStart}
+use Rattle.run_laws.proofs.Common.{◌≡◌, ℕ, ◌+◌, ◌≤◌, false, refl, subst, arith, inl, inr, List, Option, None, Some, Result, Ok, Err, length, nat_lt, nat_tests, FileMap, file_at, Limits, table_of}
+use Rattle.run_laws.proofs.Common.{Interval, Query, NetworkModel, count, IsBoardableAtStart, PlanGraph, unfold_plan, IsPlanned, below_covers, IsAccepted, IsLeastAtStart, never_memory}
+use Rattle.run_laws.proofs.Common.{IsLeast-unique, Fault, Problem, Findings, bytes_of, FailsFile, IsCertificateText, InQuery, AnswersCertify, EndsByCertificateFile, EndsByVerdict}
 use Rattle.lower_proof.specs.Promises.{IsBestCertificate}
 use Rattle.lower_proof.proofs.Best.{sound}
-use Rattle.lower_proof.proofs.ReadOnce.{never_memory}
-use Rattle.lower_proof.proofs.Vias.{IsLeast-unique}
-use Rattle.journey_model.specs.declared.faults.Fault.{Fault}
 use Rattle.journey_model.specs.declared.faults.Input.TheVariants as input
-use Rattle.journey_model.specs.declared.problem.Problem.{Problem}
-use Rattle.journey_report.specs.Findings.{Findings}
-use Rattle.journey_problem.specs.Files.{bytes_of}
-use Rattle.journey_problem.specs.CertificateFiles.{FailsFile, IsCertificateText}
-use Rattle.journey_answers.specs.Answers.{InQuery}
-use Rattle.journey_answers.specs.Certified.{AnswersCertify}
-use Rattle.meat_engine.specs.Ends.{EndsByCertificateFile, EndsByVerdict}
 
 -- the bytes of a file that is there and short enough
 pub bytes_there : (most : ℕ) (files : FileMap) (path text : List ℕ) → file_at files path ≡ Some text → length text ≤ most → bytes_of most input.Proof None (file_at files path) ≡ Ok text

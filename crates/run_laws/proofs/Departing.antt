@@ -1,13 +1,6 @@
 -- How `departures` and `latest` end follows from the least worst arrival.
-use Rattle.std.proofs.Common.{◌≡◌, ℕ, ◌<◌, ◌≤◌, arith, inl, inr, sym, ◌∙◌, Some}
-use Rattle.plan_model.specs.declared.model.Moment.{Moment}
-use Rattle.plan_model.specs.declared.model.Query.{Query}
-use Rattle.plan_model.specs.Strategy.{IsLeastWorst}
-use Rattle.plan_model.proofs.Laws.{reaches_from_safe, safe_exists}
-use Rattle.departure_table.proofs.Latest.{safe_sooner}
-use Rattle.journey_answers.specs.Departures.{query_until, HasSafeFor}
-use Rattle.journey_model.specs.declared.problem.Problem.{Problem}
-use Rattle.meat_engine.specs.Ends.{EndsByDepartures, EndsByLatest, HasLater}
+use Rattle.run_laws.proofs.Common.{◌≡◌, ℕ, ◌<◌, ◌≤◌, arith, inl, inr, sym, ◌∙◌, Some, Moment, Query, IsLeastWorst, reaches_from_safe, safe_exists, safe_sooner, query_until, HasSafeFor, Problem}
+use Rattle.run_laws.proofs.Common.{EndsByDepartures, EndsByLatest, HasLater}
 
 later_is_now : (p : Problem) (query : Query) → HasLater p query → HasSafeFor p query
 later_is_now p query (moment, tree, late, safe) = safe_sooner p.timetable.network query.source.0 query query.start.0 moment tree late safe

@@ -1,27 +1,16 @@
 -- The departures of a query follow from the problem.
-use Rattle.std.proofs.Common.{◌≡◌, ℕ, ◌+◌, ◌-◌, List, [], ◌∷◌, Option, sym, subst, refl, ap, ap₂, ◌∙◌, inl, inr, arith}
+use Rattle.run_laws.proofs.Common.{◌≡◌, ℕ, ◌+◌, ◌-◌, List, [], ◌∷◌, Option, sym, subst, refl, ap, ap₂, ◌∙◌, inl, inr, arith, cases_eq, ConnectionId, Query, NetworkModel, mean_scoring, kept_after}
+use Rattle.run_laws.proofs.Common.{one_found, Problem, Findings, departures_findings, departures_text, AreDepartures, AnswersDepartures, IsOneAnswer}
 use Rattle.std.specs.Option.{option_map}
-use Rattle.std.proofs.lemmas.Bool.{cases_eq}
-use Rattle.plan_model.specs.declared.model.ConnectionId.{ConnectionId}
-use Rattle.plan_model.specs.declared.model.Query.{Query}
-use Rattle.plan_model.specs.NetworkModel.{NetworkModel}
 use Rattle.plan_model.specs.View.{extended}
 use Rattle.value_laws.specs.declared.MeanSpan.{MeanSpan}
-use Rattle.value_laws.specs.Means.{mean_scoring}
 use Rattle.stop_profile.specs.declared.Row.{Row}
 use Rattle.stop_profile.specs.Inserts.{row_in_time}
-use Rattle.meat_scan.specs.Rules.{kept_after}
 use Rattle.meat_scan.specs.ScanResult.{ScanResult}
 use Rattle.departure_table.specs.declared.DepartureRow.{DepartureRow}
 use Rattle.departure_table.specs.Looked.{row_of_choice, row_found, AreLooked}
-use Rattle.plan_graph.proofs.Tables.{one_found}
-use Rattle.journey_model.specs.declared.problem.Problem.{Problem}
-use Rattle.journey_report.specs.Findings.{Findings, departures_findings}
-use Rattle.journey_report.specs.DepartureTexts.{departures_text}
 use Rattle.journey_answers.specs.ByRules.{IsRuled, AreByRules, added_query}
-use Rattle.journey_answers.specs.Departures.{AreDepartures, AnswersDepartures}
 use Rattle.run_laws.proofs.OneOrder.{one_order}
-use Rattle.run_laws.specs.OneAnswer.{IsOneAnswer}
 
 -- rows that are looked up in the same way are the same
 one_looked : (look : ℕ → Option DepartureRow) (last next : ℕ) (xs ys : List DepartureRow) → AreLooked look last next xs → AreLooked look last next ys → xs ≡ ys

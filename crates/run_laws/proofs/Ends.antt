@@ -1,31 +1,15 @@
 -- Two runs that nothing disturbs end in one way.
-use Rattle.std.proofs.Common.{◌≡◌, ◌≢◌, ℕ, ◌⊎◌, List, Option, None, Some, Ok, Err, inl, inr, refl, sym, subst, ap, ◌∙◌}
-use Rattle.std.specs.Io.KnownBytes.{Appends, Keeps}
-use Rattle.file_ports.specs.Ports.{FileMap, file_at}
-use Rattle.csv_rows.specs.declared.limits.Limits.{Limits}
+use Rattle.run_laws.proofs.Common.{◌≡◌, ◌≢◌, ℕ, ◌⊎◌, List, Option, None, Some, Ok, Err, inl, inr, refl, sym, subst, ap, ◌∙◌, Appends, Keeps, FileMap, file_at, Limits, JobModel, Ask, Sample}
+use Rattle.run_laws.proofs.Common.{JourneyModel, AskModel, Plan, job_of, Fault, Words, Replay, ProofFails, Unsafe, Write, NoMemory, Problem, status_of, NamedParts, HasOneProblem, no_fault}
+use Rattle.run_laws.proofs.Common.{same_feed_problem, IsNoSafe, Findings, findings_of, no_findings, Report, FailsAsk, FailsJourney, Ending, AnswersJob, AnswersWords, FailsJob, IsExplained}
+use Rattle.run_laws.proofs.Common.{IsRefused, OutcomeBy, WritesLine, sample_journey, sample_alpha, IsCalmRun, IsOneEnd, HasOneEnd}
 use Rattle.command_line.specs.declared.job.WordsFault.{WordsFault}
-use Rattle.command_line.specs.Jobs.{JobModel, Ask, Sample, JourneyModel, AskModel, Plan, job_of}
-use Rattle.journey_model.specs.declared.faults.Fault.{Fault}
-use Rattle.journey_model.specs.declared.faults.Fault.TheVariants.{Words, Replay, ProofFails, Unsafe, Write, NoMemory}
-use Rattle.journey_model.specs.declared.problem.Problem.{Problem}
-use Rattle.journey_model.specs.Faults.{status_of}
 use Rattle.journey_model.specs.Known.{parts_of}
-use Rattle.journey_model.specs.Sites.{NamedParts}
 use Rattle.journey_model.specs.Stages.{stage_of, IsStageBeforeSearch}
 use Rattle.journey_model.specs.FaultLines.{line_of}
-use Rattle.journey_problem.specs.OneProblem.{HasOneProblem}
-use Rattle.journey_problem.proofs.NoFaults.{no_fault}
 use Rattle.journey_problem.proofs.OneProblem.{one_problem}
-use Rattle.journey_problem.proofs.SameFiles.{same_feed_problem}
-use Rattle.journey_answers.specs.Answers.{IsNoSafe}
-use Rattle.journey_report.specs.Findings.{Findings, findings_of, no_findings}
-use Rattle.journey_report.specs.declared.report.Report.{Report}
-use Rattle.meat_engine.specs.Asks.{FailsAsk, FailsJourney}
-use Rattle.meat_engine.specs.Received.{Ending, AnswersJob, AnswersWords, FailsJob, IsExplained, IsRefused, Outcome, OutcomeBy}
-use Rattle.meat_engine.specs.RunPromises.{WritesLine}
-use Rattle.meat_engine.specs.Samples.{sample_journey, sample_alpha}
+use Rattle.meat_engine.specs.Received.{Outcome}
 use Rattle.meat_engine.proofs.Outcomes.{refused_ending}
-use Rattle.run_laws.specs.OneRun.{IsCalmRun, IsOneEnd, HasOneEnd}
 use Rattle.run_laws.proofs.Asks.{one_words, one_written, outcome_of}
 use Rattle.run_laws.proofs.AskFaults.{one_ask_fault, answered_or_not}
 use Rattle.run_laws.proofs.FirstFaults.{NotRead, one_first_fault}

@@ -1,24 +1,8 @@
 -- The answers about a graph file, and about the latest moment, follow from the files.
-use Rattle.std.proofs.Common.{◌≡◌, ℕ, List, Some, Ok, sym, ap, ◌∙◌, inl, inr, arith}
-use Rattle.std.proofs.lemmas.Bool.{cases_lt}
-use Rattle.file_ports.specs.Ports.{FileMap}
-use Rattle.csv_rows.specs.declared.limits.Limits.{Limits}
-use Rattle.plan_model.specs.declared.model.Moment.{Moment}
-use Rattle.plan_model.specs.declared.model.Query.{Query}
-use Rattle.plan_graph.specs.declared.PlanGraph.{PlanGraph}
-use Rattle.graph_text.specs.declared.Head.{Head}
-use Rattle.printed_rows.specs.Writers.{place_name}
+use Rattle.run_laws.proofs.Common.{◌≡◌, ℕ, List, Some, Ok, sym, ap, ◌∙◌, inl, inr, arith, cases_lt, FileMap, Limits, Moment, Query, PlanGraph, Head, place_name, Tree, Problem, Findings}
+use Rattle.run_laws.proofs.Common.{replay_findings, score_findings, latest_findings, trace_text, encloses_text, latest_text, AnswersReplay, IsEnclosed, InGraphFile, SafeOf, AnswersLatest}
+use Rattle.run_laws.proofs.Common.{IsOneAnswer}
 use Rattle.departure_table.specs.Departures.{IsGreatestMoment}
-use Rattle.plan_model.specs.Tree.{Tree}
-use Rattle.journey_model.specs.declared.problem.Problem.{Problem}
-use Rattle.journey_report.specs.Findings.{Findings, replay_findings, score_findings, latest_findings}
-use Rattle.journey_report.specs.AnswerTexts.{trace_text, encloses_text}
-use Rattle.journey_report.specs.DepartureTexts.{latest_text}
-use Rattle.journey_answers.specs.Trips.{AnswersReplay}
-use Rattle.journey_answers.specs.Scores.{IsEnclosed}
-use Rattle.journey_problem.specs.GraphFiles.{InGraphFile}
-use Rattle.journey_answers.specs.Departures.{SafeOf, AnswersLatest}
-use Rattle.run_laws.specs.OneAnswer.{IsOneAnswer}
 use Rattle.run_laws.proofs.OneFile.{in_graph}
 
 abbrev moment_of : ℕ → Moment

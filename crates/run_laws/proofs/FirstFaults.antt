@@ -1,23 +1,9 @@
 -- The files of a journey have one first fault.
-use Rattle.std.proofs.Common.{◌≡◌, ◌≢◌, ℕ, List, Option, None, Some, Result, Ok, Err, IsOk, inl, inr, sym, subst, ap, ◌∙◌}
-use Rattle.file_ports.specs.Ports.{FileMap, file_at}
-use Rattle.csv_rows.specs.declared.limits.Limits.{Limits}
-use Rattle.csv_rows.specs.declared.feed_tables.Table.{Table}
-use Rattle.csv_rows.specs.declared.feed_tables.FeedFault.{FeedFault}
-use Rattle.csv_rows.specs.FeedTables.{unread_table}
-use Rattle.gtfs_tables.specs.Feeds.{FeedParts, tables_in}
-use Rattle.service_days.specs.Calendars.{calendars_in}
-use Rattle.change_times.specs.Changes.{transfers_in}
-use Rattle.command_line.specs.Jobs.{TimetableModel, CutFile, FeedFolder, JourneyModel}
-use Rattle.journey_model.specs.declared.faults.Input.{Input}
-use Rattle.journey_model.specs.declared.faults.Fault.{Fault}
-use Rattle.journey_model.specs.declared.faults.Fault.TheVariants.{Read, NoMemory}
-use Rattle.journey_model.specs.Faults.{unread_input}
-use Rattle.journey_problem.specs.InputTables.{delay_fault}
+use Rattle.run_laws.proofs.Common.{◌≡◌, ◌≢◌, ℕ, List, Option, None, Some, Result, Ok, Err, IsOk, inl, inr, sym, subst, ap, ◌∙◌, FileMap, file_at, Limits, Table, FeedFault, unread_table, FeedParts}
+use Rattle.run_laws.proofs.Common.{tables_in, calendars_in, transfers_in, TimetableModel, CutFile, FeedFolder, JourneyModel, Input, Fault, Read, NoMemory, unread_input, delay_fault, GtfsFolder}
+use Rattle.run_laws.proofs.Common.{feed_as, feed_stop_fault, window_fault_of, IsFolderFault, IsLaterTableFault, IsWindowFault, IsFaultAfterFolder, IsFeedProblemFault, IsProblemFault}
+use Rattle.run_laws.proofs.Common.{IsProblemFaultOver, none_unread, table_read, not_feed, no_folder_fault}
 use Rattle.journey_problem.specs.CutProblems.{cut_problem_fault}
-use Rattle.journey_problem.specs.FeedProblems.{GtfsFolder, feed_as, feed_stop_fault, window_fault_of, IsFolderFault, IsLaterTableFault, IsWindowFault, IsFaultAfterFolder, IsFeedProblemFault}
-use Rattle.journey_problem.specs.Problems.{IsProblemFault, IsProblemFaultOver}
-use Rattle.journey_problem.proofs.NoFaults.{none_unread, table_read, not_feed, no_folder_fault}
 use Rattle.journey_problem.proofs.OneFeed.{one_feed_of}
 use Rattle.journey_problem.proofs.OneFeedProblem.{SameGtfsFolder, one_folder, one_window_fault}
 

@@ -1,20 +1,8 @@
 -- A graph file has one graph, and a certificate file one certificate; what holds of one that was read holds of another.
-use Rattle.std.proofs.Common.{◌≡◌, ℕ, List, None, Some, Result, Ok, Err, subst}
-use Rattle.file_ports.specs.Ports.{FileMap, file_at}
-use Rattle.csv_rows.specs.declared.limits.Limits.{Limits}
-use Rattle.plan_model.specs.declared.model.Query.{Query}
-use Rattle.plan_graph.specs.declared.PlanGraph.{PlanGraph}
-use Rattle.graph_text.specs.declared.Head.{Head}
-use Rattle.lower_proof.specs.declared.LowerBounds.{LowerBounds}
-use Rattle.lower_proof.specs.declared.reader.ProofFault.{ProofFault}
+use Rattle.run_laws.proofs.Common.{◌≡◌, ℕ, List, None, Some, Result, Ok, Err, subst, FileMap, file_at, Limits, Query, PlanGraph, Head, LowerBounds, ProofFault, read_once, Fault, Problem, bytes_of}
+use Rattle.run_laws.proofs.Common.{graph_in, InGraphFile, InCertificateFile}
 use Rattle.lower_proof.specs.Reading.{IsProofRead}
-use Rattle.lower_proof.proofs.ReadOnce.{read_once}
 use Rattle.journey_model.specs.declared.faults.Input.TheVariants as input
-use Rattle.journey_model.specs.declared.faults.Fault.{Fault}
-use Rattle.journey_model.specs.declared.problem.Problem.{Problem}
-use Rattle.journey_problem.specs.Files.{bytes_of}
-use Rattle.journey_problem.specs.GraphFiles.{graph_in, InGraphFile}
-use Rattle.journey_problem.specs.CertificateFiles.{InCertificateFile}
 
 pub one_ok : {A E : Type 0} (r : Result A E) (a b : A) → r ≡ Ok a → r ≡ Ok b → a ≡ b
 one_ok r a b one two = cc

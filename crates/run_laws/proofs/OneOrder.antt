@@ -1,10 +1,5 @@
 -- A network has one scan order.
-use Rattle.std.proofs.Common.{◌≡◌, ◌<◌, List, arith}
-use Rattle.std.proofs.lemmas.List.Elements.{All-contains}
-use Rattle.plan_model.specs.declared.model.ConnectionId.{ConnectionId}
-use Rattle.plan_model.specs.NetworkModel.{NetworkModel}
-use Rattle.plan_model.specs.Network.{count}
-use Rattle.plan_model.specs.Order.{IsScanOrder, IsEarlier}
+use Rattle.run_laws.proofs.Common.{◌≡◌, ◌<◌, List, arith, All-contains, ConnectionId, NetworkModel, count, IsScanOrder, IsEarlier}
 use Rattle.plan_model.proofs.ScanOrders.{HasEachId, has_each_id}
 use Rattle.run_laws.proofs.Rising.{HasAll, one_rising}
 

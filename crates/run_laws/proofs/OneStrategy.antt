@@ -1,17 +1,7 @@
 -- The strategy that the rules keep, and its value, follow from the network and the query.
-use Rattle.std.proofs.Common.{◌≡◌, ◌≢◌, ℕ, List, Some, sym, ap, ap₂, ◌∙◌, inl, inr}
-use Rattle.std.proofs.lemmas.Bool.{cases_eq}
-use Rattle.interval_fixed.specs.Interval.{Interval}
-use Rattle.plan_model.specs.declared.model.ConnectionId.{ConnectionId}
-use Rattle.plan_model.specs.declared.model.Leg.{Leg}
-use Rattle.plan_model.specs.declared.model.Query.{Query}
-use Rattle.plan_model.specs.NetworkModel.{NetworkModel}
-use Rattle.plan_model.specs.Strategy.{IsSafeFor}
-use Rattle.plan_model.specs.Tree.{Tree, Done, Ride, Stuck}
-use Rattle.plan_model.specs.Unfold.{unfolding_of, by_place}
-use Rattle.value_laws.specs.Means.{mean_scoring, from_span, span_of}
+use Rattle.run_laws.proofs.Common.{◌≡◌, ◌≢◌, ℕ, List, Some, sym, ap, ap₂, ◌∙◌, inl, inr, cases_eq, Interval, ConnectionId, Leg, Query, NetworkModel, IsSafeFor, Tree, Done, Ride, Stuck}
+use Rattle.run_laws.proofs.Common.{unfolding_of, by_place, mean_scoring, from_span, span_of, Kept, IsByRules, kept_after, kept_leg}
 use Rattle.value_laws.specs.ScoreLaws.{Scoring}
-use Rattle.meat_scan.specs.Rules.{Kept, IsByRules, kept_after, kept_leg}
 use Rattle.decision_graph.specs.GraphValues.{IsBest}
 use Rattle.run_laws.proofs.OneOrder.{one_order}
 

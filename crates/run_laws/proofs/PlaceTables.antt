@@ -1,24 +1,12 @@
 -- A tidy graph by place follows from its tree.
-use Rattle.std.proofs.Common.{◌≡◌, ◌≢◌, ℕ, ◌<◌, ◌≤◌, List, [], ◌∷◌, length, Option, Some, None, MatchOption, All, AllPairs, Contains, arith, sym, subst, refl, inl, inr, ◌∙◌, ap, ap₂}
-use Rattle.std.proofs.lemmas.Bool.{cases_eq}
-use Rattle.std.proofs.lemmas.List.Elements.{All-nil, All-contains}
-use Rattle.plan_model.specs.declared.model.Leg.{Leg}
-use Rattle.plan_model.specs.declared.model.Query.{Query}
-use Rattle.plan_model.specs.NetworkModel.{NetworkModel}
-use Rattle.plan_model.specs.Tree.{Tree}
+use Rattle.run_laws.proofs.Common.{◌≡◌, ◌≢◌, ℕ, ◌<◌, ◌≤◌, List, [], ◌∷◌, length, Option, Some, None, MatchOption, All, AllPairs, Contains, arith, sym, subst, refl, inl, inr, ◌∙◌, ap, ap₂}
+use Rattle.run_laws.proofs.Common.{cases_eq, All-nil, All-contains, Leg, Query, NetworkModel, Tree, end_of, arrival_of, unfolding_of, by_place, GraphRow, PlanGraph, pick_row, pick_at}
+use Rattle.run_laws.proofs.Common.{rows_of_place, IsSafeForSome, unfold_plan, table_here, table_further, rows_of_place-by, one_found, first_pick, picked_there, Contains-nil, Contains-head}
+use Rattle.run_laws.proofs.Common.{Contains-tail, Contains-cons_cases, AllPairs-head, AllPairs-tail}
 use Rattle.plan_model.specs.Ways.{limit_of}
-use Rattle.plan_model.specs.Unfold.{end_of, arrival_of, unfolding_of, by_place}
-use Rattle.plan_graph.specs.declared.GraphRow.{GraphRow}
 use Rattle.plan_graph.specs.declared.PlaceTable.{PlaceTable}
-use Rattle.plan_graph.specs.declared.PlanGraph.{PlanGraph}
-use Rattle.plan_graph.specs.PickedRows.{pick_row, pick_at, rows_of_place}
-use Rattle.plan_graph.specs.Ready.{IsSafeForSome}
 use Rattle.plan_graph.specs.Tidy.{IsFitRow, IsFitTable, IsFitStart, IsPickedIn, IsTidy}
-use Rattle.plan_graph.specs.Unfold.{unfold_plan}
-use Rattle.plan_graph.proofs.Picked.{table_here, table_further, rows_of_place-by}
 use Rattle.plan_graph.specs.WalkTables.{row_by}
-use Rattle.plan_graph.proofs.Tables.{one_found, first_pick, picked_there}
-use Rattle.plan_model.proofs.Lists.{Contains-nil, Contains-head, Contains-tail, Contains-cons_cases, AllPairs-head, AllPairs-tail}
 use Rattle.run_laws.proofs.Rising.{HasAll, one_rising}
 use Rattle.run_laws.proofs.Agree.{start_same, agree_from}
 

@@ -1,17 +1,7 @@
 -- The graphs and the bounds of a query follow from the network and the query.
-use Rattle.std.proofs.Common.{◌≡◌, ◌≢◌, Option, Some, None, MatchOption, refl}
-use Rattle.interval_fixed.specs.Interval.{Interval}
-use Rattle.plan_model.specs.declared.model.Leg.{Leg}
-use Rattle.plan_model.specs.declared.model.Query.{Query}
-use Rattle.plan_model.specs.NetworkModel.{NetworkModel}
-use Rattle.plan_model.specs.Unfold.{by_place}
-use Rattle.plan_graph.specs.declared.ExpandedGraph.{ExpandedGraph}
-use Rattle.plan_graph.specs.declared.PlanGraph.{PlanGraph}
-use Rattle.plan_graph.specs.PickedRows.{pick_after, pick_at}
-use Rattle.plan_graph.specs.Unfold.{unfold_expanded, unfold_plan}
+use Rattle.run_laws.proofs.Common.{◌≡◌, ◌≢◌, Option, Some, None, MatchOption, refl, Interval, Leg, Query, NetworkModel, by_place, ExpandedGraph, PlanGraph, pick_after, pick_at, unfold_expanded}
+use Rattle.run_laws.proofs.Common.{unfold_plan, IsPlanned, HasEveryRow, IsOneStrategy}
 use Rattle.decision_graph.specs.Expanded.{IsExpanded}
-use Rattle.decision_graph.specs.Planned.{IsPlanned}
-use Rattle.run_laws.specs.Wholes.{HasEveryRow, IsOneStrategy}
 use Rattle.run_laws.proofs.Agree.{start_same}
 use Rattle.run_laws.proofs.OneStrategy.{IsTheMean, the_best, one_best}
 use Rattle.run_laws.proofs.RideTables.{one_reported}

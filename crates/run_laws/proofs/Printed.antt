@@ -1,27 +1,10 @@
 -- What `plan` prints is a graph file that is read, and whose graph is safe.
-use Rattle.std.proofs.Common.{◌≡◌, ℕ, ◌≤◌, false, refl, ap, sym, ◌∙◌, subst, arith, inl, inr, List, [], None, Some, Result, Ok, Err, length, nat_lt}
-use Rattle.std.proofs.lemmas.Bool.Decides.{nat_tests}
-use Rattle.file_ports.specs.Ports.{FileMap, file_at}
-use Rattle.csv_rows.specs.declared.limits.Limits.{Limits}
-use Rattle.interval_fixed.specs.Interval.{Interval}
-use Rattle.plan_model.specs.declared.model.Query.{Query}
-use Rattle.plan_model.specs.Strategy.{IsSafeFor}
-use Rattle.plan_graph.specs.declared.PlanGraph.{PlanGraph}
-use Rattle.plan_graph.specs.Unfold.{unfold_plan}
-use Rattle.graph_text.specs.declared.Head.{Head}
-use Rattle.graph_text.specs.Reading.{IsReadAs}
-use Rattle.journey_model.specs.declared.faults.Fault.{Fault}
-use Rattle.journey_model.specs.declared.problem.Problem.{Problem}
-use Rattle.journey_report.specs.Findings.{Findings}
-use Rattle.journey_problem.specs.GraphFiles.{graph_in, InGraphFile}
-use Rattle.journey_answers.specs.Scores.{IsEnclosed}
-use Rattle.journey_answers.specs.Answers.{InQuery, AnswersPlan, head_of}
+use Rattle.run_laws.proofs.Common.{◌≡◌, ℕ, ◌≤◌, false, refl, ap, sym, ◌∙◌, subst, arith, inl, inr, List, [], None, Some, Result, Ok, Err, length, nat_lt, nat_tests, FileMap, file_at, Limits}
+use Rattle.run_laws.proofs.Common.{Interval, Query, IsSafeFor, PlanGraph, unfold_plan, Head, IsReadAs, Fault, Problem, Findings, graph_in, InGraphFile, IsEnclosed, InQuery, AnswersPlan, head_of}
+use Rattle.run_laws.proofs.Common.{EndsByScore, EndsByGraphFile, trip_by, ReplayFault}
 use Rattle.journey_answers.proofs.Bounds.{bounds_of_graph}
-use Rattle.meat_engine.specs.Ends.{EndsByScore, EndsByGraphFile}
 use Rattle.run_laws.specs.Printed.{ArrivesByFile, KeepsUpperBound}
-use Rattle.journey_answers.specs.Trips.{trip_by}
 use Rattle.trip_replay.specs.declared.Trace.{Trace}
-use Rattle.trip_replay.specs.declared.ReplayFault.{ReplayFault}
 use Rattle.trip_replay.specs.declared.ReplayFault.TheVariants as stop
 use Rattle.trip_replay.specs.Walk.{walk, IsAnswer, IsSafeAnswer}
 use Rattle.trip_replay.specs.Late.{ArePossible, Arrives}

@@ -1,25 +1,14 @@
 -- A problem, a start, a percentage and a promise have one answer.
-use Rattle.std.proofs.Common.{◌≡◌, ℕ, List, ◌++◌, sym, ap, ap₂, ◌∙◌}
-use Rattle.interval_fixed.specs.Interval.{Interval}
-use Rattle.plan_model.specs.declared.model.Moment.{Moment}
-use Rattle.plan_model.specs.declared.model.Query.{Query}
-use Rattle.plan_model.specs.NetworkModel.{NetworkModel}
-use Rattle.plan_graph.specs.declared.PlanGraph.{PlanGraph}
-use Rattle.plan_graph.specs.Unfold.{unfold_plan}
+use Rattle.run_laws.proofs.Common.{◌≡◌, ℕ, List, ◌++◌, sym, ap, ap₂, ◌∙◌, Interval, Moment, Query, NetworkModel, PlanGraph, unfold_plan, plan_text, Problem, Findings, punctual_findings}
+use Rattle.run_laws.proofs.Common.{punctual_row, InQuery, head_of, IsOneAnswer}
 use Rattle.graph_score.specs.Spans.{span_of}
-use Rattle.graph_text.specs.GraphTexts.{plan_text}
 use Rattle.late_chance.specs.Chances.{chance_scoring}
 use Rattle.late_chance.specs.LaterGraphs.{later_graph}
 use Rattle.late_chance.specs.Punctual.{seen_for, asked_for, shift_for}
 use Rattle.decision_graph.specs.LeastChances.{IsLeastChance, IsSeenLater}
-use Rattle.journey_model.specs.declared.problem.Problem.{Problem}
-use Rattle.journey_report.specs.Findings.{Findings, punctual_findings}
-use Rattle.journey_report.specs.AnswerTexts.{punctual_row}
-use Rattle.journey_answers.specs.Answers.{InQuery, head_of}
 use Rattle.journey_answers.specs.Punctual.{AnswersPunctual}
 use Rattle.run_laws.proofs.OneStrategy.{IsThe, only_one}
 use Rattle.run_laws.proofs.PlaceTables.{one_tidy}
-use Rattle.run_laws.specs.OneAnswer.{IsOneAnswer}
 use Rattle.run_laws.proofs.Queries.{in_one_query}
 
 module _ (n : NetworkModel) (q : Query) where

@@ -1,12 +1,6 @@
 -- A problem, a start and a percentage have one query.
-use Rattle.std.proofs.Common.{◌≡◌, ℕ, None, Some, sym, subst, ap, ◌∙◌}
-use Rattle.plan_model.specs.declared.model.Moment.{Moment}
-use Rattle.plan_model.specs.declared.model.Query.{Query}
-use Rattle.plan_model.specs.Strategy.{IsLeastWorst, Reaches, deadline_of}
-use Rattle.plan_model.specs.Tree.{Tree, worst}
+use Rattle.run_laws.proofs.Common.{◌≡◌, ℕ, None, Some, sym, subst, ap, ◌∙◌, Moment, Query, IsLeastWorst, Reaches, deadline_of, Tree, worst, Problem, IsQueryOf, HasNoSafe}
 use Rattle.plan_model.proofs.Laws.{IsLeast-unique}
-use Rattle.journey_model.specs.declared.problem.Problem.{Problem}
-use Rattle.journey_answers.specs.Answers.{IsQueryOf, HasNoSafe}
 
 abbrev query_of : (source target start deadline : ℕ) → Query
 query_of source target start deadline = record { source = record { 0 = source }; target = record { 0 = target }; start = record { 0 = start }; deadline = record { 0 = deadline } }

@@ -1,25 +1,11 @@
 -- A whole graph by ride, with a row for each outcome, follows from its tree.
-use Rattle.std.proofs.Common.{◌≡◌, ◌≢◌, ℕ, List, [], ◌∷◌, map, Option, Some, None, MatchOption, All, AllPairs, Contains, arith, sym, subst, refl, inl, inr, ◌∙◌, ap, ap₂}
-use Rattle.std.proofs.lemmas.Bool.{cases_eq, ne_eqb, eq-eqb}
-use Rattle.std.proofs.lemmas.List.Elements.{All-head, All-contains}
-use Rattle.plan_model.specs.declared.model.Leg.{Leg}
-use Rattle.plan_model.specs.declared.model.Outcome.{Outcome}
-use Rattle.plan_model.specs.declared.model.Query.{Query}
-use Rattle.plan_model.specs.NetworkModel.{NetworkModel}
-use Rattle.plan_model.specs.Tree.{Tree, Done}
-use Rattle.plan_model.specs.Unfold.{end_of, arrival_of, outcomes_of, unfolding_of}
-use Rattle.plan_graph.specs.declared.GraphRow.{GraphRow}
+use Rattle.run_laws.proofs.Common.{◌≡◌, ◌≢◌, ℕ, List, [], ◌∷◌, map, Option, Some, None, MatchOption, All, AllPairs, Contains, arith, sym, subst, refl, inl, inr, ◌∙◌, ap, ap₂, cases_eq, ne_eqb}
+use Rattle.run_laws.proofs.Common.{eq-eqb, All-head, All-contains, Leg, Outcome, Query, NetworkModel, Tree, Done, end_of, arrival_of, outcomes_of, unfolding_of, GraphRow, ExpandedGraph, pick_row}
+use Rattle.run_laws.proofs.Common.{pick_after, Precedes, IsLegOf, IsReadyRide, Stands, unfold_expanded, pick_here, pick_further, one_found, Contains-nil, Contains-cons_cases, Contains-map}
+use Rattle.run_laws.proofs.Common.{Contains-from_map, AllPairs-head, AllPairs-tail, HasEveryRow}
 use Rattle.plan_graph.specs.declared.Ride.{Ride}
-use Rattle.plan_graph.specs.declared.ExpandedGraph.{ExpandedGraph}
-use Rattle.plan_graph.specs.PickedRows.{pick_row, pick_after, Precedes}
-use Rattle.plan_graph.specs.Ready.{IsLegOf, IsReadyRide, Stands}
-use Rattle.plan_graph.specs.Unfold.{unfold_expanded}
-use Rattle.plan_graph.proofs.Picked.{pick_here, pick_further}
-use Rattle.plan_graph.proofs.Tables.{one_found}
 use Rattle.plan_graph.proofs.Rides.{rows_after-own}
 use Rattle.leg_extract.specs.Extracted.{HasArrivals}
-use Rattle.plan_model.proofs.Lists.{Contains-nil, Contains-cons_cases, Contains-map, Contains-from_map, AllPairs-head, AllPairs-tail}
-use Rattle.run_laws.specs.Wholes.{HasEveryRow}
 use Rattle.run_laws.proofs.Rising.{HasAll, one_rising}
 use Rattle.run_laws.proofs.Agree.{start_same, agree_from}
 use Rattle.run_laws.proofs.PlaceTables.{Sooner, row_same}

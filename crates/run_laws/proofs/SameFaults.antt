@@ -1,22 +1,10 @@
 -- Files with the same bytes have the same faults.
-use Rattle.std.proofs.Common.{◌≡◌, ℕ, ap, sym, subst, ◌∙◌, List, Option, None, IsOk, inl, inr}
+use Rattle.run_laws.proofs.Common.{◌≡◌, ℕ, ap, sym, subst, ◌∙◌, List, Option, None, IsOk, inl, inr, FileMap, file_at, Limits, FeedFault, Table, path_of, unread_table, FeedParts, tables_in}
+use Rattle.run_laws.proofs.Common.{tables_from, IsFeedOf, calendars_in, calendars_from, calendar_from, dates_from, transfers_in, transfers_from, JourneyModel, Fault, unread_input, delay_fault}
+use Rattle.run_laws.proofs.Common.{GtfsFolder, IsFolderFault, IsLaterTableFault, IsFaultAfterFolder, IsFeedProblemFault, same_folder}
 use mathlib.Core.Path.{fun_ext}
-use Rattle.file_ports.specs.Ports.{FileMap, file_at}
-use Rattle.csv_rows.specs.declared.limits.Limits.{Limits}
-use Rattle.csv_rows.specs.declared.feed_tables.FeedFault.{FeedFault}
-use Rattle.csv_rows.specs.declared.feed_tables.Table.{Table}
 use Rattle.csv_rows.specs.declared.feed_tables.Table.TheVariants.{Calendar, CalendarDates, Transfers}
-use Rattle.csv_rows.specs.FeedTables.{path_of, unread_table}
 use Rattle.table_files.specs.Loading.{load_of}
-use Rattle.gtfs_tables.specs.Feeds.{FeedParts, tables_in, tables_from, IsFeedOf}
-use Rattle.service_days.specs.Calendars.{calendars_in, calendars_from, calendar_from, dates_from}
-use Rattle.change_times.specs.Changes.{transfers_in, transfers_from}
-use Rattle.command_line.specs.Jobs.{JourneyModel}
-use Rattle.journey_model.specs.declared.faults.Fault.{Fault}
-use Rattle.journey_model.specs.Faults.{unread_input}
-use Rattle.journey_problem.specs.InputTables.{delay_fault}
-use Rattle.journey_problem.specs.FeedProblems.{GtfsFolder, IsFolderFault, IsLaterTableFault, IsFaultAfterFolder, IsFeedProblemFault}
-use Rattle.journey_problem.proofs.SameFiles.{same_folder}
 
 module _ (limits : Limits) (files other : FileMap) (same : (path : List ℕ) → file_at files path ≡ file_at other path) where
   same_tables : (folder : List ℕ) (unread : Option Table) → tables_in files folder limits unread ≡ tables_in other folder limits unread

@@ -1,16 +1,7 @@
 -- A problem, a start and a percentage have one answer.
-use Rattle.std.proofs.Common.{ℕ, List, sym, ap₂, ◌∙◌}
-use Rattle.interval_fixed.specs.Interval.{Interval}
-use Rattle.plan_model.specs.declared.model.Moment.{Moment}
-use Rattle.plan_model.specs.declared.model.Query.{Query}
-use Rattle.plan_graph.specs.declared.ExpandedGraph.{ExpandedGraph}
-use Rattle.plan_graph.specs.declared.PlanGraph.{PlanGraph}
-use Rattle.graph_text.specs.GraphTexts.{expanded_text, plan_text}
-use Rattle.journey_model.specs.declared.problem.Problem.{Problem}
-use Rattle.journey_report.specs.Findings.{Findings, expand_findings, plan_findings}
-use Rattle.journey_answers.specs.Answers.{InQuery, AnswersSafe, AnswersExpand, AnswersPlan, head_of}
+use Rattle.run_laws.proofs.Common.{ℕ, List, sym, ap₂, ◌∙◌, Interval, Moment, Query, ExpandedGraph, PlanGraph, expanded_text, plan_text, Problem, Findings, expand_findings, plan_findings, InQuery}
+use Rattle.run_laws.proofs.Common.{AnswersSafe, AnswersExpand, AnswersPlan, head_of, IsOneAnswer}
 use Rattle.run_laws.proofs.Plans.{one_planned, one_expanded}
-use Rattle.run_laws.specs.OneAnswer.{IsOneAnswer}
 use Rattle.run_laws.proofs.Queries.{in_one_query}
 
 module _ (p : Problem) (found others : Findings) (text other : List ℕ) where

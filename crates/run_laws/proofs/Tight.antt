@@ -1,14 +1,8 @@
 -- A network and a query have one tight certificate.
-use Rattle.std.proofs.Common.{◌≡◌, ℕ, zero, suc, ◌+◌, ◌<◌, ◌≤◌, List, [], ◌∷◌, Option, Some, None, IsTrue, arith, sym, ◌∙◌, inl, inr, ext_get_or}
-use Rattle.std.proofs.lemmas.Bool.{cases_Bool, both_ways}
-use Rattle.plan_model.specs.declared.model.Outcome.{Outcome}
-use Rattle.plan_model.specs.declared.model.Query.{Query}
-use Rattle.plan_model.specs.NetworkModel.{NetworkModel}
-use Rattle.plan_model.specs.Network.{IsValid, count, connection, to_of, dep_of, arr_of, outcomes}
-use Rattle.plan_model.specs.Strategy.{IsLeg, IsBoardable}
+use Rattle.run_laws.proofs.Common.{◌≡◌, ℕ, zero, suc, ◌+◌, ◌<◌, ◌≤◌, List, [], ◌∷◌, Option, Some, None, IsTrue, arith, sym, ◌∙◌, inl, inr, ext_get_or, cases_Bool, both_ways, Outcome, Query}
+use Rattle.run_laws.proofs.Common.{NetworkModel, IsValid, count, connection, to_of, dep_of, arr_of, outcomes, IsLeg, IsBoardable, bound_of, Offers, IsLeastAt, AreLeast, IsVia, IsTight}
 use Rattle.plan_model.proofs.Boarding.{boards_later}
 use Rattle.plan_model.proofs.Bounds.{forward}
-use Rattle.lower_proof.specs.Certificates.{bound_of, Offers, IsLeastAt, AreLeast, IsVia, IsTight}
 use Rattle.lower_proof.proofs.Departures.{after, after_less, after_boards, after_le}
 use Rattle.lower_proof.proofs.Leasts.{least_same, IsLeastOf-unique}
 

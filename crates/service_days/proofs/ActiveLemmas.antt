@@ -1,19 +1,7 @@
 -- Services run on the days on which they are active.
-use Rattle.std.proofs.Common.{◌≡◌, ℕ, ℤ, ◌<◌, ◌≤◌, ◌&&◌, ◌||◌, not, true, false, List, length, Option, Some, None, refl, sym, ap, ◌∙◌, arith}
-use Rattle.std.proofs.lemmas.Option.{slice_get-get_or, slice_get_past}
-use Rattle.csv_rows.specs.declared.columns.Column.TheVariants.{ServiceId}
-use Rattle.csv_rows.specs.declared.feed_tables.Table.TheVariants.{Calendar}
-use Rattle.csv_rows.specs.First.{any_below}
-use Rattle.csv_rows.specs.Tables.{row_count, number_in, field}
-use Rattle.csv_rows.proofs.IdLemmas.{one_row, no_row, number-here}
-use Rattle.csv_rows.proofs.ListLemmas.{length-list_below, get-list_below}
-use Rattle.service_days.specs.declared.exceptions.Exception.{Exception}
-use Rattle.service_days.specs.Periods.{runs_in_period, period_of, service_ids, periods_of, runs_in_row}
-use Rattle.service_days.specs.Dates.{is_excepted}
-use Rattle.service_days.specs.Exceptions.{has_at}
-use Rattle.service_days.specs.Numbered.{AreNumbered}
-use Rattle.service_days.specs.Services.{runs_within, period_runs, runs_of_service}
-use Rattle.service_days.specs.Calendars.{is_active_service, AreDistinctRows}
+use Rattle.service_days.proofs.Common.{◌≡◌, ℕ, ℤ, ◌<◌, ◌≤◌, ◌&&◌, ◌||◌, not, true, false, List, length, Option, Some, None, refl, sym, ap, ◌∙◌, arith, slice_get-get_or, slice_get_past, ServiceId}
+use Rattle.service_days.proofs.Common.{Calendar, any_below, row_count, number_in, field, one_row, no_row, number-here, length-list_below, get-list_below, Exception, runs_in_period, period_of}
+use Rattle.service_days.proofs.Common.{service_ids, periods_of, runs_in_row, is_excepted, has_at, AreNumbered, runs_within, period_runs, runs_of_service, is_active_service, AreDistinctRows}
 
 -- the period of a service is that of its row
 runs_of : (t : List (List (List ℕ))) → AreDistinctRows t → (service : List ℕ) (day : ℤ) (o : Option ℕ) → number_in service (service_ids t) ≡ o

@@ -1,7 +1,5 @@
 -- The days that pass a test, one more at a time.
-use Rattle.std.proofs.Common.{◌≡◌, ℕ, ◌+◌, ℤ, pos, ◌+ℤ◌, Bool, true, false, List, [], ◌∷◌, ◌++◌, filter, refl, sym, ap, ◌∙◌, add-one, append-nil}
-use Rattle.std.proofs.lemmas.List.Elements.{filter-append}
-use Rattle.service_days.specs.Days.{days_from}
+use Rattle.service_days.proofs.Common.{◌≡◌, ℕ, ◌+◌, ℤ, pos, ◌+ℤ◌, Bool, true, false, List, [], ◌∷◌, ◌++◌, filter, refl, sym, ap, ◌∙◌, add-one, append-nil, filter-append, days_from}
 
 pub days_from-zero : (first : ℤ) → days_from first 0 ≡ []
 unfolding days_from

@@ -1,3 +1,4 @@
+mod Common
 mod ActiveLemmas
 mod DateLemmas
 mod DayLemmas

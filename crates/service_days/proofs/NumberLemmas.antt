@@ -1,21 +1,10 @@
 -- Exceptions by the numbers of their services, one more at a time.
-use Rattle.std.proofs.Common.{◌≡◌, ℕ, ℤ, ◌+◌, ◌≤◌, ◌&&◌, ◌||◌, Bool, true, false, List, [], length, Option, Some, None, if◌then◌else◌, refl, sym, ap, ◌∙◌}
-use Rattle.std.proofs.Common.{All, subst, arith, bytes_eq, add-one, length-append, int_eq, ne_eqb}
-use Rattle.std.proofs.lemmas.Bool.{cases_Bool}
+use Rattle.service_days.proofs.Common.{◌≡◌, ℕ, ℤ, ◌+◌, ◌≤◌, ◌&&◌, ◌||◌, Bool, true, false, List, [], length, Option, Some, None, if◌then◌else◌, refl, sym, ap, ◌∙◌, All, subst, arith, bytes_eq}
+use Rattle.service_days.proofs.Common.{add-one, length-append, int_eq, ne_eqb, cases_Bool, Adds, IsTrimmed, All-push, any_below, number_in, false_from_ne_true, or_from, none-some, number-push}
+use Rattle.service_days.proofs.Common.{number-same, number-here, Exception, is_for, is_excepted, date_of, same, has, has_at, AddsDate, AreNumbered}
 use mathlib.Core.Bool.{beq}
-use Rattle.plan_model.specs.NameLists.{Adds, IsTrimmed}
-use Rattle.std.proofs.lemmas.List.Elements.{All-push}
-use Rattle.csv_rows.specs.First.{any_below}
-use Rattle.csv_rows.specs.Tables.{number_in}
 use Rattle.std.proofs.lemmas.Slice.Eq.{bytes_eq-Decides}
-use Rattle.std.proofs.lemmas.Bool.{false_from_ne_true, or_from}
-use Rattle.std.proofs.lemmas.Option.{none-some}
 use Rattle.std.specs.Option.{option_or}
-use Rattle.csv_rows.proofs.IdLemmas.{number-push, number-same, number-here}
-use Rattle.service_days.specs.declared.exceptions.Exception.{Exception}
-use Rattle.service_days.specs.Dates.{is_for, is_excepted, date_of}
-use Rattle.service_days.specs.Exceptions.{same, has, has_at}
-use Rattle.service_days.specs.Numbered.{AddsDate, AreNumbered}
 
 asks_or : (asks : Option ℕ → Bool) (n : ℕ) (o : Option ℕ) (b : Bool) → asks None ≡ false → asks (Some n) ≡ false → asks (option_or o (if b then Some n else None)) ≡ asks o
 asks_or asks n (Some k) b h g = refl

@@ -1,14 +1,7 @@
 -- The rows of the calendar.
-use Rattle.std.proofs.Common.{◌≡◌, ℕ, ◌<◌, List, Some, None, sym, ap}
-use Rattle.csv_rows.specs.declared.columns.Column.TheVariants.{ServiceId}
-use Rattle.csv_rows.specs.First.{first_below}
-use Rattle.csv_rows.specs.Names.{name_in}
-use Rattle.csv_rows.specs.Tables.{row_count, field}
-use Rattle.csv_rows.proofs.FirstLemmas.{none-each}
-use Rattle.csv_rows.proofs.RowLemmas.{name_is}
+use Rattle.service_days.proofs.Common.{◌≡◌, ℕ, ◌<◌, List, Some, None, sym, ap, ServiceId, first_below, name_in, row_count, field, none-each, name_is, period_columns, period_in, period_at}
+use Rattle.service_days.proofs.Common.{bad_period, result_err-require}
 use Rattle.service_days.specs.declared.periods.PeriodColumns.{PeriodColumns}
-use Rattle.service_days.specs.Periods.{period_columns, period_in, period_at, bad_period}
-use Rattle.plan_model.proofs.Results.{result_err-require}
 
 -- the row by the indexes of the columns
 pub period_is : (t : List (List (List ℕ))) (c : PeriodColumns) (i : ℕ) → c ≡ period_columns t → period_at t i ≡ period_in t c i

@@ -1,22 +1,15 @@
 -- The calendars of a folder, by what was read of each table.
-use Rattle.std.proofs.Common.{◌≡◌, ◌≢◌, ℕ, ◌&&◌, Bool, true, false, List, Option, Some, None, Ok, Err, IfSome, IsOkAnd, if◌then◌else◌, refl, sym, ap, ap₂, ◌∙◌}
-use Rattle.std.proofs.Common.{subst, Result}
+use Rattle.service_days.proofs.Common.{◌≡◌, ◌≢◌, ℕ, ◌&&◌, Bool, true, false, List, Option, Some, None, Ok, Err, IfSome, IsOkAnd, if◌then◌else◌, refl, sym, ap, ap₂, ◌∙◌, subst, Result, FileMap}
+use Rattle.service_days.proofs.Common.{unread_table, IsFaultOf, load_in, loaded_rows, Exception, row_count, AreNumbered, ServiceParts, runs, service_ids, periods_of, Calendars, RunsBy, RunsBySome}
+use Rattle.service_days.proofs.Common.{both_of, has_no_record, fault_of_calendar, fault_of_dates, calendar_from, dates_from, calendars_from, calendars_in, AreDistinctRows, IsCalendar, AreDates}
+use Rattle.service_days.proofs.Common.{IsOfCalendar, AreOfDates}
 use Rattle.plan_model.specs.Results.{and_then}
-use Rattle.file_ports.specs.Ports.{FileMap}
 use Rattle.csv_rows.specs.declared.feed_tables.Table.TheVariants as table
 use Rattle.csv_rows.specs.declared.feed_tables.FeedFault.{FeedFault}
 use Rattle.csv_rows.specs.declared.feed_tables.FeedFault.TheVariants as fault
 use Rattle.table_files.specs.declared.loading.Loaded.{Loaded}
 use Rattle.csv_rows.specs.declared.limits.Limits.{Limits}
-use Rattle.csv_rows.specs.FeedTables.{unread_table, IsFaultOf}
-use Rattle.table_files.specs.Loading.{load_in, loaded_rows}
 use Rattle.service_days.specs.declared.periods.Period.{Period}
-use Rattle.service_days.specs.declared.exceptions.Exception.{Exception}
-use Rattle.csv_rows.specs.Tables.{row_count}
-use Rattle.service_days.specs.Numbered.{AreNumbered}
-use Rattle.service_days.specs.Services.{ServiceParts, runs}
-use Rattle.service_days.specs.Periods.{service_ids, periods_of}
-use Rattle.service_days.specs.Calendars.{Calendars, RunsBy, RunsBySome, both_of, has_no_record, fault_of_calendar, fault_of_dates, calendar_from, dates_from, calendars_from, calendars_in, AreDistinctRows, IsCalendar, AreDates, IsOfCalendar, AreOfDates}
 use Rattle.table_files.proofs.LoadLemmas.{load_in-other}
 use Rattle.service_days.proofs.ActiveLemmas.{runs_is}
 

@@ -1,8 +1,5 @@
 -- An insert as a walk along the rows.
-use Rattle.std.proofs.Common.{List, [], ◌∷◌, nat_lt, ◌==◌, if◌then◌else◌}
-use Rattle.value_laws.specs.ScoreLaws.{Scoring}
-use Rattle.stop_profile.specs.declared.Row.{Row}
-use Rattle.stop_profile.specs.Inserts.{lower_row}
+use Rattle.stop_profile.proofs.Common.{List, [], ◌∷◌, nat_lt, ◌==◌, if◌then◌else◌, Scoring, Row, lower_row}
 
 -- A row before the position is lowered to the new one where it is better, and else taken out, and the new row lowered to it.
 -- The first row from the position on keeps the new row out where that is not better.

@@ -1,13 +1,6 @@
 -- A look finds the best of all inserts.
-use Rattle.std.proofs.Common.{◌≡◌, ℕ, suc, ◌<◌, ◌≤◌, List, [], ◌∷◌, Option, Some, MatchOption, All, arith, subst, refl}
-use Rattle.std.specs.List.{AllByRecursion}
-use Rattle.std.proofs.lemmas.List.Elements.{All-cons}
-use Rattle.plan_model.specs.Tree.{Tree}
-use Rattle.value_laws.specs.ScoreLaws.{Scoring, ScoreLaws}
-use Rattle.stop_profile.specs.declared.Row.{Row}
-use Rattle.stop_profile.specs.Inserts.{rows_with_new, RowsRise, row_in_time, rows_after_inserts}
-use Rattle.stop_profile.specs.LookLaw.{Carries, IsBestRow, LookLaw}
-use Rattle.stop_profile.specs.LookStep.{none, same, holds, first, wins}
+use Rattle.stop_profile.proofs.Common.{◌≡◌, ℕ, suc, ◌<◌, ◌≤◌, List, [], ◌∷◌, Option, Some, MatchOption, All, arith, subst, refl, AllByRecursion, All-cons, Tree, Scoring, ScoreLaws, Row}
+use Rattle.stop_profile.proofs.Common.{rows_with_new, RowsRise, row_in_time, rows_after_inserts, Carries, IsBestRow, LookLaw, none, same, holds, first, wins}
 use Rattle.stop_profile.proofs.Looks.{carries_trans, picked_holds}
 use Rattle.stop_profile.proofs.Inserted.{rises-rows_with_new, gaps-rows_with_new, look_step}
 

@@ -1,13 +1,7 @@
 -- The rows with a new one are those that a walk along them gives.
-use Rattle.std.proofs.Common.{◌≡◌, ℕ, ◌<◌, ◌≤◌, Bool, true, false, cond, ltb, leb, List, [], ◌∷◌, map, Option, Some, None, arith, sym, refl, ap, ◌∙◌, filter}
-use Rattle.std.proofs.Common.{lt-ltb, le-ltb, le-leb}
-use Rattle.std.specs.List.{AllByRecursion}
-use Rattle.std.proofs.lemmas.Bool.{lt-leb}
-use Rattle.std.proofs.lemmas.Bool.Decides.{nat_tests}
-use Rattle.value_laws.specs.ScoreLaws.{Scoring, ScoreLaws}
-use Rattle.stop_profile.specs.declared.Row.{Row}
-use Rattle.stop_profile.specs.Inserts.{rows_with_new, rows_with_new_by, better_before, others_before, rows_behind, lower_row, RowsRise, row_in_time}
-use Rattle.stop_profile.specs.LookStep.{LookStep}
+use Rattle.stop_profile.proofs.Common.{◌≡◌, ℕ, ◌<◌, ◌≤◌, Bool, true, false, cond, ltb, leb, List, [], ◌∷◌, map, Option, Some, None, arith, sym, refl, ap, ◌∙◌, filter, lt-ltb, le-ltb, le-leb}
+use Rattle.stop_profile.proofs.Common.{AllByRecursion, lt-leb, nat_tests, Scoring, ScoreLaws, Row, rows_with_new, rows_with_new_by, better_before, others_before, rows_behind, lower_row, RowsRise}
+use Rattle.stop_profile.proofs.Common.{row_in_time, LookStep}
 use Rattle.stop_profile.proofs.Along.{inserted_along}
 use Rattle.stop_profile.proofs.InsertCases.{kept, taken, replaced, placed, dropped, insert_case}
 use Rattle.stop_profile.proofs.Rising.{IsAfter, AllAfter, All-inserted_along, rises-inserted_along}

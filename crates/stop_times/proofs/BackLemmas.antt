@@ -1,19 +1,8 @@
 -- The fault of a kept row beside the kept row before it in its trip, by the keys.
-use Rattle.std.proofs.Common.{arith, ◌≡◌, ℕ, ◌+◌, ◌<◌, nat_lt, Bool, true, false, ◌&&◌, ◌||◌, List, length, Option, Some, None, option_map, if◌then◌else◌, refl}
-use Rattle.std.proofs.Common.{ap, ◌∙◌}
-use Rattle.std.proofs.lemmas.Grind.{common_steps}
-use Rattle.std.proofs.lemmas.Bool.{cases_Bool}
-use Rattle.csv_rows.specs.declared.feed_tables.Table.TheVariants.{StopTimes}
-use Rattle.csv_rows.specs.declared.feed_tables.FeedFault.{FeedFault}
-use Rattle.csv_rows.specs.declared.feed_tables.FeedFault.TheVariants.{DuplicateKey, BackwardTime}
-use Rattle.csv_rows.specs.declared.keys.Key.{Key}
-use Rattle.csv_rows.specs.First.{first_below, any_below}
-use Rattle.csv_rows.specs.Keys.{key_at, AreSorted, IsBefore, has_twin, twin_at}
-use Rattle.csv_rows.proofs.FirstLemmas.{first-is, first-reported}
-use Rattle.csv_rows.proofs.KeyLemmas.{AreApart, no_twins, asked_before}
-use Rattle.stop_times.specs.declared.rows.TimedRow.{TimedRow}
-use Rattle.stop_times.specs.StopTimes.{trip_of, sequence_of, is_kept, stop_arrival, departure_of, just_before, goes_back, repeated_time, backward_time}
-use Rattle.stop_times.specs.StopTimeKeys.{AreKeysOf, is_taken, goes_back_after, backward_after}
+use Rattle.stop_times.proofs.Common.{arith, ◌≡◌, ℕ, ◌+◌, ◌<◌, nat_lt, Bool, true, false, ◌&&◌, ◌||◌, List, length, Option, Some, None, option_map, if◌then◌else◌, refl, ap, ◌∙◌, common_steps}
+use Rattle.stop_times.proofs.Common.{cases_Bool, StopTimes, FeedFault, DuplicateKey, BackwardTime, Key, first_below, any_below, key_at, AreSorted, IsBefore, has_twin, twin_at, first-is}
+use Rattle.stop_times.proofs.Common.{first-reported, AreApart, no_twins, asked_before, TimedRow, trip_of, sequence_of, is_kept, stop_arrival, departure_of, just_before, goes_back, repeated_time}
+use Rattle.stop_times.proofs.Common.{backward_time, AreKeysOf, is_taken, goes_back_after, backward_after}
 
 pub apart : (rows : List TimedRow) → first_below (repeated_time rows) (length rows) ≡ None → AreApart (trip_of rows) (sequence_of rows) (length rows)
 unfolding repeated_time

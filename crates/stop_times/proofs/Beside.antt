@@ -1,18 +1,8 @@
 -- Two kept rows of a trip that are beside each other: the first departs no later than the second arrives.
-use Rattle.std.proofs.Common.{◌≡◌, ℕ, zero, suc, ◌+◌, ◌<◌, ◌≤◌, ◌==◌, nat_lt, Bool, true, false, ◌&&◌, List, length, slice_index_or, Some, None, if◌then◌else◌}
-use Rattle.std.proofs.Common.{sym, ap, ◌∙◌, arith, ⊎_elim, is_some, eqb-true, eq-eqb, ltb-true, ltb-false}
-use Rattle.std.proofs.lemmas.Bool.Decides.{nat_tests}
-use Rattle.std.proofs.lemmas.Grind.{common_steps}
-use Rattle.std.proofs.lemmas.Bool.{cases_lt, cases_Bool, and_from, and_parts, or_parts, not_from_false}
-use Rattle.csv_rows.specs.declared.feed_tables.FeedFault.{FeedFault}
-use Rattle.csv_rows.specs.declared.feed_tables.FeedFault.TheVariants.{BackwardTime}
-use Rattle.csv_rows.specs.First.{first_below, any_below}
-use Rattle.csv_rows.proofs.FirstLemmas.{any-true, any-false, none-each}
-use Rattle.csv_rows.specs.Keys.{precedes}
-use Rattle.stop_times.specs.declared.rows.StopRow.{StopRow}
-use Rattle.stop_times.specs.declared.rows.TimedRow.{TimedRow}
-use Rattle.stop_times.specs.StopTimes.{row_at, trip_of, sequence_of, is_kept, times_in, stop_arrival, departure_of, just_before, goes_back, backward_time}
-use Rattle.stop_times.specs.Visits.{no_visit, AreStopTimes}
+use Rattle.stop_times.proofs.Common.{◌≡◌, ℕ, zero, suc, ◌+◌, ◌<◌, ◌≤◌, ◌==◌, nat_lt, Bool, true, false, ◌&&◌, List, length, slice_index_or, Some, None, if◌then◌else◌, sym, ap, ◌∙◌, arith, ⊎_elim}
+use Rattle.stop_times.proofs.Common.{is_some, eqb-true, eq-eqb, ltb-true, ltb-false, nat_tests, common_steps, cases_lt, cases_Bool, and_from, and_parts, or_parts, not_from_false, FeedFault}
+use Rattle.stop_times.proofs.Common.{BackwardTime, first_below, any_below, any-true, any-false, none-each, precedes, StopRow, TimedRow, row_at, trip_of, sequence_of, is_kept, times_in}
+use Rattle.stop_times.proofs.Common.{stop_arrival, departure_of, just_before, goes_back, backward_time, no_visit, AreStopTimes}
 
 and_false : (a b : Bool) → a ≡ true → (a && b) ≡ false → b ≡ false
 and_false a b h k = grind (arith, cases_Bool a)

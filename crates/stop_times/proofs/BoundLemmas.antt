@@ -1,10 +1,6 @@
 -- The rows of a trip between its bounds.
-use Rattle.std.proofs.Common.{rules, ◌≡◌, ℕ, ◌+◌, ◌-◌, ◌<◌, ◌≤◌, List, [], length, slice_index, slice_index_or, slice_range, ap, arith}
-use Rattle.std.proofs.lemmas.Grind.{common_steps}
-use Rattle.std.proofs.lemmas.List.{get_or_default}
-use Rattle.csv_rows.proofs.ListLemmas.{length-list_below, get-list_below}
-use Rattle.stop_times.specs.declared.rows.StopRow.{StopRow}
-use Rattle.stop_times.specs.Bounded.{IsBounded, rows_between, parted}
+use Rattle.stop_times.proofs.Common.{rules, ◌≡◌, ℕ, ◌+◌, ◌-◌, ◌<◌, ◌≤◌, List, [], length, slice_index, slice_index_or, slice_range, ap, arith, common_steps, get_or_default, length-list_below}
+use Rattle.stop_times.proofs.Common.{get-list_below, StopRow, IsBounded, rows_between, parted}
 
 module _ (visits : List StopRow) (bounds : List ℕ) (now : List (List StopRow)) (is : parted visits bounds ≡ now) (trip : ℕ) (h : trip < length now) where
   -- a trip has a bound after its own

@@ -1,15 +1,8 @@
 -- The keys of the kept rows, by those of all rows.
-use Rattle.std.proofs.Common.{◌≡◌, ℕ, ◌<◌, zero, suc, Bool, true, false, cond, List, [], ◌∷◌, length, get_or, Contains, refl, ap, subst, ◌∙◌, arith, All}
-use Rattle.std.proofs.Common.{AllPairs, filter}
-use Rattle.std.proofs.lemmas.Bool.{cases_Bool}
-use Rattle.std.proofs.lemmas.List.{get_or_default}
+use Rattle.stop_times.proofs.Common.{◌≡◌, ℕ, ◌<◌, zero, suc, Bool, true, false, cond, List, [], ◌∷◌, length, get_or, Contains, refl, ap, subst, ◌∙◌, arith, All, AllPairs, filter, cases_Bool}
+use Rattle.stop_times.proofs.Common.{get_or_default, Key, no_key, key_at, IsAtMost, TimedRow, trip_of, sequence_of, is_kept, AreKeysOf}
 use Rattle.std.proofs.lemmas.List.Elements.{All-filter, filter_passes}
 use Rattle.std.proofs.lemmas.List.Kept.{AllPairs-filter}
-use Rattle.csv_rows.specs.declared.keys.Key.{Key}
-use Rattle.csv_rows.specs.Keys.{no_key, key_at, IsAtMost}
-use Rattle.stop_times.specs.declared.rows.TimedRow.{TimedRow}
-use Rattle.stop_times.specs.StopTimes.{trip_of, sequence_of, is_kept}
-use Rattle.stop_times.specs.StopTimeKeys.{AreKeysOf}
 
 all_of : (P : Key → Type 0) (keys : List Key) → ((k : ℕ) → k < length keys → P (key_at keys k)) → All P keys
 all_of P keys each = λ k d h. subst P (get_or_default keys k no_key d h) (each k h)

@@ -1,15 +1,8 @@
 -- What holds of the kept rows of a trip, where the table has no fault.
-use Rattle.std.proofs.Common.{◌≡◌, ℕ, ◌+◌, ◌-◌, ◌<◌, ◌≤◌, List, length, slice_index_or, Option, Some, None, IfSome, refl, subst, arith, ⊎_elim}
-use Rattle.std.proofs.lemmas.Grind.{common_steps}
-use Rattle.std.proofs.lemmas.Bool.{cases_lt}
+use Rattle.stop_times.proofs.Common.{◌≡◌, ℕ, ◌+◌, ◌-◌, ◌<◌, ◌≤◌, List, length, slice_index_or, Option, Some, None, IfSome, refl, subst, arith, ⊎_elim, common_steps, cases_lt, first_below}
+use Rattle.stop_times.proofs.Common.{row_count, none-each, none-both, get-list_below, StopRow, timed_rows, row_at, time_columns, missing_time_column, bad_time, repeated_time, backward_time}
+use Rattle.stop_times.proofs.Common.{order_fault, stop_times_fault, no_visit, AreStopTimes}
 use Rattle.plan_model.specs.Bounds.{end_of_steps}
-use Rattle.csv_rows.specs.First.{first_below}
-use Rattle.csv_rows.specs.Tables.{row_count}
-use Rattle.csv_rows.proofs.FirstLemmas.{none-each, none-both}
-use Rattle.csv_rows.proofs.ListLemmas.{get-list_below}
-use Rattle.stop_times.specs.declared.rows.StopRow.{StopRow}
-use Rattle.stop_times.specs.StopTimes.{timed_rows, row_at, time_columns, missing_time_column, bad_time, repeated_time, backward_time, order_fault, stop_times_fault}
-use Rattle.stop_times.specs.Visits.{no_visit, AreStopTimes}
 use Rattle.stop_times.proofs.TimeLemmas.{timed_count}
 use Rattle.stop_times.proofs.RowForms.{IsAtStop, InForm, row_in_form}
 use Rattle.stop_times.proofs.Beside.{forward, onward, rises}

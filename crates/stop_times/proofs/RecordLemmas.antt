@@ -1,15 +1,11 @@
 -- The records that remain are the first one and those after it.
-use Rattle.std.proofs.Common.{Bor, ◌≡◌, ℕ, zero, suc, ◌+◌, ◌<◌, List, [], ◌∷◌, map, length, slice_index_or, Option, Some, None, true, false, refl, sym, ap, ◌∙◌, inl, arith}
-use Rattle.std.proofs.lemmas.Grind.{common_steps}
-use Rattle.csv.specs.Records.{field_at}
+use Rattle.stop_times.proofs.Common.{Bor, ◌≡◌, ℕ, zero, suc, ◌+◌, ◌<◌, List, [], ◌∷◌, map, length, slice_index_or, Option, Some, None, true, false, refl, sym, ap, ◌∙◌, inl, arith, common_steps}
+use Rattle.stop_times.proofs.Common.{field_at, ReadRecord, Reached, default_config, reader_state, records_from, records_next, took_first, trimmed_text, source, records_after, IsReading}
 use Rattle.csv.specs.Machine.{Read, next_record, ends_at_end}
-use Rattle.csv.specs.Reading.{ReadRecord, Reached, default_config, reader_state, records_from, records_next, took_first}
 use Rattle.csv.specs.declared.parser.State.{State}
 use Rattle.csv.specs.declared.reader.Reader.{Reader}
 use Rattle.csv.proofs.ReadFacts.{rows-end, rows-more}
 use Rattle.csv_rows.proofs.ReachedRecords.{takes}
-use Rattle.csv_rows.specs.Spaces.{trimmed_text}
-use Rattle.stop_times.specs.RecordsRemaining.{source, records_after, IsReading}
 
 one_turn : (n : ℕ) (s : State) (xs : List ℕ) → records_from default_config (suc n) s xs ≡ records_next (records_from default_config n) (next_record default_config s [] [] xs)
 unfolding records_from

@@ -1,16 +1,7 @@
 -- Rows that rise by trip and sequence.
-use Rattle.std.proofs.Common.{◌≡◌, ℕ, ◌+◌, ◌-◌, ◌<◌, ◌&&◌, ◌==◌, Bool, false, List, length, Some, None, inl, inr, arith, ap, sym, subst, ◌∙◌, if◌then◌else◌, eqb-true}
-use Rattle.std.proofs.lemmas.Bool.{cases_lt, and_parts}
-use Rattle.csv_rows.specs.declared.feed_tables.Table.TheVariants.{StopTimes}
-use Rattle.csv_rows.specs.declared.feed_tables.FeedFault.TheVariants.{DuplicateKey}
-use Rattle.csv_rows.specs.declared.keys.Key.{Key}
-use Rattle.csv_rows.specs.First.{first_below}
-use Rattle.csv_rows.specs.Keys.{IsRising, has_twin, key_at, no_key}
-use Rattle.csv_rows.proofs.FirstLemmas.{any-false, first-none}
-use Rattle.csv_rows.proofs.SortLemmas.{AreKeys, IsOwn, key_of}
-use Rattle.stop_times.specs.declared.rows.TimedRow.{TimedRow}
-use Rattle.stop_times.specs.StopTimes.{row_at, trip_of, sequence_of, repeated_time}
-use Rattle.stop_times.specs.StopTimeKeys.{is_taken, IsRowBefore, AreRowsRising}
+use Rattle.stop_times.proofs.Common.{◌≡◌, ℕ, ◌+◌, ◌-◌, ◌<◌, ◌&&◌, ◌==◌, Bool, false, List, length, Some, None, inl, inr, arith, ap, sym, subst, ◌∙◌, if◌then◌else◌, eqb-true, cases_lt, and_parts}
+use Rattle.stop_times.proofs.Common.{StopTimes, DuplicateKey, Key, first_below, IsRising, has_twin, key_at, no_key, any-false, first-none, AreKeys, IsOwn, key_of, TimedRow, row_at, trip_of}
+use Rattle.stop_times.proofs.Common.{sequence_of, repeated_time, is_taken, IsRowBefore, AreRowsRising}
 
 before_on : (a b c : TimedRow) → IsRowBefore a b → IsRowBefore b c → IsRowBefore a c
 before_on a b c (inl low) (inl next) = inl (omega arith)

@@ -1,30 +1,17 @@
 -- What follows from the form of a row of stop times.
-use Rattle.std.proofs.Common.{rules, ◌≡◌, ℕ, ◌+◌, ◌<◌, ◌≤◌, ◌-◌, ◌==◌, nat_eq, nat_le, ◌&&◌, Bool, List, [], length, take, drop, slice_index, slice_index_or}
-use Rattle.std.proofs.Common.{Option, Some, None, IfSome, refl, subst, arith, Result, Ok, Err}
-use Rattle.std.proofs.lemmas.Grind.{common_steps}
-use Rattle.std.proofs.lemmas.Bool.Decides.{nat_tests}
+use Rattle.stop_times.proofs.Common.{rules, ◌≡◌, ℕ, ◌+◌, ◌<◌, ◌≤◌, ◌-◌, ◌==◌, nat_eq, nat_le, ◌&&◌, Bool, List, [], length, take, drop, slice_index, slice_index_or, Option, Some, None, IfSome}
+use Rattle.stop_times.proofs.Common.{refl, subst, arith, Result, Ok, Err, common_steps, nat_tests, and_parts, result_err, value_or, TripId, StopId, StopSequence, ArrivalTime, DepartureTime}
+use Rattle.stop_times.proofs.Common.{PickupType, DropOffType, StopTimes, FeedFault, BadField, UnknownKey, number_in, StopRow, TimedRow, time_columns, stop_number_in, times_of, visit_of}
+use Rattle.stop_times.proofs.Common.{timed_from, timed_at, no_row, optional-each, number_inside, end_of_times}
 use Rattle.std.specs.List.{list_all}
 use Rattle.std.specs.Char.{is_ascii_digit}
-use Rattle.std.proofs.lemmas.Bool.{and_parts}
-use Rattle.std.specs.Result.{result_err}
-use Rattle.plan_model.specs.Results.{value_or}
 use Rattle.clock_text.specs.Digits.{whole_of}
 use Rattle.clock_text.specs.Times.{time_at, time_of, seconds_of_time}
 use Rattle.clock_text.proofs.OneText.{if_cases, some_cases}
-use Rattle.csv_rows.specs.declared.columns.Column.TheVariants.{TripId, StopId, StopSequence, ArrivalTime, DepartureTime, PickupType, DropOffType}
-use Rattle.csv_rows.specs.declared.feed_tables.Table.TheVariants.{StopTimes}
-use Rattle.csv_rows.specs.declared.feed_tables.FeedFault.{FeedFault}
-use Rattle.csv_rows.specs.declared.feed_tables.FeedFault.TheVariants.{BadField, UnknownKey}
 use Rattle.csv_rows.specs.Names.{name_in, text_in}
 use Rattle.csv_rows.specs.Records.{field_of}
-use Rattle.csv_rows.specs.Tables.{number_in}
-use Rattle.stop_times.specs.declared.rows.StopRow.{StopRow}
-use Rattle.stop_times.specs.declared.rows.TimedRow.{TimedRow}
 use Rattle.stop_times.specs.StopTimeForms.{allows_in, time_in}
-use Rattle.stop_times.specs.StopTimes.{time_columns, stop_number_in, times_of, visit_of, timed_from, timed_at, no_row}
 use Rattle.clock_text.proofs.DigitLemmas.{whole_bound}
-use Rattle.csv_rows.proofs.RowLemmas.{optional-each, number_inside}
-use Rattle.stop_times.specs.StopTimeBounds.{end_of_times}
 use Rattle.plan_model.proofs.Results.{require-each}
 
 -- a kept row is at the place of a stop, at times of at most 167 hours

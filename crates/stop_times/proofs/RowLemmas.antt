@@ -1,10 +1,8 @@
 -- The stop that a field names.
-use Rattle.std.proofs.Common.{arith, ◌≡◌, ℕ, ◌==◌, false, List, length, Some, IsUtf8, slice_get}
-use Rattle.std.proofs.lemmas.Grind.{common_steps}
+use Rattle.stop_times.proofs.Common.{arith, ◌≡◌, ℕ, ◌==◌, false, List, length, Some, IsUtf8, slice_get, common_steps, IsStopOf}
 use Rattle.plan_model.specs.NameLists.{IsNameList}
 use Rattle.csv_rows.proofs.IdLemmas.{found}
 use Rattle.csv_rows.proofs.NameLemmas.{text_some}
-use Rattle.stop_times.specs.StopTimes.{IsStopOf}
 
 -- the stop that a field names, where it is the id with this number
 pub stop_here : (stops : List (List ℕ)) (id : List ℕ) (stop : ℕ) → IsNameList stops → false ≡ (length id == 0) → IsUtf8 id → slice_get stops stop ≡ Some id

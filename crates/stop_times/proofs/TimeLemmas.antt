@@ -1,27 +1,11 @@
 -- The rows of stop times.
-use Rattle.std.proofs.Common.{rules, ◌≡◌, ◌≢◌, ℕ, ◌+◌, ◌<◌, ◌≤◌, nat_lt, Bool, true, false, List, [], length, slice_index_or, Option, Some, None, if◌then◌else◌}
-use Rattle.std.proofs.Common.{refl, sym, ap, ◌∙◌, subst, arith, Result, Ok, Err}
-use Rattle.std.proofs.lemmas.Grind.{common_steps}
-use Rattle.std.proofs.lemmas.Bool.{cases_Bool}
-use Rattle.std.proofs.lemmas.Bool.Decides.{nat_tests}
-use Rattle.plan_model.specs.Results.{and_then, unless, value_or}
-use Rattle.csv_rows.specs.declared.columns.Column.TheVariants.{TripId}
-use Rattle.csv_rows.specs.declared.feed_tables.FeedFault.{FeedFault}
-use Rattle.csv_rows.specs.declared.feed_tables.FeedFault.TheVariants.{TooManyRows, NoMemory}
-use Rattle.csv_rows.specs.declared.feed_tables.Table.TheVariants.{StopTimes}
+use Rattle.stop_times.proofs.Common.{rules, ◌≡◌, ◌≢◌, ℕ, ◌+◌, ◌<◌, ◌≤◌, nat_lt, Bool, true, false, List, [], length, slice_index_or, Option, Some, None, if◌then◌else◌, refl, sym, ap, ◌∙◌, subst}
+use Rattle.stop_times.proofs.Common.{arith, Result, Ok, Err, common_steps, cases_Bool, nat_tests, and_then, unless, value_or, TripId, FeedFault, TooManyRows, NoMemory, StopTimes, loaded_from}
+use Rattle.stop_times.proofs.Common.{row_count, TimedRow, first_below, StopRow, stop_times_from, AreVisits, AreStopTimes, time_columns, timed_of, timed_in, timed_at, bad_time, timed_rows, no_row}
+use Rattle.stop_times.proofs.Common.{counted_fault, missing_time_column, order_fault, stop_times_fault, length-list_below, or_first, or_then}
 use Rattle.table_files.specs.declared.loading.Loaded.TheVariants.{NoRecord, Found}
-use Rattle.table_files.specs.Loading.{loaded_from}
-use Rattle.csv_rows.specs.Tables.{row_count}
 use Rattle.stop_times.specs.declared.rows.TimeColumns.{TimeColumns}
-use Rattle.stop_times.specs.declared.rows.TimedRow.{TimedRow}
-use Rattle.csv_rows.specs.First.{first_below}
-use Rattle.stop_times.specs.declared.rows.StopRow.{StopRow}
 use Rattle.table_files.specs.Required.{Records, required}
-use Rattle.stop_times.specs.Timetables.{stop_times_from, AreVisits}
-use Rattle.stop_times.specs.Visits.{AreStopTimes}
-use Rattle.stop_times.specs.StopTimes.{time_columns, timed_of, timed_in, timed_at, bad_time, timed_rows, no_row, counted_fault, missing_time_column, order_fault, stop_times_fault}
-use Rattle.csv_rows.proofs.ListLemmas.{length-list_below}
-use Rattle.csv_rows.proofs.RowLemmas.{or_first, or_then}
 
 -- the row by the indexes of its columns
 pub timed_is : (trips stops : List (List ℕ)) (places : List ℕ) (t : List (List (List ℕ))) (c : TimeColumns) (i : ℕ) (r : Result TimedRow FeedFault)

@@ -1,21 +1,8 @@
 -- The kept rows of a trip, by the keys that are of it.
-use Rattle.std.proofs.Common.{rules, ◌≡◌, ℕ, ◌+◌, ◌-◌, ◌<◌, ◌≤◌, true, List, [], ◌∷◌, ◌++◌, length, drop, slice_range, slice_index, slice_index_or, Option}
-use Rattle.std.proofs.Common.{Some, None, refl, sym, ap, ◌∙◌, subst, arith, ⊎_elim, is_some, get_or-take, get_or-drop, length-take-le, length-drop}
-use Rattle.std.proofs.lemmas.Grind.{common_steps}
-use Rattle.std.proofs.lemmas.Bool.{cases_lt}
-use Rattle.std.proofs.lemmas.List.{get_or_append_left, get_or_push}
-use Rattle.csv_rows.specs.First.{first_below}
-use Rattle.stop_times.specs.declared.rows.StopRow.{StopRow}
-use Rattle.stop_times.specs.declared.rows.TimedRow.{TimedRow}
-use Rattle.csv_rows.specs.declared.keys.Key.{Key}
-use Rattle.csv_rows.specs.Keys.{key_at, IsRising}
-use Rattle.csv_rows.specs.Lists.{list_below}
-use Rattle.stop_times.specs.StopTimes.{row_at, trip_of, sequence_of, repeated_time}
-use Rattle.stop_times.specs.Bounded.{IsBounded, rows_between, parted}
-use Rattle.stop_times.specs.StopTimeKeys.{AreKeysOf, is_taken}
-use Rattle.stop_times.specs.Visits.{no_visit, visit_or_none, visit_at, IsVisit, AreStopTimes, IsSpanOf}
-use Rattle.csv_rows.proofs.KeyLemmas.{less_group, rises}
-use Rattle.csv_rows.proofs.ListLemmas.{length-list_below, get-list_below}
+use Rattle.stop_times.proofs.Common.{rules, ◌≡◌, ℕ, ◌+◌, ◌-◌, ◌<◌, ◌≤◌, true, List, [], ◌∷◌, ◌++◌, length, drop, slice_range, slice_index, slice_index_or, Option, Some, None, refl, sym, ap, ◌∙◌}
+use Rattle.stop_times.proofs.Common.{subst, arith, ⊎_elim, is_some, get_or-take, get_or-drop, length-take-le, length-drop, common_steps, cases_lt, get_or_append_left, get_or_push, first_below}
+use Rattle.stop_times.proofs.Common.{StopRow, TimedRow, Key, key_at, IsRising, list_below, row_at, trip_of, sequence_of, repeated_time, IsBounded, rows_between, parted, AreKeysOf, is_taken}
+use Rattle.stop_times.proofs.Common.{no_visit, visit_or_none, visit_at, IsVisit, AreStopTimes, IsSpanOf, less_group, rises, length-list_below, get-list_below}
 use Rattle.stop_times.proofs.BackLemmas.{apart}
 
 some_is : (o : Option StopRow) → is_some o ≡ true → o ≡ Some (visit_or_none o)

@@ -13,8 +13,8 @@ use meat_engine::{Fault, run};
 use memory_ports::{MemoryFiles, MemorySink};
 use plan_model::List;
 pub use scenes::{
-    CALENDAR, CALENDAR_DATES, CHECK, CUT, DELAYS, FREQUENCIES, GRAPH, PLAN, CERTIFICATE, REPLAY, ROUTES,
-    SAFE, SMALL_PLAN, STOP_TIMES, STOPS, Scene, SceneFile, TRANSFERS, TRIPS,
+    CALENDAR, CALENDAR_DATES, CERTIFICATE, CHECK, CUT, DELAYS, FREQUENCIES, GRAPH, PLAN, REPLAY,
+    ROUTES, SAFE, SMALL_PLAN, STOP_TIMES, STOPS, Scene, SceneFile, TRANSFERS, TRIPS,
 };
 use std::alloc::Global;
 use std::test::Fail;

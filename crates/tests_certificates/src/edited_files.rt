@@ -104,7 +104,16 @@ fn each_field_of_a_graph_is_looked_at(rt: HostRuntime) -> Result<(), Fail> {
 #[test]
 fn each_field_of_a_certificate_is_looked_at(rt: HostRuntime) -> Result<(), Fail> {
     for (at, fields) in [(0, 7), (1, 4), (2, 4), (3, 4)] {
-        are_looked_at(&rt, rt.alloc(), CHECK, CERTIFICATE, at, fields, 14, "proof file")?;
+        are_looked_at(
+            &rt,
+            rt.alloc(),
+            CHECK,
+            CERTIFICATE,
+            at,
+            fields,
+            14,
+            "proof file",
+        )?;
     }
     Ok(())
 }

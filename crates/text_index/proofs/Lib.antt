@@ -1,2 +1,3 @@
+mod Common
 pub mod KeyLemmas
 pub mod Numbers

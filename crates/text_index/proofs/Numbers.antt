@@ -1,12 +1,10 @@
 -- The number of a name.
-use Rattle.std.proofs.Common.{◌≡◌, ℕ, zero, suc, ◌+◌, ◌<◌, Bool, true, false, List, [], ◌∷◌, length, Contains, IsUtf8, Option, Some, None, arith, sym, refl}
-use Rattle.std.proofs.Common.{◌∙◌, ap, slice_get, slice_index_or, IfSome, IfNone, if◌then◌else◌, bytes_eq}
+use Rattle.text_index.proofs.Common.{◌≡◌, ℕ, zero, suc, ◌+◌, ◌<◌, Bool, true, false, List, [], ◌∷◌, length, Contains, IsUtf8, Option, Some, None, arith, sym, refl, ◌∙◌, ap, slice_get}
+use Rattle.text_index.proofs.Common.{slice_index_or, IfSome, IfNone, if◌then◌else◌, bytes_eq, get_or_default, AreDistinct}
 use Rattle.std.specs.List.{position_from}
 use Rattle.std.specs.Str.{is_utf8}
 use Rattle.std.specs.Cmp.Lexicographic.{bytes_decides}
 use Rattle.std.proofs.lemmas.Str.{IsUtf8-from_is_utf8, is_utf8-from_IsUtf8}
-use Rattle.std.proofs.lemmas.List.{get_or_default}
-use Rattle.plan_model.specs.NameLists.{AreDistinct}
 use Rattle.text_index.specs.Numbers.{number_of}
 
 -- the first index where a test holds

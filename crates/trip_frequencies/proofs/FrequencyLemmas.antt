@@ -1,17 +1,9 @@
 -- The rows of frequencies.
-use Rattle.std.proofs.Common.{◌≡◌, ℕ, ◌+◌, true, List, length, Option, option_map, sym, ap, ◌∙◌}
-use Rattle.plan_model.specs.Results.{value_or}
-use Rattle.csv_rows.specs.declared.feed_tables.FeedFault.TheVariants.{DuplicateKey}
-use Rattle.csv_rows.specs.declared.feed_tables.Table.TheVariants.{Frequencies}
-use Rattle.csv_rows.specs.declared.keys.Key.{Key}
-use Rattle.csv_rows.specs.First.{first_below}
-use Rattle.csv_rows.specs.Keys.{AreSorted, has_twin, twin_at}
+use Rattle.trip_frequencies.proofs.Common.{◌≡◌, ℕ, ◌+◌, true, List, length, Option, option_map, sym, ap, ◌∙◌, value_or, DuplicateKey, Frequencies, Key, first_below, AreSorted, has_twin, twin_at}
+use Rattle.trip_frequencies.proofs.Common.{first-reported, length-list_below, TripFrequency, frequency_columns, frequency_in, frequency_at, frequency_rows, no_frequency, trip_of_row, start_of_row}
+use Rattle.trip_frequencies.proofs.Common.{repeated_start}
 use Rattle.csv_rows.specs.Tables.{row_count}
-use Rattle.csv_rows.proofs.FirstLemmas.{first-reported}
-use Rattle.csv_rows.proofs.ListLemmas.{length-list_below}
 use Rattle.trip_frequencies.specs.declared.frequencies.FrequencyColumns.{FrequencyColumns}
-use Rattle.trip_frequencies.specs.declared.frequencies.TripFrequency.{TripFrequency}
-use Rattle.trip_frequencies.specs.Frequencies.{frequency_columns, frequency_in, frequency_at, frequency_rows, no_frequency, trip_of_row, start_of_row, repeated_start}
 
 -- the row by the indexes of the columns
 pub frequency_is : (trips : List (List ℕ)) (t : List (List (List ℕ))) (c : FrequencyColumns) (i : ℕ) → c ≡ frequency_columns t → frequency_at trips t i ≡ frequency_in trips t c i

@@ -1,2 +1,3 @@
+mod Common
 pub mod FrequencyLemmas
 pub mod RepeatLemmas

@@ -1,15 +1,12 @@
 -- The rows of a trip among rows by trip.
-use Rattle.std.proofs.Common.{◌≡◌, ℕ, zero, suc, ◌-◌, ◌<◌, ◌≤◌, ◌==◌, Bool, true, false, not, ◌&&◌, cond, List, [], ◌∷◌, map, length, take, drop, slice_range}
-use Rattle.std.proofs.Common.{if◌then◌else◌, leb, ltb, leb-true, leb-false, ltb-true, ltb-false, nat_cmp, is_lt, refl, sym, ap, ◌∙◌, arith, eq-eqb, ne_eqb}
+use Rattle.trip_frequencies.proofs.Common.{◌≡◌, ℕ, zero, suc, ◌-◌, ◌<◌, ◌≤◌, ◌==◌, Bool, true, false, not, ◌&&◌, cond, List, [], ◌∷◌, map, length, take, drop, slice_range, if◌then◌else◌, leb, ltb}
+use Rattle.trip_frequencies.proofs.Common.{leb-true, leb-false, ltb-true, ltb-false, nat_cmp, is_lt, refl, sym, ap, ◌∙◌, arith, eq-eqb, ne_eqb, ties, IsStableByKey, IsPartitionPoint}
+use Rattle.trip_frequencies.proofs.Common.{IsNonDecreasing, IsNonDecreasingBy, list_below, TripFrequency, no_frequency, repeats_of, all_repeats_of}
 use Rattle.std.proofs.lemmas.Bool.{cases_lt}
 use Rattle.std.proofs.lemmas.Bool.Decides.{nat_tests}
 use Rattle.std.proofs.lemmas.List.{get_or-map, length-map}
 use Rattle.std.proofs.lemmas.List.Elements.{filter_agree}
-use Rattle.std.specs.List.Sorted.{ties, IsStableByKey, IsPartitionPoint, IsNonDecreasing, IsNonDecreasingBy}
-use Rattle.csv_rows.specs.Lists.{list_below}
 use Rattle.trip_frequencies.specs.declared.frequencies.FrequencyRow.{FrequencyRow}
-use Rattle.trip_frequencies.specs.declared.frequencies.TripFrequency.{TripFrequency}
-use Rattle.trip_frequencies.specs.Frequencies.{no_frequency, repeats_of, all_repeats_of}
 use Rattle.trip_frequencies.specs.Repeats.{IsTripSpan, repeats_in, all_repeats_in}
 
 taken : (b : Bool) (x : TripFrequency) (rows : List FrequencyRow) (xs : List TripFrequency) → rows ≡ map (λ (r : TripFrequency). r.row) xs

@@ -1,17 +1,7 @@
 -- Whatever delays come, who does what a safe tree says arrives.
-use Rattle.std.proofs.Common.{◌≡◌, ℕ, ◌+◌, ◌≤◌, List, [], ◌∷◌, ◌++◌, true, Some, Ok, All, arith, inl, inr, refl, eq-eqb, ne_eqb}
-use Rattle.std.proofs.lemmas.Bool.{cases_eq}
-use Rattle.std.proofs.lemmas.List.Elements.{All-nil, All-push}
-use Rattle.plan_model.specs.declared.model.Outcome.{Outcome}
-use Rattle.plan_model.specs.declared.model.Query.{Query}
-use Rattle.plan_model.specs.NetworkModel.{NetworkModel}
-use Rattle.plan_model.specs.Network.{arr_of, to_of, outcomes}
-use Rattle.plan_model.specs.Tree.{Tree, Done, Ride, Stuck, Kids, Nil, Kid}
-use Rattle.plan_model.specs.Strategy.{IsSafe, AreSafe, IsSafeFor}
-use Rattle.trip_replay.specs.declared.Ridden.{Ridden}
-use Rattle.trip_replay.specs.declared.Trace.{Trace}
-use Rattle.trip_replay.specs.Positions.{has_delay}
-use Rattle.trip_replay.specs.Walk.{ride_with_delay, walk, walk_child, trace_of}
+use Rattle.trip_replay.proofs.Common.{◌≡◌, ℕ, ◌+◌, ◌≤◌, List, [], ◌∷◌, ◌++◌, true, Some, Ok, All, arith, inl, inr, refl, eq-eqb, ne_eqb, cases_eq, All-nil, All-push, Outcome, Query, NetworkModel}
+use Rattle.trip_replay.proofs.Common.{arr_of, to_of, outcomes, Tree, Done, Ride, Stuck, Kids, Nil, Kid, IsSafe, AreSafe, IsSafeFor, Ridden, Trace, has_delay, ride_with_delay, walk, walk_child}
+use Rattle.trip_replay.proofs.Common.{trace_of}
 use Rattle.trip_replay.specs.Late.{ArePossible, IsLateBy, Arrives}
 
 module _ (n : NetworkModel) (target deadline : ℕ) (late : ℕ → ℕ) (possible : ArePossible n late) where

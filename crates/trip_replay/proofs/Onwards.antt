@@ -1,28 +1,15 @@
 -- A traveller whose rides are no later than by some delay of their classes arrives by the rows of a graph that is tidy and safe.
-use Rattle.std.proofs.Common.{◌≡◌, ◌≢◌, ℕ, zero, suc, ◌+◌, ◌-◌, ◌<◌, ◌≤◌, List, [], ◌∷◌, Option, Some, None, All, AllPairs, Contains, arith, sym, subst}
-use Rattle.std.proofs.Common.{refl, inl, inr, ◌∙◌, ap, eq-eqb, ne_eqb, MatchOption}
-use Rattle.std.proofs.lemmas.Bool.{cases_eq, cases_lt}
-use Rattle.std.proofs.lemmas.List.Elements.{All-nil, All-contains}
-use Rattle.plan_model.specs.declared.model.Leg.{Leg}
-use Rattle.plan_model.specs.declared.model.Outcome.{Outcome}
-use Rattle.plan_model.specs.declared.model.Query.{Query}
-use Rattle.plan_model.specs.NetworkModel.{NetworkModel}
-use Rattle.plan_model.specs.Network.{IsValid, count, dep_of, arr_of}
-use Rattle.plan_model.specs.Tree.{Tree, Done}
-use Rattle.plan_model.specs.Strategy.{IsBoardable, IsSafe, AreSafe, IsSafeFor}
-use Rattle.plan_model.specs.Unfold.{end_of, arrival_of, outcomes_of, kids_after, ride_of, ride_or_stuck, unfold_after, unfolding_of, by_place}
+use Rattle.trip_replay.proofs.Common.{◌≡◌, ◌≢◌, ℕ, zero, suc, ◌+◌, ◌-◌, ◌<◌, ◌≤◌, List, [], ◌∷◌, Option, Some, None, All, AllPairs, Contains, arith, sym, subst, refl, inl, inr, ◌∙◌, ap, eq-eqb}
+use Rattle.trip_replay.proofs.Common.{ne_eqb, MatchOption, cases_eq, cases_lt, All-nil, All-contains, Leg, Outcome, Query, NetworkModel, IsValid, count, dep_of, arr_of, Tree, Done, IsBoardable}
+use Rattle.trip_replay.proofs.Common.{IsSafe, AreSafe, IsSafeFor, end_of, arrival_of, outcomes_of, kids_after, ride_of, ride_or_stuck, unfold_after, unfolding_of, by_place, PlaceTable, pick_row}
+use Rattle.trip_replay.proofs.Common.{pick_at, rows_of_place, IsLegOf, Stands, StandsIn, IsFitRow, IsFitTable, IsFitStart, IsPickedIn, IsTidy, unfold_plan, pick_here, pick_further, row_of_pick}
+use Rattle.trip_replay.proofs.Common.{rows_of_place-by, table_here, table_further}
 use Rattle.plan_model.proofs.Boarding.{boards_later, limit_of-some}
 use Rattle.plan_model.proofs.Bounds.{forward}
 use Rattle.plan_model.proofs.Lists.{All-from_contains, Contains-nil, Contains-cons_cases, AllPairs-head, AllPairs-tail}
 use Rattle.plan_graph.specs.declared.GraphRow.{GraphRow}
-use Rattle.plan_graph.specs.declared.PlaceTable.{PlaceTable}
 use Rattle.plan_graph.specs.declared.PlanGraph.{PlanGraph}
-use Rattle.plan_graph.specs.PickedRows.{pick_row, pick_at, rows_of_place}
 use Rattle.plan_graph.specs.Placed.{StandsSafely, children_of}
-use Rattle.plan_graph.specs.Ready.{IsLegOf, Stands, StandsIn}
-use Rattle.plan_graph.specs.Tidy.{IsFitRow, IsFitTable, IsFitStart, IsPickedIn, IsTidy}
-use Rattle.plan_graph.specs.Unfold.{unfold_plan}
-use Rattle.plan_graph.proofs.Picked.{pick_here, pick_further, row_of_pick, rows_of_place-by, table_here, table_further}
 use Rattle.plan_graph.proofs.Places.{next_after, safe_child}
 use Rattle.plan_graph.proofs.Tables.{first_pick, one_found}
 use Rattle.trip_replay.specs.Onward.{AreUpTo, late_end, LeadsInTime, ArrivesByRows}
@@ -140,9 +127,9 @@ module _ (n : NetworkModel) (v : IsValid n) (q : Query) (tables : List PlaceTabl
         let away : end_of n leg ≢ q.target.0 = λ e. idle.0 (sym idle.1.2 ∙ e) in
         let t = next_after n q.target.0 (Some q.deadline.0) choice whole leg (placed leg idle.1.1) away o idle.1.3.1 in
         let picks : choice leg x ≡ Some row.leg =
-            ap (λ (p : ℕ). pick_row (rows_of_place tables p) x) idle.1.2
-            ∙ ap (λ (rows : List GraphRow). pick_row rows x) (own_rows tables rising table has)
-            ∙ first_pick table.rows x row idle.1.3.2 in
+        ap (λ (p : ℕ). pick_row (rows_of_place tables p) x) idle.1.2
+        ∙ ap (λ (rows : List GraphRow). pick_row rows x) (own_rows tables rising table has)
+        ∙ first_pick table.rows x row idle.1.3.2 in
         (fits, subst IsPlaced (one_found (choice leg x) t.next row.leg t.is_chosen picks) t.placed)
 
     good_rows : (place : ℕ) → All (IsGood place) (rows_of_place tables place)
@@ -190,7 +177,7 @@ pub arrives_by_rows : (n : NetworkModel) (q : Query) (graph : PlanGraph) (late :
     → AreUpTo n late → ArrivesByRows n q graph late
 arrives_by_rows n q graph late v tidy safe up_to leg starts =
     let begins : IsFitStart n q leg =
-        subst (λ (s : Option Leg). MatchOption s ((q.source.0 ≡ q.target.0) × (graph.tables ≡ [])) (IsFitStart n q)) starts tidy.fit.starts in
+    subst (λ (s : Option Leg). MatchOption s ((q.source.0 ≡ q.target.0) × (graph.tables ≡ [])) (IsFitStart n q)) starts tidy.fit.starts in
     let differ = begins.differ in
     let safe_by = subst (λ (s : Option Leg). IsSafeFor n q (unfolding_of n q (by_place n (pick_at graph.tables)) s)) starts safe in
     let picked = subst (λ (s : Option Leg).

@@ -1,29 +1,11 @@
 -- The rides so far with one more, and the walk down the tree of a graph.
-use Rattle.std.proofs.Common.{◌≡◌, ℕ, ◌+◌, List, [], ◌∷◌, ◌++◌, Some, None, Bool, true, false, refl, ◌≢◌, ◌-◌, ◌<◌, length, drop, Option, Ok, Err, Result, All}
-use Rattle.std.proofs.Common.{arith, sym, subst, inl, inr, ◌∙◌, ap, if◌then◌else◌, ◌==◌, slice_index_or, IfSome, eq-eqb, ne_eqb}
-use Rattle.plan_model.specs.declared.model.Leg.{Leg}
-use Rattle.plan_model.specs.NetworkModel.{NetworkModel}
-use Rattle.plan_model.specs.Network.{arr_of, to_of, outcomes}
-use Rattle.plan_model.specs.Unfold.{outcomes_of, kids_after, unfold_after}
-use Rattle.plan_graph.specs.Ready.{IsLegOf}
-use Rattle.trip_replay.specs.declared.Ridden.{Ridden}
-use Rattle.trip_replay.specs.Positions.{has_delay, delayed_arrival, tree_at}
-use Rattle.trip_replay.specs.Rides.{IsRidden, arrival_after, place_after}
-use Rattle.std.proofs.lemmas.Bool.{cases_eq}
-use Rattle.std.proofs.lemmas.List.{drop_more}
-use Rattle.plan_model.specs.declared.model.Outcome.{Outcome}
-use Rattle.plan_model.specs.declared.model.Query.{Query}
-use Rattle.plan_model.specs.Tree.{Tree, Done, Ride, Stuck, Kids, Nil, Kid}
-use Rattle.plan_model.specs.Strategy.{IsSafe, AreSafe, IsSafeFor}
-use Rattle.plan_graph.specs.declared.PlaceTable.{PlaceTable}
-use Rattle.plan_graph.specs.PickedRows.{pick_at}
-use Rattle.plan_graph.specs.Tidy.{IsFitTable}
-use Rattle.plan_graph.proofs.Picked.{picked_leg}
-use Rattle.trip_replay.specs.declared.Trace.{Trace}
+use Rattle.trip_replay.proofs.Common.{◌≡◌, ℕ, ◌+◌, List, [], ◌∷◌, ◌++◌, Some, None, Bool, true, false, refl, ◌≢◌, ◌-◌, ◌<◌, length, drop, Option, Ok, Err, Result, All, arith, sym, subst, inl, inr}
+use Rattle.trip_replay.proofs.Common.{◌∙◌, ap, if◌then◌else◌, ◌==◌, slice_index_or, IfSome, eq-eqb, ne_eqb, Leg, NetworkModel, arr_of, to_of, outcomes, outcomes_of, kids_after, unfold_after}
+use Rattle.trip_replay.proofs.Common.{IsLegOf, Ridden, has_delay, delayed_arrival, tree_at, IsRidden, arrival_after, place_after, cases_eq, drop_more, Outcome, Query, Tree, Done, Ride, Stuck}
+use Rattle.trip_replay.proofs.Common.{Kids, Nil, Kid, IsSafe, AreSafe, IsSafeFor, PlaceTable, pick_at, IsFitTable, picked_leg, Trace, ride_with_delay, walk, walk_child, IsAnswer, IsSafeAnswer}
 use Rattle.trip_replay.specs.declared.Position.{Position}
 use Rattle.trip_replay.specs.declared.ReplayFault.{ReplayFault}
 use Rattle.trip_replay.specs.declared.ReplayFault.TheVariants as fault
-use Rattle.trip_replay.specs.Walk.{ride_with_delay, walk, walk_child, IsAnswer, IsSafeAnswer}
 
 pub delay_some : (n : NetworkModel) (leg : Leg) (delay x : ℕ) (test : Bool) → has_delay (outcomes_of n leg) delay ≡ test
     → (if test then Some (arr_of n leg.exit.0 + delay) else None) ≡ Some x → (has_delay (outcomes_of n leg) delay ≡ true) × (arr_of n leg.exit.0 + delay ≡ x)

@@ -1,4 +1,4 @@
-use Rattle.std.proofs.Common.{refl, arith}
+use Rattle.departure_table.proofs.Common.{refl, arith}
 use Rattle.departure_table.proofs.greatest.Goals as goal
 
 pub loop-row-preserved : goal.loop-row-preserved

@@ -1,7 +1,4 @@
-use Rattle.std.proofs.Common.{◌≡◌, ◌≤◌, ◌+◌, ◌-◌, MatchOption}
-use Rattle.plan_model.specs.Bounds.{end_of_arrivals}
-use Rattle.plan_model.specs.Tree.{Tree}
-use Rattle.departure_table.specs.Departures.{SafeAfter}
+use Rattle.departure_table.proofs.Common.{◌≡◌, ◌≤◌, ◌+◌, ◌-◌, MatchOption, end_of_arrivals, Tree, SafeAfter}
 use Rattle.departure_table.proofs.greatest.Given as goal
 
 abbrev pub invariant-loop-row : goal.invariant-loop-row

@@ -1,13 +1,7 @@
-use Rattle.std.proofs.Common.{◌-◌, ◌∙◌, Some, sym, ap, refl, arith}
+use Rattle.departure_table.proofs.Common.{◌-◌, ◌∙◌, Some, sym, ap, refl, arith, Moment, Connection, Leg, MeanSpan, DepartureRow, row_of_choice}
 use Rattle.std.specs.Option.{option_map}
 use Rattle.interval_fixed.specs.Interval.{Interval}
-use Rattle.plan_model.specs.declared.model.Moment.{Moment}
 use Rattle.std.proofs.lemmas.Option.{MatchOption-at_some, MatchOption-at_none}
-use Rattle.plan_model.specs.declared.model.Connection.{Connection}
-use Rattle.plan_model.specs.declared.model.Leg.{Leg}
-use Rattle.value_laws.specs.declared.MeanSpan.{MeanSpan}
-use Rattle.departure_table.specs.declared.DepartureRow.{DepartureRow}
-use Rattle.departure_table.specs.Looked.{row_of_choice}
 use Rattle.departure_table.proofs.Looks.{none_ahead, looks_ahead}
 use Rattle.departure_table.proofs.row_from.Goals as goal
 

@@ -1,6 +1,4 @@
-use Rattle.std.proofs.Common.{◌++◌, List, [], ◌∷◌, append-nil, append_assoc, sym, ap, subst, inl, inr, ◌∙◌}
-use Rattle.departure_table.specs.declared.DepartureRow.{DepartureRow}
-use Rattle.departure_table.specs.Looked.{row_found, AreLooked}
+use Rattle.departure_table.proofs.Common.{◌++◌, List, [], ◌∷◌, append-nil, append_assoc, sym, ap, subst, inl, inr, ◌∙◌, DepartureRow, row_found, AreLooked}
 use Rattle.departure_table.proofs.Growth.{grown, ends_after, ends_with_none}
 use Rattle.departure_table.proofs.table.Goals as goal
 

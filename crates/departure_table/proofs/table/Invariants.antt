@@ -1,7 +1,4 @@
-use Rattle.std.proofs.Common.{◌+◌, ◌-◌, ◌++◌, List}
-use Rattle.departure_table.specs.declared.DepartureRow.{DepartureRow}
-use Rattle.departure_table.specs.Departures.{SafeAfter}
-use Rattle.departure_table.specs.Looked.{row_found, AreLooked}
+use Rattle.departure_table.proofs.Common.{◌+◌, ◌-◌, ◌++◌, List, DepartureRow, SafeAfter, row_found, AreLooked}
 use Rattle.departure_table.proofs.Growth.{IsTableTo}
 use Rattle.departure_table.proofs.table.Given as goal
 

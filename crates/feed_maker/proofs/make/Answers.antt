@@ -1,7 +1,4 @@
-use Rattle.std.proofs.Common.{◌∙◌, codes}
-use Rattle.file_ports.specs.Steady.{folder_of}
-use Rattle.feed_maker.specs.MadeTables.{stop_times_text}
-use Rattle.feed_maker.specs.Made.{other_files}
+use Rattle.feed_maker.proofs.Common.{◌∙◌, codes, folder_of, stop_times_text, other_files}
 use Rattle.feed_maker.proofs.FolderLemmas.{folder_more, stop_times_first}
 use Rattle.feed_maker.proofs.make.Goals as goal
 

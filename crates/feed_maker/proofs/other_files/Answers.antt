@@ -1,8 +1,4 @@
-use Rattle.std.proofs.Common.{[], ◌∷◌, ◌∙◌, codes}
-use Rattle.file_ports.specs.Ports.{FileMap}
-use Rattle.file_ports.specs.Steady.{folder_of}
-use Rattle.feed_maker.specs.MadeTables.{stops_text, routes_text, trips_text, calendar_text, delays_text}
-use Rattle.feed_maker.specs.Made.{other_files}
+use Rattle.feed_maker.proofs.Common.{[], ◌∷◌, ◌∙◌, codes, FileMap, folder_of, stops_text, routes_text, trips_text, calendar_text, delays_text, other_files}
 use Rattle.feed_maker.proofs.FolderLemmas.{folder_none, folder_more}
 use Rattle.feed_maker.proofs.other_files.Goals as goal
 

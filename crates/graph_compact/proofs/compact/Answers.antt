@@ -1,6 +1,4 @@
-use Rattle.std.proofs.Common.{◌∙◌}
-use Rattle.std.proofs.lemmas.List.{length-map}
-use Rattle.graph_compact.specs.RowsByPlace.{lists_of}
+use Rattle.graph_compact.proofs.Common.{◌∙◌, length-map, lists_of}
 use Rattle.graph_compact.proofs.Trees.{unfolds, tidy}
 use Rattle.graph_compact.proofs.compact.Goals as goal
 

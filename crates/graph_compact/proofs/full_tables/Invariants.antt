@@ -1,5 +1,4 @@
-use Rattle.std.proofs.Common.{◌≡◌, ◌++◌, drop}
-use Rattle.graph_compact.specs.RowsByPlace.{lists_of, tables_of}
+use Rattle.graph_compact.proofs.Common.{◌≡◌, ◌++◌, drop, lists_of, tables_of}
 use Rattle.graph_compact.proofs.full_tables.Given as goal
 
 -- the tables so far, and those of the places that remain

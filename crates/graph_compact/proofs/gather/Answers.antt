@@ -1,12 +1,6 @@
-use Rattle.std.proofs.Common.{◌≡◌, ◌∙◌, sym, ap, subst, ℕ, ◌<◌, List, length, [], arith, slice_index_or, BTreeSet}
-use Rattle.std.proofs.lemmas.Grind.{common_steps}
-use Rattle.std.proofs.lemmas.List.{get_or-map}
+use Rattle.graph_compact.proofs.Common.{◌≡◌, ◌∙◌, sym, ap, subst, ℕ, ◌<◌, List, length, [], arith, slice_index_or, BTreeSet, common_steps, get_or-map, end_of, IsLegOf, Ride, GraphRow, put_rows}
+use Rattle.graph_compact.proofs.Common.{rows_in}
 use Rattle.plan_model.specs.declared.model.Connection.{Connection}
-use Rattle.plan_model.specs.Unfold.{end_of}
-use Rattle.plan_graph.specs.Ready.{IsLegOf}
-use Rattle.plan_graph.specs.declared.Ride.{Ride}
-use Rattle.plan_graph.specs.declared.GraphRow.{GraphRow}
-use Rattle.graph_compact.specs.RowsByPlace.{put_rows, rows_in}
 use Rattle.graph_compact.proofs.Lists.{gather_step}
 use Rattle.graph_compact.proofs.gather.Goals as goal
 

@@ -1,6 +1,4 @@
-use Rattle.std.proofs.Common.{◌+◌, ◌∙◌, ap, sym, drop}
-use Rattle.std.proofs.lemmas.List.{at_drop_more}
-use Rattle.graph_compact.specs.RowsByPlace.{put_rows}
+use Rattle.graph_compact.proofs.Common.{◌+◌, ◌∙◌, ap, sym, drop, at_drop_more, put_rows}
 use Rattle.graph_compact.proofs.put_all.Goals as goal
 
 pub loop-row-preserved : goal.loop-row-preserved

@@ -1,5 +1,4 @@
-use Rattle.std.proofs.Common.{◌≡◌, drop}
-use Rattle.graph_compact.specs.RowsByPlace.{put_rows}
+use Rattle.graph_compact.proofs.Common.{◌≡◌, drop, put_rows}
 use Rattle.graph_compact.proofs.put_all.Given as goal
 
 -- the rows that remain are to be put

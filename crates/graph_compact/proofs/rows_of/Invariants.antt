@@ -1,4 +1,4 @@
-use Rattle.std.proofs.Common.{◌≡◌, ◌++◌}
+use Rattle.graph_compact.proofs.Common.{◌≡◌, ◌++◌}
 use Rattle.graph_compact.proofs.rows_of.Given as goal
 
 -- the rows so far, and those that remain

@@ -1,5 +1,4 @@
-use Rattle.std.proofs.Common.{◌≡◌, ◌++◌, drop, map}
-use Rattle.graph_prune.specs.Limits.{ride_by_limits}
+use Rattle.graph_prune.proofs.Common.{◌≡◌, ◌++◌, drop, map, ride_by_limits}
 use Rattle.graph_prune.proofs.rides_by_limits.Given as goal
 
 -- the rides so far, and those that remain

@@ -1,9 +1,5 @@
-use Rattle.std.proofs.Common.{◌≡◌, ℕ, ◌<◌, ◌+◌, List, Option, length, get_or, ◌++◌, ◌∙◌, ap, sym, drop, append-nil, option_map}
+use Rattle.graph_prune.proofs.Common.{◌≡◌, ℕ, ◌<◌, ◌+◌, List, Option, length, get_or, ◌++◌, ◌∙◌, ap, sym, drop, append-nil, option_map, NetworkModel, limit_of, GraphRow, by_limits, with_limit}
 use Rattle.std.proofs.lemmas.List.{drop_more, drop_all}
-use Rattle.plan_model.specs.NetworkModel.{NetworkModel}
-use Rattle.plan_model.specs.Ways.{limit_of}
-use Rattle.plan_graph.specs.declared.GraphRow.{GraphRow}
-use Rattle.graph_prune.specs.Limits.{by_limits, with_limit}
 use Rattle.graph_prune.proofs.rows_by_limits.Goals as goal
 
 -- one row more

@@ -1,5 +1,4 @@
-use Rattle.std.proofs.Common.{◌≡◌, ◌++◌, drop, None, option_map}
-use Rattle.graph_prune.specs.Limits.{by_limits}
+use Rattle.graph_prune.proofs.Common.{◌≡◌, ◌++◌, drop, None, option_map, by_limits}
 use Rattle.graph_prune.proofs.rows_by_limits.Given as goal
 
 -- the rows so far, and those of the rows that remain

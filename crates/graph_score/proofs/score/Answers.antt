@@ -1,7 +1,4 @@
-use Rattle.std.proofs.Common.{◌∙◌, All, subst}
-use Rattle.graph_score.specs.Legs.{IsFitLeg}
-use Rattle.plan_graph.specs.Unfold.{unfold_plan}
-use Rattle.graph_score.specs.Scores.{IsScoreOf}
+use Rattle.graph_score.proofs.Common.{◌∙◌, All, subst, IsFitLeg, unfold_plan, IsScoreOf}
 use Rattle.graph_score.proofs.score.Goals as goal
 
 pub returns-in-Safe : goal.returns-in-Safe

@@ -1,4 +1,4 @@
-use Rattle.csv_rows.specs.Tables.{table_of}
+use Rattle.graph_text.proofs.Common.{table_of}
 use Rattle.graph_text.proofs.Faults.{records_fail, records_back}
 use Rattle.graph_text.proofs.read_fault_is_by_rows.Goals as goal
 

@@ -1,8 +1,5 @@
-use Rattle.std.proofs.Common.{◌≡◌, ◌<◌, ◌≤◌, ◌^◌, ℕ, Vec, subst, sym, Global}
+use Rattle.graph_text.proofs.Common.{◌≡◌, ◌<◌, ◌≤◌, ◌^◌, ℕ, Vec, subst, sym, Global, IsFit, plan_text, IsReadAs}
 use Rattle.std.proofs.lemmas.Result.{IfOk-weaker}
-use Rattle.plan_graph.specs.Tidy.{IsFit}
-use Rattle.graph_text.specs.GraphTexts.{plan_text}
-use Rattle.graph_text.specs.Reading.{IsReadAs}
 use Rattle.graph_text.proofs.ReadBack.{reads_back}
 use Rattle.graph_text.proofs.write.Goals as goal
 

@@ -1,7 +1,4 @@
-use Rattle.std.proofs.Common.{◌≡◌, ◌<◌, ◌∙◌, ℕ, List, Option, Some, length, arith, sym, ap, take_at, length-set}
-use Rattle.plan_model.specs.declared.model.Connection.{Connection}
-use Rattle.std.proofs.lemmas.List.Elements.{All-pop}
-use Rattle.plan_model.specs.Network.{count, connection}
+use Rattle.lower_proof.proofs.Common.{◌≡◌, ◌<◌, ◌∙◌, ℕ, List, Option, Some, length, arith, sym, ap, take_at, length-set, Connection, All-pop, count, connection}
 use Rattle.lower_proof.proofs.Written.{given, written_first, written_there, written_next, written_last}
 use Rattle.lower_proof.proofs.best_values.Goals as goal
 use Rattle.lower_proof.proofs.best_values.Goals.{then-get, else-get}

@@ -1,5 +1,4 @@
-use Rattle.std.proofs.Common.{◌<◌, All, length}
-use Rattle.plan_model.specs.Network.{count}
+use Rattle.lower_proof.proofs.Common.{◌<◌, All, length, count}
 use Rattle.lower_proof.proofs.Written.{Written}
 use Rattle.lower_proof.proofs.best_values.Given as goal
 

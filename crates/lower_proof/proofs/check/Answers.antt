@@ -1,10 +1,5 @@
-use Rattle.std.proofs.Common.{◌≡◌, ◌∙◌, ℕ, ◌<◌, List, Option, Some, IsTrue, length, arith, rules, sym, ap, take_at, length-set}
-use Rattle.std.proofs.lemmas.Bool.{both_ways}
-use Rattle.plan_model.specs.declared.model.Connection.{Connection}
-use Rattle.std.proofs.lemmas.List.Elements.{All-pop}
-use Rattle.plan_model.specs.Network.{count, connection}
-use Rattle.lower_proof.specs.Certificates.{bound_of}
-use Rattle.lower_proof.specs.Steps.{KeepsTo}
+use Rattle.lower_proof.proofs.Common.{◌≡◌, ◌∙◌, ℕ, ◌<◌, List, Option, Some, IsTrue, length, arith, rules, sym, ap, take_at, length-set, both_ways, Connection, All-pop, count, connection, bound_of}
+use Rattle.lower_proof.proofs.Common.{KeepsTo}
 use Rattle.lower_proof.proofs.Exits.{check_first, check_there, check_next, check_fails, check_last}
 use Rattle.lower_proof.proofs.check.Goals as goal
 use Rattle.lower_proof.proofs.check.Goals.{else-get-via-then-get+else-not-keeps_to, else-get-via-else-get}

@@ -1,6 +1,4 @@
-use Rattle.std.proofs.Common.{◌<◌, All, length}
-use Rattle.plan_model.specs.Network.{count}
-use Rattle.lower_proof.specs.Minima.{AreBoards}
+use Rattle.lower_proof.proofs.Common.{◌<◌, All, length, count, AreBoards}
 use Rattle.lower_proof.proofs.Exits.{CheckState}
 use Rattle.lower_proof.proofs.check.Given as goal
 

@@ -1,9 +1,4 @@
-use Rattle.std.proofs.Common.{◌≡◌, ◌≢◌, ℕ, ◌∙◌, subst, sym, ap, arith, rules}
-use Rattle.std.proofs.lemmas.Bool.{both_ways}
-use Rattle.plan_model.specs.declared.model.Connection.{Connection}
-use Rattle.plan_model.specs.Network.{count, connection}
-use Rattle.plan_model.specs.Strategy.{IsBoardableAtStart}
-use Rattle.lower_proof.specs.Certificates.{IsLeastOf, Offers}
+use Rattle.lower_proof.proofs.Common.{◌≡◌, ◌≢◌, ℕ, ◌∙◌, subst, sym, ap, arith, rules, both_ways, Connection, count, connection, IsBoardableAtStart, IsLeastOf, Offers}
 use Rattle.lower_proof.proofs.Leasts.{Below, with_offer, below_same, all_offers}
 use Rattle.lower_proof.proofs.least.Goals as goal
 use Rattle.lower_proof.proofs.least.Goals.{then-get+then-starts, else-get, else-get-via-then-get+else-starts, else-get-via-else-get}

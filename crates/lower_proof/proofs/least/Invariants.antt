@@ -1,5 +1,4 @@
-use Rattle.plan_model.specs.Strategy.{IsBoardableAtStart}
-use Rattle.lower_proof.specs.Certificates.{IsLeastOf, Offers}
+use Rattle.lower_proof.proofs.Common.{IsBoardableAtStart, IsLeastOf, Offers}
 use Rattle.lower_proof.proofs.Leasts.{Below}
 use Rattle.lower_proof.proofs.least.Given as goal
 

@@ -1,4 +1,4 @@
-use Rattle.std.proofs.Common.{◌≤◌, arith, rules, IsTrue, take_all}
+use Rattle.lower_proof.proofs.Common.{◌≤◌, arith, rules, IsTrue, take_all}
 use Rattle.lower_proof.proofs.Vias.{weighed_next, room_next, never_via, via_weighed}
 use Rattle.lower_proof.proofs.via.Goals as goal
 

@@ -1,5 +1,4 @@
-use Rattle.std.proofs.Common.{ℕ, ◌+◌, ◌*◌, ◌≤◌, drop, take, sum_by}
-use Rattle.lower_proof.specs.Minima.{AreBoards, AllLate}
+use Rattle.lower_proof.proofs.Common.{ℕ, ◌+◌, ◌*◌, ◌≤◌, drop, take, sum_by, AreBoards, AllLate}
 use Rattle.lower_proof.proofs.Vias.{Weighed}
 use Rattle.lower_proof.proofs.via.Given as goal
 

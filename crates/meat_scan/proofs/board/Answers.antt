@@ -1,8 +1,4 @@
-use Rattle.std.proofs.Common.{◌∙◌, ◌<◌, ◌≤◌, ◌≡◌, cond, length, arith, sym, ap, subst}
-use Rattle.plan_model.specs.Network.{from_of}
-use Rattle.plan_model.specs.Ways.{ways_into}
-use Rattle.plan_model.proofs.Boarding.{ways_into-distinct}
-use Rattle.meat_scan.specs.ScanTables.{has_way, spare_at}
+use Rattle.meat_scan.proofs.Common.{◌∙◌, ◌<◌, ◌≤◌, ◌≡◌, cond, length, arith, sym, ap, subst, from_of, ways_into, ways_into-distinct, has_way, spare_at}
 use Rattle.meat_scan.proofs.WaySteps.{from_in, room_remains, rows_next, spare_next}
 use Rattle.meat_scan.proofs.board.Goals as goal
 

@@ -1,7 +1,4 @@
-use Rattle.std.proofs.Common.{◌≡◌, ℕ, ◌+◌, ◌≤◌, length, take}
-use Rattle.plan_model.specs.Ways.{ways_into}
-use Rattle.meat_scan.specs.ScanTables.{rows_of_profile, spare_at, capacity_at}
-use Rattle.meat_scan.specs.Step.{with_way}
+use Rattle.meat_scan.proofs.Common.{◌≡◌, ℕ, ◌+◌, ◌≤◌, length, take, ways_into, rows_of_profile, spare_at, capacity_at, with_way}
 use Rattle.meat_scan.proofs.WaySteps.{way_in, way_number}
 use Rattle.meat_scan.proofs.board.Given as goal
 

@@ -1,9 +1,4 @@
-use Rattle.std.proofs.Common.{◌≡◌, ◌≤◌, ℕ, true, false, nat_le, ◌&&◌, arith, ap, cond}
-use Rattle.std.proofs.lemmas.Bool.Decides.{nat_tests}
-use Rattle.stop_profile.proofs.Gaps.{written_back}
-use Rattle.plan_model.specs.declared.model.Connection.{Connection}
-use Rattle.plan_model.specs.Network.{connection}
-use Rattle.meat_scan.specs.ScanTables.{has_way, is_boardable_by}
+use Rattle.meat_scan.proofs.Common.{◌≡◌, ◌≤◌, ℕ, true, false, nat_le, ◌&&◌, arith, ap, cond, nat_tests, written_back, Connection, connection, has_way, is_boardable_by}
 use Rattle.meat_scan.proofs.Reserves.{count_by-take_more}
 use Rattle.meat_scan.proofs.boardable_counts.Goals as goal
 use Rattle.meat_scan.proofs.boardable_counts.Goals.{then-connection-last, else-connection-last}

@@ -1,6 +1,4 @@
-use Rattle.std.proofs.Common.{◌≡◌, ℕ, ◌<◌, length, get_or, take, count_by}
-use Rattle.plan_model.specs.Network.{IsValid}
-use Rattle.meat_scan.specs.ScanTables.{is_boardable_by}
+use Rattle.meat_scan.proofs.Common.{◌≡◌, ℕ, ◌<◌, length, get_or, take, count_by, IsValid, is_boardable_by}
 use Rattle.meat_scan.proofs.boardable_counts.Given as goal
 
 abbrev pub invariant-loop-id : goal.invariant-loop-id

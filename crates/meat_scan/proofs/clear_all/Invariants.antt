@@ -1,5 +1,4 @@
-use Rattle.std.proofs.Common.{◌≡◌, ℕ, ◌<◌, ◌≤◌, length, get_or, []}
-use Rattle.meat_scan.specs.ScanTables.{no_profile, rows_of_profile, spare_at, capacity_at}
+use Rattle.meat_scan.proofs.Common.{◌≡◌, ℕ, ◌<◌, ◌≤◌, length, get_or, [], no_profile, rows_of_profile, spare_at, capacity_at}
 use Rattle.meat_scan.proofs.clear_all.Given as goal
 
 abbrev pub invariant-loop-place : goal.invariant-loop-place

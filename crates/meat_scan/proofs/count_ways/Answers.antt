@@ -1,6 +1,4 @@
-use Rattle.std.proofs.Common.{◌∙◌, arith, length-set}
-use Rattle.plan_model.specs.Ways.{ways_into}
-use Rattle.plan_model.proofs.Boarding.{ways_into-distinct}
+use Rattle.meat_scan.proofs.Common.{◌∙◌, arith, length-set, ways_into, ways_into-distinct}
 use Rattle.meat_scan.proofs.WaySteps.{from_in, count_next}
 use Rattle.meat_scan.proofs.count_ways.Goals as goal
 

@@ -1,6 +1,4 @@
-use Rattle.std.proofs.Common.{◌∙◌, sym, subst, arith, refl}
-use Rattle.stop_profile.proofs.Gaps.{written_back}
-use Rattle.meat_scan.specs.ScanTables.{FitsTablesBy}
+use Rattle.meat_scan.proofs.Common.{◌∙◌, sym, subst, arith, refl, written_back, FitsTablesBy}
 use Rattle.meat_scan.proofs.States.{next_state, last_state, rules_end, id_there, room_for_run, room_for_rows, room_next, found_rows-profiles, skipped_state}
 use Rattle.meat_scan.proofs.scan_all.Goals as goal
 

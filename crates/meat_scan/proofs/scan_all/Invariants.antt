@@ -1,6 +1,4 @@
-use Rattle.std.proofs.Common.{◌≡◌, ℕ, length}
-use Rattle.plan_model.specs.Network.{IsValid}
-use Rattle.meat_scan.specs.ScanTables.{capacity_at, HasRoom}
+use Rattle.meat_scan.proofs.Common.{◌≡◌, ℕ, length, IsValid, capacity_at, HasRoom}
 use Rattle.meat_scan.proofs.States.{ScanState}
 use Rattle.meat_scan.proofs.scan_all.Given as goal
 

@@ -1,5 +1,4 @@
-use Rattle.std.proofs.Common.{◌<◌, length, arith, rules, sym}
-use Rattle.plan_graph.specs.declared.GraphRow.{GraphRow}
+use Rattle.plan_graph.proofs.Common.{◌<◌, length, arith, rules, sym, GraphRow}
 use Rattle.plan_graph.proofs.RisingTables.{parted_at, pick_row-at, pick_row-none}
 use Rattle.plan_graph.proofs.leg_by.Goals as goal
 

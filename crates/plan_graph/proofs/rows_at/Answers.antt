@@ -1,6 +1,4 @@
-use Rattle.std.proofs.Common.{arith, rules, sym, ap, ◌∙◌, ◌<◌, length}
-use Rattle.std.proofs.lemmas.List.{get_or_default}
-use Rattle.plan_graph.specs.declared.PlaceTable.{PlaceTable}
+use Rattle.plan_graph.proofs.Common.{arith, rules, sym, ap, ◌∙◌, ◌<◌, length, get_or_default, PlaceTable}
 use Rattle.plan_graph.proofs.RisingTables.{parted_at, rows_of_place-at, rows_of_place-none}
 use Rattle.plan_graph.proofs.rows_at.Goals as goal
 

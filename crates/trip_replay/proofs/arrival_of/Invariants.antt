@@ -1,5 +1,4 @@
-use Rattle.std.proofs.Common.{◌≡◌, drop}
-use Rattle.trip_replay.specs.Positions.{has_delay}
+use Rattle.trip_replay.proofs.Common.{◌≡◌, drop, has_delay}
 use Rattle.trip_replay.proofs.arrival_of.Given as goal
 
 -- no outcome so far has the delay

@@ -1,17 +1,7 @@
-use Rattle.std.proofs.Common.{◌≡◌, ◌∙◌, ℕ, ◌+◌, ◌<◌, List, length, drop, Option, Err, sym, ap, arith, subst, IfSome, All, eqb-true, option_map}
-use Rattle.std.proofs.lemmas.Bool.{eqb-false}
-use Rattle.std.proofs.lemmas.List.Elements.{All-push}
-use Rattle.std.proofs.lemmas.List.{length_push}
+use Rattle.trip_replay.proofs.Common.{◌≡◌, ◌∙◌, ℕ, ◌+◌, ◌<◌, List, length, drop, Option, Err, sym, ap, arith, subst, IfSome, All, eqb-true, option_map, eqb-false, All-push, length_push, count}
+use Rattle.trip_replay.proofs.Common.{Tree, by_place, unfold_after, pick_at, IsLegOf, Ridden, walk, IsRidden, arrival_after, place_after}
 use Rattle.plan_model.specs.declared.model.Moment.{Moment}
-use Rattle.plan_model.specs.Network.{count}
-use Rattle.plan_model.specs.Tree.{Tree}
-use Rattle.plan_model.specs.Unfold.{by_place, unfold_after}
-use Rattle.plan_graph.specs.PickedRows.{pick_at}
-use Rattle.plan_graph.specs.Ready.{IsLegOf}
-use Rattle.trip_replay.specs.declared.Ridden.{Ridden}
 use Rattle.trip_replay.specs.declared.ReplayFault.TheVariants as fault
-use Rattle.trip_replay.specs.Walk.{walk}
-use Rattle.trip_replay.specs.Rides.{IsRidden, arrival_after, place_after}
 use Rattle.trip_replay.proofs.Walks.{is_ride, arrival_after-push, place_after-push, too_many, not_a_delay, after_ride, next_step}
 use Rattle.trip_replay.proofs.follow.Goals as goal
 

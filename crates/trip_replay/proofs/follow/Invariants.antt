@@ -1,12 +1,4 @@
-use Rattle.std.proofs.Common.{◌≡◌, ◌+◌, ◌≤◌, ◌<◌, drop, length, [], All, IfSome}
-use Rattle.plan_model.specs.Network.{count}
-use Rattle.plan_model.specs.Unfold.{by_place}
-use Rattle.plan_graph.specs.PickedRows.{pick_at}
-use Rattle.plan_graph.specs.Ready.{IsLegOf}
-use Rattle.plan_graph.specs.Unfold.{unfold_plan}
-use Rattle.trip_replay.specs.Walk.{walk}
-use Rattle.trip_replay.specs.Positions.{tree_at}
-use Rattle.trip_replay.specs.Rides.{IsRidden, arrival_after, place_after}
+use Rattle.trip_replay.proofs.Common.{◌≡◌, ◌+◌, ◌≤◌, ◌<◌, drop, length, [], All, IfSome, count, by_place, pick_at, IsLegOf, unfold_plan, walk, tree_at, IsRidden, arrival_after, place_after}
 use Rattle.trip_replay.proofs.follow.Given as goal
 
 -- the walk goes on from the position, with the delays that remain and the rides so far behind

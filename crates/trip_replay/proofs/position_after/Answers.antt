@@ -1,11 +1,5 @@
-use Rattle.std.proofs.Common.{◌≡◌, ℕ, suc, ◌-◌, Option, arith, ap, refl, ◌==◌, if◌then◌else◌}
+use Rattle.trip_replay.proofs.Common.{◌≡◌, ℕ, suc, ◌-◌, Option, arith, ap, refl, ◌==◌, if◌then◌else◌, Leg, NetworkModel, Done, end_of, by_place, ride_or_stuck, unfold_after, pick_at, fit_rises}
 use Rattle.plan_model.specs.declared.model.Connection.{Connection}
-use Rattle.plan_model.specs.declared.model.Leg.{Leg}
-use Rattle.plan_model.specs.NetworkModel.{NetworkModel}
-use Rattle.plan_model.specs.Tree.{Done}
-use Rattle.plan_model.specs.Unfold.{end_of, by_place, ride_or_stuck, unfold_after}
-use Rattle.plan_graph.specs.PickedRows.{pick_at}
-use Rattle.plan_graph.proofs.Picked.{fit_rises}
 use Rattle.trip_replay.proofs.Walks.{next_leg}
 use Rattle.trip_replay.proofs.position_after.Goals as goal
 

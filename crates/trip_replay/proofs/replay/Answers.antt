@@ -1,4 +1,4 @@
-use Rattle.plan_graph.specs.Unfold.{unfold_plan}
+use Rattle.trip_replay.proofs.Common.{unfold_plan}
 use Rattle.trip_replay.proofs.Walks.{safe_answer}
 use Rattle.trip_replay.proofs.replay.Goals as goal
 

@@ -1,7 +1,4 @@
-use Rattle.std.proofs.Common.{sym, subst}
-use Rattle.table_files.specs.declared.loading.Loaded.{Loaded}
-use Rattle.table_files.specs.Loading.{loaded_rows}
-use Rattle.change_times.specs.Changes.{AreCollectedChanges}
+use Rattle.change_times.proofs.Common.{sym, subst, Loaded, loaded_rows, AreCollectedChanges}
 use Rattle.change_times.proofs.changes.changes_of.Goals as goal
 
 pub returns-in-Absent-clause-changes : goal.returns-in-Absent-clause-changes

@@ -1,14 +1,9 @@
-use Rattle.std.proofs.Common.{◌≡◌, ◌+◌, None, refl, is_none, nat_eq, sym, ap, ◌∙◌, subst, arith}
+use Rattle.change_times.proofs.Common.{◌≡◌, ◌+◌, None, refl, is_none, nat_eq, sym, ap, ◌∙◌, subst, arith, match_raised, fault-at, row_count, bad_transfer, transfer_reported_by, seconds_between}
+use Rattle.change_times.proofs.Common.{link_between, walks_of, most_to, greatest_link, AreCollected}
 use Rattle.std.specs.HashMap.{get}
 use Rattle.std.specs.Result.{result_err}
 use Rattle.plan_model.specs.Results.{value_or}
-use Rattle.csv_rows.proofs.FaultLemmas.{match_raised, fault-at}
-use Rattle.csv_rows.specs.Tables.{row_count}
 use Rattle.csv_rows.proofs.FirstLemmas.{first-zero, first-next}
-use Rattle.change_times.specs.Transfers.{bad_transfer, transfer_reported_by}
-use Rattle.change_times.specs.Walks.{seconds_between, link_between, walks_of, most_to}
-use Rattle.change_times.specs.Changes.{greatest_link}
-use Rattle.change_times.specs.TransfersSoFar.{AreCollected}
 use Rattle.change_times.proofs.ChangeLemmas.{transfer_is, count-next, one_at_most, short_between, short_link}
 use Rattle.change_times.proofs.GreatestLemmas.{greatest-next, short_next}
 use Rattle.change_times.proofs.changes.collect.Goals as goal

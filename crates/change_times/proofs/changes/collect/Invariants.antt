@@ -1,7 +1,5 @@
-use Rattle.std.proofs.Common.{◌≡◌, None}
+use Rattle.change_times.proofs.Common.{◌≡◌, None, bad_transfer, AreCollected}
 use Rattle.csv_rows.specs.First.{first_below}
-use Rattle.change_times.specs.Transfers.{bad_transfer}
-use Rattle.change_times.specs.TransfersSoFar.{AreCollected}
 use Rattle.change_times.proofs.changes.collect.Given as goal
 
 abbrev pub invariant-loop-i : goal.invariant-loop-i

@@ -1,7 +1,4 @@
-use Rattle.std.proofs.Common.{◌<◌, List, All, refl, sym, subst}
-use Rattle.std.proofs.lemmas.List.Elements.{All-nil}
-use Rattle.plan_model.specs.declared.model.Way.{Way}
-use Rattle.change_times.specs.Links.{ways_at}
+use Rattle.change_times.proofs.Common.{◌<◌, List, All, refl, sym, subst, All-nil, Way, ways_at}
 use Rattle.change_times.proofs.ChangeLemmas.{no_rows}
 use Rattle.change_times.proofs.changes.no_changes.Goals as goal
 

@@ -1,4 +1,4 @@
-use Rattle.std.proofs.Common.{sym, ◌∙◌, refl}
+use Rattle.change_times.proofs.Common.{sym, ◌∙◌, refl}
 use Rattle.change_times.proofs.ChangeLemmas.{reported_none}
 use Rattle.change_times.proofs.changes.nothing_reported.Goals as goal
 

@@ -1,14 +1,5 @@
-use Rattle.std.proofs.Common.{◌≡◌, ◌<◌, ℕ, List, length, ap, ◌∙◌, arith}
-use Rattle.plan_model.specs.declared.model.Way.{Way}
-use Rattle.table_files.specs.Required.{Records}
-use Rattle.gtfs_tables.specs.Feeds.{FeedParts}
-use Rattle.csv_rows.specs.Tables.{row_count}
-use Rattle.change_times.specs.declared.changes.TransfersSoFar.{TransfersSoFar}
-use Rattle.change_times.specs.declared.links.Walk.{Walk}
-use Rattle.change_times.specs.Links.{ways_at, ways_below}
-use Rattle.change_times.specs.TransfersSoFar.{AreCollected}
-use Rattle.change_times.specs.Walks.{walks_of, most_to}
-use Rattle.change_times.specs.Changes.{change_seconds}
+use Rattle.change_times.proofs.Common.{◌≡◌, ◌<◌, ℕ, List, length, ap, ◌∙◌, arith, Way, Records, FeedParts, row_count, TransfersSoFar, Walk, ways_at, ways_below, AreCollected, walks_of, most_to}
+use Rattle.change_times.proofs.Common.{change_seconds}
 use Rattle.change_times.proofs.LinkLemmas.{ways-same}
 use Rattle.change_times.proofs.SoundLemmas.{reported_sound, reported_from}
 use Rattle.change_times.proofs.changes.read_rows.Goals as goal

@@ -1,5 +1,4 @@
-use Rattle.csv_rows.proofs.FaultLemmas.{match_raised, fault-first, reports-then}
-use Rattle.change_times.specs.Transfers.{transfers_fault}
+use Rattle.change_times.proofs.Common.{match_raised, fault-first, reports-then, transfers_fault}
 use Rattle.change_times.proofs.changes.read_transfers.Goals as goal
 
 pub returns-in_err-check_columns-clause-reports : goal.returns-in_err-check_columns-clause-reports

@@ -1,7 +1,4 @@
-use Rattle.std.proofs.Common.{◌<◌, ◌++◌, [], ℕ, length, sym, ap, ◌∙◌, arith}
-use Rattle.std.proofs.lemmas.List.{get_or_default}
-use Rattle.change_times.specs.Links.{link_from, ways_below}
-use Rattle.change_times.specs.Walks.{walks_of, most_to}
+use Rattle.change_times.proofs.Common.{◌<◌, ◌++◌, [], ℕ, length, sym, ap, ◌∙◌, arith, get_or_default, link_from, ways_below, walks_of, most_to}
 use Rattle.change_times.proofs.LinkLemmas.{ways-zero, ways-next, ways_before}
 use Rattle.change_times.proofs.links.links_of.Goals as goal
 

@@ -1,6 +1,4 @@
-use Rattle.std.proofs.Common.{◌≡◌, ◌<◌, ℕ, length}
-use Rattle.change_times.specs.Links.{ways_at, ways_below}
-use Rattle.change_times.specs.Walks.{walks_of, most_to}
+use Rattle.change_times.proofs.Common.{◌≡◌, ◌<◌, ℕ, length, ways_at, ways_below, walks_of, most_to}
 use Rattle.change_times.proofs.links.links_of.Given as goal
 
 abbrev pub invariant-loop-from : goal.invariant-loop-from

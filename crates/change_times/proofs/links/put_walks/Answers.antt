@@ -1,6 +1,4 @@
-use Rattle.std.proofs.Common.{◌++◌, ◌<◌, Option, ℕ, length, take, sym, ap, ◌∙◌, arith, take_all}
-use Rattle.change_times.specs.Links.{link_from}
-use Rattle.change_times.specs.Walks.{most_to}
+use Rattle.change_times.proofs.Common.{◌++◌, ◌<◌, Option, ℕ, length, take, sym, ap, ◌∙◌, arith, take_all, link_from, most_to}
 use Rattle.change_times.proofs.LinkLemmas.{most-next}
 use Rattle.change_times.proofs.links.put_walks.Goals as goal
 

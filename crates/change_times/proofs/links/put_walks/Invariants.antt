@@ -1,7 +1,4 @@
-use Rattle.std.proofs.Common.{◌≡◌, ◌<◌, ◌++◌, ℕ, List, length, take}
-use Rattle.plan_model.specs.declared.model.Way.{Way}
-use Rattle.change_times.specs.Links.{link_from, ways_at, ComeBefore}
-use Rattle.change_times.specs.Walks.{most_to}
+use Rattle.change_times.proofs.Common.{◌≡◌, ◌<◌, ◌++◌, ℕ, List, length, take, Way, link_from, ways_at, ComeBefore, most_to}
 use Rattle.change_times.proofs.links.put_walks.Given as goal
 
 abbrev pub invariant-loop-walk : goal.invariant-loop-walk

@@ -1,8 +1,5 @@
-use Rattle.std.proofs.Common.{arith, ◌≡◌, ◌∙◌, pos, ◌+ℤ◌, FitsSigned, w32, w64}
-use Rattle.std.proofs.lemmas.Int.{to_z-of_z}
+use Rattle.clock_text.proofs.Common.{arith, ◌≡◌, ◌∙◌, pos, ◌+ℤ◌, FitsSigned, w32, w64, to_z-of_z, signed_arith, epoch_day}
 use Rattle.std.proofs.lemmas.Result.{IfOk-at_ok}
-use Rattle.jiff_core.proofs.SignedLemmas.{signed_arith}
-use Rattle.jiff_core.specs.Date.{epoch_day}
 use Rattle.jiff.proofs.SpanFacts.{date_add-days, can_add-days}
 use Rattle.clock_text.proofs.DateFacts.{epoch_day_zero, day_size}
 use Rattle.clock_text.proofs.dates.date_from.Goals as goal

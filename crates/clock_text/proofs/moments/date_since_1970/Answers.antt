@@ -1,7 +1,4 @@
-use Rattle.std.proofs.Common.{arith, ◌≡◌, ◌∙◌, pos, w32}
-use Rattle.std.proofs.lemmas.Int.{to_z_pos}
-use Rattle.jiff_core.proofs.SignedLemmas.{signed_arith}
-use Rattle.jiff_core.specs.Date.{epoch_day}
+use Rattle.clock_text.proofs.Common.{arith, ◌≡◌, ◌∙◌, pos, w32, to_z_pos, signed_arith, epoch_day}
 use Rattle.clock_text.proofs.DateFacts.{year_from}
 use Rattle.clock_text.proofs.moments.date_since_1970.Goals as goal
 

@@ -1,7 +1,4 @@
-use Rattle.std.proofs.Common.{arith, ◌≡◌, pos, FitsSigned, w8, w32, ◌∙◌, ap, w16}
-use Rattle.std.proofs.lemmas.Int.{to_z_pos, to_z-of_z}
-use Rattle.jiff_core.proofs.SignedLemmas.{signed_arith}
-use Rattle.jiff_core.specs.Date.{epoch_day}
+use Rattle.clock_text.proofs.Common.{arith, ◌≡◌, pos, FitsSigned, w8, w32, ◌∙◌, ap, w16, to_z_pos, to_z-of_z, signed_arith, epoch_day}
 use Rattle.clock_text.proofs.DateFacts.{day_is, after_epoch}
 use Rattle.clock_text.proofs.moments.day_of.Goals as goal
 

@@ -1,4 +1,4 @@
-use Rattle.std.proofs.Common.{length}
+use Rattle.command_line.proofs.Common.{length}
 use Rattle.command_line.proofs.settings.+are_settings.Given as goal
 
 abbrev pub decreases-are_settings : goal.decreases-are_settings

@@ -1,10 +1,7 @@
-use Rattle.std.proofs.Common.{◌≡◌, ℕ, ◌≤◌, ◌<◌, length, List, Bool, true, false, refl, arith, rules, tests, lit<, nat_le}
-use Rattle.std.specs.List.{list_all}
+use Rattle.command_line.proofs.Common.{◌≡◌, ℕ, ◌≤◌, ◌<◌, length, List, Bool, true, false, refl, arith, rules, tests, lit<, nat_le, list_all, count_from_yields_List, YieldsList-from_str_split}
+use Rattle.command_line.proofs.Common.{is_delay, are_delays, pieces}
 use Rattle.std.proofs.lemmas.Bool.Decides.{nat_tests}
-use Rattle.std.proofs.lemmas.Iterator.Consumers.{count_from_yields_List}
 use Rattle.std.proofs.lemmas.Iterator.Search.{all_from_yields_List}
-use Rattle.std.proofs.lemmas.Iterator.Splits.{YieldsList-from_str_split}
-use Rattle.command_line.specs.Values.{is_delay, are_delays, pieces}
 use Rattle.command_line.proofs.values.are_delays.Goals as goal
 
 few : (texts : List (List ℕ)) (n : ℕ) (b : Bool) → n ≡ length texts → n ≤ 4096 → b ≡ list_all is_delay texts → b ≡ are_delays texts

@@ -1,8 +1,5 @@
-use Rattle.std.proofs.Common.{rules, tests, lit<}
+use Rattle.command_line.proofs.Common.{rules, tests, lit<, YieldsList-at, YieldsList-from_str_split, delay_in}
 use Rattle.std.proofs.lemmas.Iterator.{items_from_collect, YieldsList-from_map}
-use Rattle.std.proofs.lemmas.Iterator.Consumers.{YieldsList-at}
-use Rattle.std.proofs.lemmas.Iterator.Splits.{YieldsList-from_str_split}
-use Rattle.command_line.specs.Values.{delay_in}
 use Rattle.command_line.proofs.values.delays_of.Goals as goal
 
 pub returns : goal.returns

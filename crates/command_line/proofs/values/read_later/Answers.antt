@@ -1,6 +1,4 @@
-use Rattle.std.proofs.Common.{◌∙◌, ap, ℕ, List, map, string_bytes}
-use Rattle.command_line.specs.Settings.{text_of}
-use Rattle.command_line.specs.Values.{last_until, moment_of}
+use Rattle.command_line.proofs.Common.{◌∙◌, ap, ℕ, List, map, string_bytes, text_of, last_until, moment_of}
 use Rattle.command_line.proofs.values.read_later.Goals as goal
 
 pub returns-clause-later : goal.returns-clause-later

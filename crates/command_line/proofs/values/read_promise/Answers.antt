@@ -1,7 +1,4 @@
-use Rattle.std.proofs.Common.{◌∙◌, ◌+◌, ap, ℕ, List, map, string_bytes}
-use Rattle.command_line.specs.declared.options.OptionName.TheVariants.{By}
-use Rattle.command_line.specs.Settings.{text_of}
-use Rattle.command_line.specs.Values.{longest_promise, moment_of}
+use Rattle.command_line.proofs.Common.{◌∙◌, ◌+◌, ap, ℕ, List, map, string_bytes, By, text_of, longest_promise, moment_of}
 use Rattle.command_line.proofs.values.read_promise.Goals as goal
 
 pub returns-clause-promise : goal.returns-clause-promise

@@ -1,6 +1,4 @@
-use Rattle.std.proofs.Common.{length, ap, arith, inl, inr}
-use Rattle.std.proofs.lemmas.Bool.{cases_eq}
-use Rattle.change_times.specs.Changes.{links_of}
+use Rattle.connections.proofs.Common.{length, ap, arith, inl, inr, cases_eq, links_of}
 use Rattle.connections.proofs.counts.most_ways.Goals as goal
 
 pub loop-place-preserved : goal.loop-place-preserved

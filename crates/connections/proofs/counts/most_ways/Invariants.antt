@@ -1,4 +1,4 @@
-use Rattle.connections.specs.Counts.{HaveWays}
+use Rattle.connections.proofs.Common.{HaveWays}
 use Rattle.connections.proofs.counts.most_ways.Given as goal
 
 abbrev pub invariant-loop-place : goal.invariant-loop-place

@@ -1,5 +1,4 @@
-use Rattle.std.proofs.Common.{◌≡◌, ◌-◌, ◌^◌, min}
-use Rattle.connections.specs.Counts.{each_of, day_sum}
+use Rattle.connections.proofs.Common.{◌≡◌, ◌-◌, ◌^◌, min, each_of, day_sum}
 use Rattle.connections.proofs.counts.sum_day.Given as goal
 
 abbrev pub invariant-loop-trip : goal.invariant-loop-trip

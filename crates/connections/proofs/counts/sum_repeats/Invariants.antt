@@ -1,5 +1,4 @@
-use Rattle.std.proofs.Common.{◌≡◌, ◌-◌, ◌^◌, min}
-use Rattle.connections.specs.Counts.{each_of, rows_sum}
+use Rattle.connections.proofs.Common.{◌≡◌, ◌-◌, ◌^◌, min, each_of, rows_sum}
 use Rattle.connections.proofs.counts.sum_repeats.Given as goal
 
 abbrev pub invariant-loop-i : goal.invariant-loop-i

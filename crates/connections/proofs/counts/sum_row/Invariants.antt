@@ -1,6 +1,4 @@
-use Rattle.std.proofs.Common.{◌≡◌, ◌-◌, ◌^◌, min}
-use Rattle.connections.specs.Joins.{sum_below}
-use Rattle.connections.specs.Counts.{each_of, leaving_sum}
+use Rattle.connections.proofs.Common.{◌≡◌, ◌-◌, ◌^◌, min, sum_below, each_of, leaving_sum}
 use Rattle.connections.proofs.counts.sum_row.Given as goal
 
 abbrev pub invariant-loop-k : goal.invariant-loop-k

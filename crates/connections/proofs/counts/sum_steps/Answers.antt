@@ -1,6 +1,4 @@
-use Rattle.std.proofs.Common.{◌≡◌, ◌-◌, ℕ, length, arith}
-use Rattle.gtfs_tables.specs.Timed.{kept_at}
-use Rattle.connections.specs.Counts.{each_of}
+use Rattle.connections.proofs.Common.{◌≡◌, ◌-◌, ℕ, length, arith, kept_at, each_of}
 use Rattle.connections.proofs.SumLemmas.{steps-sum}
 use Rattle.connections.proofs.counts.sum_steps.Goals as goal
 

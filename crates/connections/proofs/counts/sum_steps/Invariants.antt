@@ -1,9 +1,4 @@
-use Rattle.std.proofs.Common.{◌≡◌, ◌-◌, ◌^◌, min, if◌then◌else◌}
-use Rattle.gtfs_tables.specs.Timed.{kept_at}
-use Rattle.connections.specs.Joins.{sum_below}
-use Rattle.connections.specs.Window.{holds}
-use Rattle.connections.specs.Steps.{departs}
-use Rattle.connections.specs.Counts.{each_of}
+use Rattle.connections.proofs.Common.{◌≡◌, ◌-◌, ◌^◌, min, if◌then◌else◌, kept_at, sum_below, holds, departs, each_of}
 use Rattle.connections.proofs.counts.sum_steps.Given as goal
 
 abbrev pub invariant-loop-k : goal.invariant-loop-k

@@ -1,12 +1,4 @@
-use Rattle.std.proofs.Common.{ℕ, ◌-◌, ◌^◌, List, min, sym, ap₂, ◌∙◌}
-use Rattle.trip_frequencies.specs.declared.frequencies.FrequencyRow.{FrequencyRow}
-use Rattle.stop_times.specs.declared.rows.StopRow.{StopRow}
-use Rattle.gtfs_tables.specs.Timed.{rows_of}
-use Rattle.connections.specs.declared.origins.ServiceDay.{ServiceDay}
-use Rattle.connections.specs.declared.window.Window.{Window}
-use Rattle.connections.specs.Steps.{is_active_trip}
-use Rattle.connections.specs.TripRuns.{frequencies_of}
-use Rattle.connections.specs.Counts.{each_of, runs_sum}
+use Rattle.connections.proofs.Common.{ℕ, ◌-◌, ◌^◌, List, min, sym, ap₂, ◌∙◌, FrequencyRow, StopRow, rows_of, ServiceDay, Window, is_active_trip, frequencies_of, each_of, runs_sum}
 use Rattle.connections.proofs.SumLemmas.{active-sum}
 use Rattle.connections.proofs.counts.sum_trip.Goals as goal
 

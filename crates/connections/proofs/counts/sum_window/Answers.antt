@@ -1,7 +1,4 @@
-use Rattle.std.proofs.Common.{◌-◌, ◌^◌, min, length, ap, ◌∙◌, arith}
-use Rattle.connections.specs.declared.origins.ServiceDay.{ServiceDay}
-use Rattle.connections.specs.Window.{day_at}
-use Rattle.connections.specs.Counts.{each_of, day_sum, days_sum}
+use Rattle.connections.proofs.Common.{◌-◌, ◌^◌, min, length, ap, ◌∙◌, arith, ServiceDay, day_at, each_of, day_sum, days_sum}
 use Rattle.connections.proofs.CountLemmas.{sum-next}
 use Rattle.connections.proofs.counts.sum_window.Goals as goal
 

@@ -1,5 +1,4 @@
-use Rattle.std.proofs.Common.{◌≡◌, ◌-◌, ◌^◌, min}
-use Rattle.connections.specs.Counts.{each_of, days_sum}
+use Rattle.connections.proofs.Common.{◌≡◌, ◌-◌, ◌^◌, min, each_of, days_sum}
 use Rattle.connections.proofs.counts.sum_window.Given as goal
 
 abbrev pub invariant-loop-d : goal.invariant-loop-d

@@ -1,4 +1,4 @@
-use Rattle.std.proofs.Common.{arith}
+use Rattle.connections.proofs.Common.{arith}
 use Rattle.connections.proofs.JoinLemmas.{list_steps}
 use Rattle.connections.proofs.ChangeLemmas.{changes-next}
 use Rattle.connections.proofs.cuts.changes_of.Goals as goal

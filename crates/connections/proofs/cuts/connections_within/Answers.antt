@@ -1,4 +1,4 @@
-use Rattle.std.proofs.Common.{arith}
+use Rattle.connections.proofs.Common.{arith}
 use Rattle.connections.proofs.SumLemmas.{window-few}
 use Rattle.connections.proofs.cuts.connections_within.Goals as goal
 

@@ -1,4 +1,4 @@
-use Rattle.std.proofs.Common.{◌≡◌, Bool, true, false, refl, arith, Option, Some, None, if◌then◌else◌, ltb-false}
+use Rattle.connections.proofs.Common.{◌≡◌, Bool, true, false, refl, arith, Option, Some, None, if◌then◌else◌, ltb-false}
 use Rattle.std.specs.Option.{option_or}
 use Rattle.connections.specs.declared.cuts.WindowFault.{WindowFault}
 use Rattle.connections.proofs.cuts.cut.Goals as goal

@@ -1,6 +1,4 @@
-use Rattle.std.proofs.Common.{◌≤◌, ◌*◌, ap, arith, subst}
-use Rattle.std.proofs.lemmas.Bool.Decides.{nat_tests}
-use Rattle.connections.specs.Counts.{HaveWays}
+use Rattle.connections.proofs.Common.{◌≤◌, ◌*◌, ap, arith, subst, nat_tests, HaveWays}
 use Rattle.connections.proofs.SumLemmas.{entries-most}
 use Rattle.connections.proofs.cuts.has_few_entries.Goals as goal
 

@@ -1,8 +1,4 @@
-use Rattle.std.proofs.Common.{◌≡◌, [], length, ap, sym, subst, ◌∙◌, arith, slice_index_or}
-use Rattle.csv_rows.specs.Lists.{list_below}
-use Rattle.csv_rows.proofs.ListLemmas.{length-list_below}
-use Rattle.plan_model.specs.Network.{AreLinksInto}
-use Rattle.change_times.specs.Changes.{place_seconds, links_of}
+use Rattle.connections.proofs.Common.{◌≡◌, [], length, ap, sym, subst, ◌∙◌, arith, slice_index_or, list_below, length-list_below, AreLinksInto, place_seconds, links_of}
 use Rattle.connections.proofs.CountLemmas.{connections_counted}
 use Rattle.connections.proofs.LinkLemmas.{links_fit, names_fit}
 use Rattle.connections.proofs.RunLemmas.{runs_are}

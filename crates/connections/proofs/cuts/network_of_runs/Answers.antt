@@ -1,4 +1,4 @@
-use Rattle.std.proofs.Common.{arith, ◌∙◌}
+use Rattle.connections.proofs.Common.{arith, ◌∙◌}
 use Rattle.connections.proofs.ConnectionLemmas.{valid, fits, few_runs}
 use Rattle.connections.proofs.cuts.network_of_runs.Goals as goal
 

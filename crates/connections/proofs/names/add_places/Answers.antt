@@ -1,6 +1,4 @@
-use Rattle.std.proofs.Common.{sym, subst, ◌∙◌, [], ap, take, List, ℕ, Contains, ◌++◌, ◌∷◌}
-use Rattle.std.proofs.lemmas.List.{take_more}
-use Rattle.csv_rows.proofs.IdLemmas.{got}
+use Rattle.connections.proofs.Common.{sym, subst, ◌∙◌, [], ap, take, List, ℕ, Contains, ◌++◌, ◌∷◌, take_more, got}
 use Rattle.text_index.proofs.KeyLemmas.{new_after_those_before}
 use Rattle.connections.proofs.names.add_places.Goals as goal
 

@@ -1,4 +1,4 @@
-use Rattle.std.proofs.Common.{◌≡◌, take}
+use Rattle.connections.proofs.Common.{◌≡◌, take}
 use Rattle.connections.proofs.names.add_places.Given as goal
 
 abbrev pub invariant-loop-stop : goal.invariant-loop-stop

@@ -1,10 +1,4 @@
-use Rattle.std.proofs.Common.{◌≡◌, ℕ, ◌<◌, ◌≤◌, ◌+◌, arith, sym, ◌∙◌, subst, ⊎_elim}
-use Rattle.std.proofs.lemmas.Bool.{cases_lt}
-use Rattle.connections.specs.declared.runs.Run.{Run}
-use Rattle.connections.specs.TripRuns.{run_at}
-use Rattle.connections.specs.FeedRuns.{IsSmallRepeat}
-use Rattle.connections.specs.FeedNetworks.{IsRunName}
-use Rattle.std.proofs.Common.{List}
+use Rattle.connections.proofs.Common.{◌≡◌, ℕ, ◌<◌, ◌≤◌, ◌+◌, arith, sym, ◌∙◌, subst, ⊎_elim, cases_lt, Run, run_at, IsSmallRepeat, IsRunName, List}
 use Rattle.connections.proofs.NameLemmas.{run_new, run_pushes}
 use Rattle.connections.proofs.names.add_runs.Goals as goal
 

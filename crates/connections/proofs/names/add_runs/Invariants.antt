@@ -1,7 +1,4 @@
-use Rattle.std.proofs.Common.{◌≡◌, ℕ, ◌<◌}
-use Rattle.connections.specs.FeedNetworks.{AreRunNames}
-use Rattle.connections.specs.FeedRuns.{IsSmallRepeat}
-use Rattle.connections.specs.TripRuns.{run_at}
+use Rattle.connections.proofs.Common.{◌≡◌, ℕ, ◌<◌, AreRunNames, IsSmallRepeat, run_at}
 use Rattle.connections.proofs.names.add_runs.Given as goal
 
 abbrev pub invariant-loop-r : goal.invariant-loop-r

@@ -1,9 +1,4 @@
-use Rattle.std.proofs.Common.{ℕ, ◌<◌, ◌≤◌, List, length, sym, subst, ◌∙◌, arith}
-use Rattle.std.proofs.lemmas.Bool.Decides.{nat_tests}
-use Rattle.std.proofs.lemmas.List.{nil_from_length}
-use Rattle.stop_times.specs.declared.rows.StopRow.{StopRow}
-use Rattle.gtfs_tables.specs.Timed.{rows_of, kept_at}
-use Rattle.connections.specs.Steps.{DepartOnDay}
+use Rattle.connections.proofs.Common.{ℕ, ◌<◌, ◌≤◌, List, length, sym, subst, ◌∙◌, arith, nat_tests, nil_from_length, StopRow, rows_of, kept_at, DepartOnDay}
 use Rattle.connections.proofs.ReachLemmas.{departures_are, over-next}
 use Rattle.connections.proofs.reach.latest_of.Goals as goal
 

@@ -1,4 +1,4 @@
-use Rattle.connections.specs.Reach.{AreOverBy}
+use Rattle.connections.proofs.Common.{AreOverBy}
 use Rattle.connections.proofs.reach.latest_of.Given as goal
 
 abbrev pub invariant-loop-trip : goal.invariant-loop-trip

@@ -1,6 +1,4 @@
-use Rattle.std.proofs.Common.{◌≡◌, ◌+◌, ◌++◌}
-use Rattle.csv_rows.specs.Lists.{list_below}
-use Rattle.connections.specs.RepeatedRuns.{repeat_of}
+use Rattle.connections.proofs.Common.{◌≡◌, ◌+◌, ◌++◌, list_below, repeat_of}
 use Rattle.connections.proofs.repeats.add_between.Given as goal
 
 abbrev pub invariant-loop-i : goal.invariant-loop-i

@@ -1,4 +1,4 @@
-use Rattle.std.proofs.Common.{◌≡◌, ℕ, Bool, ◌++◌}
+use Rattle.connections.proofs.Common.{◌≡◌, ℕ, Bool, ◌++◌}
 use Rattle.connections.proofs.RepeatLemmas.{AreTaken, taken_runs}
 use Rattle.connections.proofs.repeats.add_row_repeats.Given as goal
 

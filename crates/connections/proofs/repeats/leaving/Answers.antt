@@ -1,7 +1,4 @@
-use Rattle.std.proofs.Common.{arith, rules, ap, ◌∙◌, w32, SFits}
-use Rattle.std.proofs.lemmas.Int.{ints}
-use Rattle.connections.specs.declared.origins.Origin.{Origin}
-use Rattle.connections.specs.Origins.{moment_of}
+use Rattle.connections.proofs.Common.{arith, rules, ap, ◌∙◌, w32, SFits, ints, Origin, moment_of}
 use Rattle.connections.proofs.repeats.leaving.Goals as goal
 
 pub returns : goal.returns

@@ -1,7 +1,4 @@
-use Rattle.std.proofs.Common.{◌≡◌, length, ap, ◌∙◌, arith}
-use Rattle.gtfs_tables.specs.TripRepeats.{repeat_at}
-use Rattle.connections.specs.Joins.{join_below}
-use Rattle.connections.specs.RepeatedRuns.{row_repeats, rows_repeats, in_order}
+use Rattle.connections.proofs.Common.{◌≡◌, length, ap, ◌∙◌, arith, repeat_at, join_below, row_repeats, rows_repeats, in_order}
 use Rattle.connections.proofs.OrderLemmas.{in_order_is}
 use Rattle.connections.proofs.repeats.repeats_of.Goals as goal
 

@@ -1,7 +1,4 @@
-use Rattle.std.proofs.Common.{◌≡◌}
-use Rattle.gtfs_tables.specs.TripRepeats.{repeat_at}
-use Rattle.connections.specs.Joins.{join_below}
-use Rattle.connections.specs.RepeatedRuns.{row_repeats}
+use Rattle.connections.proofs.Common.{◌≡◌, repeat_at, join_below, row_repeats}
 use Rattle.connections.proofs.repeats.repeats_of.Given as goal
 
 abbrev pub invariant-loop-i : goal.invariant-loop-i

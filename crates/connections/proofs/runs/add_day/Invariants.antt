@@ -1,5 +1,4 @@
-use Rattle.std.proofs.Common.{◌≡◌, ◌++◌}
-use Rattle.connections.specs.TripRuns.{day_runs}
+use Rattle.connections.proofs.Common.{◌≡◌, ◌++◌, day_runs}
 use Rattle.connections.proofs.runs.add_day.Given as goal
 
 abbrev pub invariant-loop-trip : goal.invariant-loop-trip

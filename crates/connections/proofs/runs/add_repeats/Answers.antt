@@ -1,6 +1,4 @@
-use Rattle.std.proofs.Common.{◌<◌}
-use Rattle.std.proofs.lemmas.List.Elements.{All-get_or}
-use Rattle.stop_times.specs.StopTimeBounds.{end_of_times}
+use Rattle.connections.proofs.Common.{◌<◌, All-get_or, end_of_times}
 use Rattle.connections.proofs.runs.add_repeats.Goals as goal
 
 pub origin_at-requires-clause-second : goal.origin_at-requires-clause-second

@@ -1,5 +1,4 @@
-use Rattle.std.proofs.Common.{◌≡◌, ◌++◌, map, take}
-use Rattle.connections.specs.TripRuns.{repeat_run}
+use Rattle.connections.proofs.Common.{◌≡◌, ◌++◌, map, take, repeat_run}
 use Rattle.connections.proofs.runs.add_repeats.Given as goal
 
 abbrev pub invariant-loop-k : goal.invariant-loop-k

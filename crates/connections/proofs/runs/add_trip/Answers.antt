@@ -1,6 +1,4 @@
-use Rattle.std.proofs.Common.{◌<◌, List, All, length, sym, subst, ◌∙◌}
-use Rattle.connections.specs.declared.repeats.Repeat.{Repeat}
-use Rattle.stop_times.specs.StopTimeBounds.{end_of_times}
+use Rattle.connections.proofs.Common.{◌<◌, List, All, length, sym, subst, ◌∙◌, Repeat, end_of_times}
 use Rattle.connections.proofs.RepeatLemmas.{repeats_early, repeats_some}
 use Rattle.connections.proofs.runs.add_trip.Goals as goal
 

@@ -1,5 +1,4 @@
-use Rattle.std.proofs.Common.{sym, ap, ◌∙◌, arith}
-use Rattle.connections.specs.Steps.{steps_below}
+use Rattle.connections.proofs.Common.{sym, ap, ◌∙◌, arith, steps_below}
 use Rattle.connections.proofs.ReachLemmas.{has_connection_true, has_connection_false}
 use Rattle.connections.proofs.runs.has_connection.Goals as goal
 

@@ -1,5 +1,4 @@
-use Rattle.std.proofs.Common.{◌≡◌, []}
-use Rattle.connections.specs.Steps.{steps_below}
+use Rattle.connections.proofs.Common.{◌≡◌, [], steps_below}
 use Rattle.connections.proofs.runs.has_connection.Given as goal
 
 abbrev pub invariant-loop-k : goal.invariant-loop-k

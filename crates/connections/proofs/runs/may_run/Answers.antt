@@ -1,11 +1,6 @@
-use Rattle.std.proofs.Common.{◌≡◌, ◌<ℤ◌, pos, List, [], ◌∷◌, length, refl, arith}
-use Rattle.std.proofs.lemmas.Bool.Decides.{nat_tests}
-use Rattle.std.proofs.lemmas.Int.{ints}
-use Rattle.trip_frequencies.specs.declared.frequencies.FrequencyRow.{FrequencyRow}
-use Rattle.connections.specs.Origins.{origin_of_day, moment_of}
+use Rattle.connections.proofs.Common.{◌≡◌, ◌<ℤ◌, pos, List, [], ◌∷◌, length, refl, arith, nat_tests, ints, FrequencyRow, origin_of_day, moment_of, first_start}
 use Rattle.connections.proofs.ReachLemmas.{none_early_all}
 use Rattle.connections.proofs.runs.may_run.Goals as goal
-use Rattle.plan_model.specs.Bounds.{first_start}
 
 empty_is : (fs : List FrequencyRow) → length fs ≡ 0 → fs ≡ []
 empty_is [] h = refl

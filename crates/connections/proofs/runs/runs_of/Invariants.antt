@@ -1,5 +1,4 @@
-use Rattle.std.proofs.Common.{◌≡◌}
-use Rattle.connections.specs.TripRuns.{runs_below}
+use Rattle.connections.proofs.Common.{◌≡◌, runs_below}
 use Rattle.connections.proofs.runs.runs_of.Given as goal
 
 abbrev pub invariant-loop-d : goal.invariant-loop-d

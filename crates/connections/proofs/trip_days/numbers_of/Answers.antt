@@ -1,7 +1,4 @@
-use Rattle.std.proofs.Common.{List, ℕ, [], slice_index_or, sym, ap, ◌∙◌}
-use Rattle.std.proofs.lemmas.Option.{get_or_from_slice_get}
-use Rattle.csv_rows.specs.Tables.{number_in}
-use Rattle.csv_rows.proofs.ListLemmas.{list_below-next}
+use Rattle.connections.proofs.Common.{List, ℕ, [], slice_index_or, sym, ap, ◌∙◌, get_or_from_slice_get, number_in, list_below-next}
 use Rattle.connections.proofs.trip_days.numbers_of.Goals as goal
 
 pub loop-trip-preserved : goal.loop-trip-preserved

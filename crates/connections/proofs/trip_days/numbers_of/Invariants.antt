@@ -1,6 +1,4 @@
-use Rattle.std.proofs.Common.{◌≡◌, [], slice_index_or}
-use Rattle.csv_rows.specs.Lists.{list_below}
-use Rattle.csv_rows.specs.Tables.{number_in}
+use Rattle.connections.proofs.Common.{◌≡◌, [], slice_index_or, list_below, number_in}
 use Rattle.connections.proofs.trip_days.numbers_of.Given as goal
 
 abbrev pub invariant-loop-trip : goal.invariant-loop-trip

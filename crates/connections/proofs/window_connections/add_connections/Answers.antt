@@ -1,7 +1,5 @@
-use Rattle.std.proofs.Common.{Option, IfSome, sym, ap, ◌∙◌, subst}
+use Rattle.connections.proofs.Common.{Option, IfSome, sym, ap, ◌∙◌, subst, class_of_trip, connection_from, IsClassOfHour}
 use Rattle.connections.specs.declared.window_connections.HourClass.{HourClass}
-use Rattle.connections.specs.FeedNetworks.{class_of_trip, connection_from}
-use Rattle.connections.specs.RouteNumbers.{IsClassOfHour}
 use Rattle.connections.proofs.MapLemmas.{map-kept, map-dropped}
 use Rattle.connections.proofs.window_connections.add_connections.Goals as goal
 use Rattle.connections.proofs.window_connections.add_connections.Goals.{then-leaves+in_ok-push, else-leaves}

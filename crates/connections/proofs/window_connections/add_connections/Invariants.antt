@@ -1,7 +1,4 @@
-use Rattle.std.proofs.Common.{◌≡◌, ◌++◌, map, IfSome}
-use Rattle.connections.specs.Steps.{steps_below}
-use Rattle.connections.specs.FeedNetworks.{class_of_trip, connection_from}
-use Rattle.connections.specs.RouteNumbers.{IsClassOfHour}
+use Rattle.connections.proofs.Common.{◌≡◌, ◌++◌, map, IfSome, steps_below, class_of_trip, connection_from, IsClassOfHour}
 use Rattle.connections.proofs.window_connections.add_connections.Given as goal
 
 abbrev pub invariant-loop-k : goal.invariant-loop-k

@@ -1,6 +1,5 @@
-use Rattle.std.proofs.Common.{Some, slice_index, sym, ◌∙◌}
+use Rattle.connections.proofs.Common.{Some, slice_index, sym, ◌∙◌, route_of}
 use Rattle.delay_table.proofs.RouteFacts.{same-hour}
-use Rattle.connections.specs.FeedNetworks.{route_of}
 use Rattle.connections.proofs.window_connections.class_in_hour.Goals as goal
 
 pub returns-clause-hour : goal.returns-clause-hour

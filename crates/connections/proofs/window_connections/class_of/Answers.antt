@@ -1,7 +1,4 @@
-use Rattle.std.proofs.Common.{Some, ℕ, ap, ◌∙◌}
-use Rattle.delay_table.specs.DelayLists.{class_for}
-use Rattle.delay_table.specs.Groups.{routes_of}
-use Rattle.connections.specs.FeedNetworks.{route_of}
+use Rattle.connections.proofs.Common.{Some, ℕ, ap, ◌∙◌, class_for, routes_of, route_of}
 use Rattle.connections.proofs.RouteLemmas.{route_inside, class_is}
 use Rattle.connections.proofs.window_connections.class_of.Goals as goal
 

@@ -1,6 +1,4 @@
-use Rattle.std.proofs.Common.{ℕ, List, [], Option, length, slice_index_or, ap, ◌∙◌, arith}
-use Rattle.csv_rows.proofs.ListLemmas.{length-list_below, get-list_below}
-use Rattle.connections.specs.RouteNumbers.{route_number}
+use Rattle.connections.proofs.Common.{ℕ, List, [], Option, length, slice_index_or, ap, ◌∙◌, arith, length-list_below, get-list_below, route_number}
 use Rattle.connections.proofs.window_connections.connections_of.Goals as goal
 
 pub index-requires : goal.index-requires

@@ -1,5 +1,4 @@
-use Rattle.std.proofs.Common.{◌≡◌}
-use Rattle.connections.specs.FeedNetworks.{connections_below}
+use Rattle.connections.proofs.Common.{◌≡◌, connections_below}
 use Rattle.connections.proofs.window_connections.connections_of.Given as goal
 
 abbrev pub invariant-loop-r : goal.invariant-loop-r

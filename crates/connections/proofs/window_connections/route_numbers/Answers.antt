@@ -1,8 +1,4 @@
-use Rattle.std.proofs.Common.{List, ℕ, [], slice_index_or, sym, ap, ◌∙◌}
-use Rattle.std.proofs.lemmas.Option.{get_or_from_slice_get}
-use Rattle.csv_rows.specs.Tables.{number_in}
-use Rattle.csv_rows.proofs.ListLemmas.{list_below-next}
-use Rattle.connections.specs.RouteNumbers.{route_number}
+use Rattle.connections.proofs.Common.{List, ℕ, [], slice_index_or, sym, ap, ◌∙◌, get_or_from_slice_get, number_in, list_below-next, route_number}
 use Rattle.connections.proofs.window_connections.route_numbers.Goals as goal
 
 pub loop-route-preserved : goal.loop-route-preserved

@@ -1,6 +1,4 @@
-use Rattle.std.proofs.Common.{◌≡◌, [], slice_index_or}
-use Rattle.csv_rows.specs.Lists.{list_below}
-use Rattle.connections.specs.RouteNumbers.{route_number}
+use Rattle.connections.proofs.Common.{◌≡◌, [], slice_index_or, list_below, route_number}
 use Rattle.connections.proofs.window_connections.route_numbers.Given as goal
 
 abbrev pub invariant-loop-route : goal.invariant-loop-route

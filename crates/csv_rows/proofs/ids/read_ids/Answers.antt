@@ -1,8 +1,6 @@
-use Rattle.std.proofs.Common.{Bor, ◌≡◌, ◌++◌, ◌∷◌, [], List, ℕ, Contains, false, None, Some, refl, sym, ap, ◌∙◌, arith, length, subst, true, not, Bool}
-use Rattle.csv_rows.specs.declared.feed_tables.FeedFault.TheVariants.{DuplicateKey}
-use Rattle.csv_rows.specs.Tables.{row_count, field, field_at}
+use Rattle.csv_rows.proofs.Common.{Bor, ◌≡◌, ◌++◌, ◌∷◌, [], List, ℕ, Contains, false, None, Some, refl, sym, ap, ◌∙◌, arith, length, subst, true, not, Bool, DuplicateKey, row_count, field}
+use Rattle.csv_rows.proofs.Common.{field_at, repeated_id}
 use Rattle.csv_rows.proofs.FirstLemmas.{first-zero, first-next, first-at}
-use Rattle.csv_rows.specs.RowFaults.{repeated_id}
 use Rattle.csv_rows.proofs.ListLemmas.{list_below-zero, list_below-next, length-list_below}
 use Rattle.csv_rows.proofs.IdLemmas.{not_repeated, repeated}
 use Rattle.csv_rows.proofs.KeyTexts.{has_key, key_there, key_absent, key_last, key_texts}

@@ -1,8 +1,4 @@
-use Rattle.std.proofs.Common.{◌≡◌, None}
-use Rattle.csv_rows.specs.First.{first_below}
-use Rattle.csv_rows.specs.Tables.{field}
-use Rattle.csv_rows.specs.RowFaults.{repeated_id}
-use Rattle.csv_rows.specs.Lists.{list_below}
+use Rattle.csv_rows.proofs.Common.{◌≡◌, None, first_below, field, repeated_id, list_below}
 use Rattle.csv_rows.proofs.KeyTexts.{key_texts}
 use Rattle.csv_rows.proofs.ids.read_ids.Given as goal
 

@@ -1,5 +1,4 @@
-use Rattle.std.proofs.Common.{◌≡◌, drop}
-use Rattle.csv_rows.specs.RowFaults.{first_missing}
+use Rattle.csv_rows.proofs.Common.{◌≡◌, drop, first_missing}
 use Rattle.csv_rows.proofs.row_faults.check_columns.Given as goal
 
 abbrev pub invariant-loop-i : goal.invariant-loop-i

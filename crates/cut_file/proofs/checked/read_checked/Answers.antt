@@ -1,6 +1,5 @@
-use Rattle.std.proofs.Common.{◌∙◌, ap, sym, arith, Some, None}
+use Rattle.cut_file.proofs.Common.{◌∙◌, ap, sym, arith, Some, None, TooManyRows}
 use Rattle.csv_rows.proofs.FaultLemmas.{if_raised}
-use Rattle.cut_file.specs.declared.faults.CutFault.TheVariants.{TooManyRows}
 use Rattle.cut_file.proofs.CheckedFacts.{column_first, count_first, rows_first, field_first, runs_here, read_here}
 use Rattle.cut_file.proofs.checked.read_checked.Goals as goal
 

@@ -1,6 +1,4 @@
-use Rattle.std.proofs.Common.{◌∙◌, sym, ap, ap₂, arith, max, get_or, length-set}
-use Rattle.std.proofs.lemmas.List.{get_or_default, get_or-replicate}
-use Rattle.cut_file.specs.CutKeys.{cut_row}
+use Rattle.cut_file.proofs.Common.{◌∙◌, sym, ap, ap₂, arith, max, get_or, length-set, get_or_default, get_or-replicate, cut_row}
 use Rattle.cut_file.proofs.ChangeFacts.{longest-zero, longest_next}
 use Rattle.cut_file.proofs.networks.longest_of.Goals as goal
 

@@ -1,4 +1,4 @@
-use Rattle.std.proofs.Common.{◌∙◌}
+use Rattle.cut_file.proofs.Common.{◌∙◌}
 use Rattle.cut_file.proofs.NumberFacts.{next_taken}
 use Rattle.cut_file.proofs.numbers.push_runs.Goals as goal
 

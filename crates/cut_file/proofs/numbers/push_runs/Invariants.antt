@@ -1,4 +1,4 @@
-use Rattle.std.proofs.Common.{◌≡◌, take}
+use Rattle.cut_file.proofs.Common.{◌≡◌, take}
 use Rattle.cut_file.proofs.numbers.push_runs.Given as goal
 
 abbrev pub invariant-loop-number : goal.invariant-loop-number

@@ -1,10 +1,4 @@
-use Rattle.std.proofs.Common.{rules, ◌≡◌, ℕ, true, length, sym, ap, ◌∙◌, arith, option_map}
-use Rattle.csv_rows.specs.First.{first_below}
-use Rattle.csv_rows.proofs.KeyLemmas.{before_inside}
-use Rattle.csv_rows.proofs.SoonestLemmas.{soonest-next, soonest-first}
-use Rattle.cut_file.specs.declared.faults.CutFault.{CutFault}
-use Rattle.cut_file.specs.Faults.{run_fault}
-use Rattle.cut_file.specs.CutKeys.{run_of, step_of}
+use Rattle.cut_file.proofs.Common.{rules, ◌≡◌, ℕ, true, length, sym, ap, ◌∙◌, arith, option_map, first_below, before_inside, soonest-next, soonest-first, CutFault, run_fault, run_of, step_of}
 use Rattle.cut_file.proofs.Misfits.{misfit_is}
 use Rattle.cut_file.proofs.order.first_misfit.Goals as goal
 

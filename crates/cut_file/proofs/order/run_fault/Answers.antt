@@ -1,9 +1,4 @@
-use Rattle.std.proofs.Common.{◌+◌, option_map, ap, ◌∙◌}
-use Rattle.std.specs.Option.{option_or}
-use Rattle.csv_rows.specs.First.{first_below}
-use Rattle.csv_rows.specs.Tables.{row_count}
-use Rattle.cut_file.specs.declared.faults.CutFault.TheVariants.{DuplicateStep}
-use Rattle.cut_file.specs.Faults.{run_fault}
+use Rattle.cut_file.proofs.Common.{◌+◌, option_map, ap, ◌∙◌, option_or, first_below, row_count, DuplicateStep, run_fault}
 use Rattle.cut_file.proofs.Repeats.{repeats_first}
 use Rattle.cut_file.proofs.order.run_fault.Goals as goal
 

@@ -1,8 +1,6 @@
-use Rattle.std.proofs.Common.{◌≡◌, ℕ, length, true, subst, refl, arith}
+use Rattle.cut_file.proofs.Common.{◌≡◌, ℕ, length, true, subst, refl, arith, AreKeys, key_of, sorted_are, keys-none, keys-taken, run_of, step_of}
 use Rattle.std.proofs.lemmas.Grind.{common_steps}
 use Rattle.std.proofs.lemmas.List.Sorted.{length_permutation}
-use Rattle.csv_rows.proofs.SortLemmas.{AreKeys, key_of, sorted_are, keys-none, keys-taken}
-use Rattle.cut_file.specs.CutKeys.{run_of, step_of}
 use Rattle.cut_file.proofs.order.sorted_keys.Goals as goal
 
 pub loop-i-init : goal.loop-i-init

@@ -1,11 +1,5 @@
-use Rattle.std.proofs.Common.{◌∷◌, [], ◌∙◌, sym, ap, arith, length, Some, None, length-append}
-use Rattle.std.proofs.lemmas.Option.{slice_get_within}
-use Rattle.csv_rows.specs.Tables.{row_count}
-use Rattle.csv_rows.proofs.FirstLemmas.{first-zero, first-next, first-at}
-use Rattle.cut_file.specs.declared.faults.CutFault.TheVariants.{BadField}
-use Rattle.cut_file.specs.CutRows.{Row, named}
-use Rattle.cut_file.specs.Faults.{bad_field}
-use Rattle.cut_file.specs.NumberedRows.{add_new}
+use Rattle.cut_file.proofs.Common.{◌∷◌, [], ◌∙◌, sym, ap, arith, length, Some, None, length-append, slice_get_within, row_count, first-zero, first-next, first-at, BadField, Row, named, bad_field}
+use Rattle.cut_file.proofs.Common.{add_new}
 use Rattle.cut_file.proofs.NumberFacts.{length_add}
 use Rattle.cut_file.proofs.RowFacts.{bad_here, good_here, run_names-zero, place_names-zero, run_names-next, place_names-next, each_next}
 use Rattle.cut_file.proofs.rows.take_rows.Goals as goal

@@ -1,8 +1,4 @@
-use Rattle.std.proofs.Common.{◌≡◌, ℕ, ◌<◌, ◌≤◌, ◌*◌, length, None, slice_index_or, IfSome}
-use Rattle.csv_rows.specs.First.{first_below}
-use Rattle.cut_file.specs.declared.rows.CutRow.{CutRow}
-use Rattle.cut_file.specs.Faults.{bad_field, row}
-use Rattle.cut_file.specs.NumberedRows.{run_names, place_names, IsNumbered}
+use Rattle.cut_file.proofs.Common.{◌≡◌, ℕ, ◌<◌, ◌≤◌, ◌*◌, length, None, slice_index_or, IfSome, first_below, CutRow, bad_field, row, run_names, place_names, IsNumbered}
 use Rattle.cut_file.proofs.rows.take_rows.Given as goal
 
 abbrev pub invariant-loop-i : goal.invariant-loop-i

@@ -1,7 +1,5 @@
-use Rattle.std.proofs.Common.{◌≡◌, None, List, ap, arith}
-use Rattle.std.proofs.lemmas.Option.{MatchOption-at_some}
+use Rattle.decision_graph.proofs.Common.{◌≡◌, None, List, ap, arith, MatchOption-at_some, ExpandedGraph}
 use Rattle.plan_graph.specs.declared.Ride.{Ride}
-use Rattle.plan_graph.specs.declared.ExpandedGraph.{ExpandedGraph}
 use Rattle.decision_graph.proofs.AtOnce.{expanded_at_once, none_late, steady_at_once}
 use Rattle.decision_graph.proofs.BestStrategies.{IsOfStart, expanded, steady_choice}
 use Rattle.decision_graph.proofs.expanded.expand_with.Goals as goal

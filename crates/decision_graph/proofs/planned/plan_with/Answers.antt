@@ -1,5 +1,4 @@
-use Rattle.std.proofs.lemmas.Option.{MatchOption-at_some}
-use Rattle.decision_graph.specs.Expanded.{IsNoneSafe, IsExpandedBy, HasSteadyChoice}
+use Rattle.decision_graph.proofs.Common.{MatchOption-at_some, IsNoneSafe, IsExpandedBy, HasSteadyChoice}
 use Rattle.decision_graph.proofs.Tables.{planned}
 use Rattle.decision_graph.proofs.planned.plan_with.Goals as goal
 

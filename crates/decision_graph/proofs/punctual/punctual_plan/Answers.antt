@@ -1,9 +1,5 @@
-use Rattle.std.proofs.Common.{◌≡◌, Option, Some, None, MatchOption, arith, sym, subst}
-use Rattle.std.proofs.lemmas.Option.{MatchOption-at_some}
-use Rattle.plan_graph.specs.declared.PlanGraph.{PlanGraph}
-use Rattle.decision_graph.specs.Expanded.{IsNoneSafe}
+use Rattle.decision_graph.proofs.Common.{◌≡◌, Option, Some, None, MatchOption, arith, sym, subst, MatchOption-at_some, PlanGraph, IsNoneSafe, IsLeastChance}
 use Rattle.late_chance.specs.Punctual.{IsPunctual, seen_for, asked_for}
-use Rattle.decision_graph.specs.LeastChances.{IsLeastChance}
 use Rattle.decision_graph.proofs.punctual.punctual_plan.Goals as goal
 
 match_none : {A : Type 0} (o : Option A) (N : Type 0) (P : A → Type 0) → o ≡ None → MatchOption o N P → N

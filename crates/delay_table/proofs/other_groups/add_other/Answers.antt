@@ -1,8 +1,4 @@
-use Rattle.std.proofs.Common.{◌≡◌, ◌∙◌, ◌+◌, ◌++◌, ◌∷◌, [], ap, sym, subst, List}
-use Rattle.std.proofs.lemmas.Result.{on_ok_weaker}
-use Rattle.delay_table.specs.Delays.{others}
-use Rattle.delay_table.specs.Groups.{Group, group_index}
-use Rattle.delay_table.specs.Numbered.{IsNumbering, line_group}
+use Rattle.delay_table.proofs.Common.{◌≡◌, ◌∙◌, ◌+◌, ◌++◌, ◌∷◌, [], ap, sym, subst, List, on_ok_weaker, others, Group, group_index, IsNumbering, line_group}
 use Rattle.delay_table.proofs.NumberedFacts.{numbering-new, numbering-next}
 use Rattle.delay_table.proofs.Others.{others-new, others-plain, others-other}
 use Rattle.delay_table.proofs.other_groups.add_other.Goals as goal

@@ -1,6 +1,4 @@
-use Rattle.std.proofs.Common.{List, sym, subst}
-use Rattle.delay_table.specs.Groups.{Group}
-use Rattle.delay_table.specs.Numbered.{IsNumbering}
+use Rattle.delay_table.proofs.Common.{List, sym, subst, Group, IsNumbering}
 use Rattle.delay_table.proofs.NumberedFacts.{numbering-none}
 use Rattle.delay_table.proofs.Others.{others-zero}
 use Rattle.delay_table.proofs.other_groups.numbering_of.Goals as goal

@@ -1,5 +1,4 @@
-use Rattle.delay_table.specs.Delays.{others}
-use Rattle.delay_table.specs.Numbered.{IsNumbering}
+use Rattle.delay_table.proofs.Common.{others, IsNumbering}
 use Rattle.delay_table.proofs.other_groups.numbering_of.Given as goal
 
 abbrev pub invariant-loop-index : goal.invariant-loop-index

@@ -1,10 +1,4 @@
-use Rattle.std.proofs.Common.{◌≡◌, ℕ, None, subst, arith}
-use Rattle.csv_rows.specs.First.{first_below}
-use Rattle.csv_rows.specs.Tables.{row_count}
-use Rattle.delay_table.specs.Delays.{line_fault}
-use Rattle.delay_table.specs.Read.{IsReadTo}
-use Rattle.csv_rows.proofs.FaultLemmas.{if_raised}
-use Rattle.csv_rows.proofs.FirstLemmas.{first-zero, first-next, first-at}
+use Rattle.delay_table.proofs.Common.{◌≡◌, ℕ, None, subst, arith, first_below, row_count, line_fault, IsReadTo, if_raised, first-zero, first-next, first-at}
 use Rattle.delay_table.proofs.ReadFacts.{read-nothing}
 use Rattle.delay_table.proofs.Sound.{is-read}
 use Rattle.delay_table.proofs.reading.read_rows.Goals as goal

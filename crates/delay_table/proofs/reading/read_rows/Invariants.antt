@@ -1,7 +1,4 @@
-use Rattle.std.proofs.Common.{◌≡◌, None}
-use Rattle.csv_rows.specs.First.{first_below}
-use Rattle.delay_table.specs.Delays.{line_fault}
-use Rattle.delay_table.specs.Read.{IsReadTo}
+use Rattle.delay_table.proofs.Common.{◌≡◌, None, first_below, line_fault, IsReadTo}
 use Rattle.delay_table.proofs.reading.read_rows.Given as goal
 
 abbrev pub invariant-loop-i : goal.invariant-loop-i

@@ -1,7 +1,4 @@
-use Rattle.std.proofs.Common.{◌≡◌, None}
-use Rattle.csv_rows.specs.First.{first_below}
-use Rattle.delay_table.specs.Delays.{group_sum_at}
-use Rattle.delay_table.specs.Read.{line_at, read_outcomes}
+use Rattle.delay_table.proofs.Common.{◌≡◌, None, first_below, group_sum_at, line_at, read_outcomes}
 use Rattle.delay_table.proofs.sums.group_fault.Given as goal
 
 abbrev pub invariant-loop-index : goal.invariant-loop-index

@@ -1,7 +1,4 @@
-use Rattle.std.proofs.Common.{sym, arith, None, length}
-use Rattle.csv_rows.proofs.FirstLemmas.{first-zero, first-next, first-at}
-use Rattle.delay_table.specs.Delays.{type_sum_at}
-use Rattle.delay_table.specs.Read.{read_outcomes}
+use Rattle.delay_table.proofs.Common.{sym, arith, None, length, first-zero, first-next, first-at, type_sum_at, read_outcomes}
 use Rattle.delay_table.proofs.sums.type_fault.Goals as goal
 
 pub loop-index-init : goal.loop-index-init

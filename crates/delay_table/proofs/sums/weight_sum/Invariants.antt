@@ -1,4 +1,4 @@
-use Rattle.std.proofs.Common.{◌≡◌, ◌*◌, ◌≤◌, take, sum_by}
+use Rattle.delay_table.proofs.Common.{◌≡◌, ◌*◌, ◌≤◌, take, sum_by}
 use Rattle.delay_table.proofs.sums.weight_sum.Given as goal
 
 abbrev pub invariant-loop-outcome : goal.invariant-loop-outcome

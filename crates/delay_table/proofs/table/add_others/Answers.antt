@@ -1,5 +1,4 @@
-use Rattle.std.proofs.Common.{◌++◌, ◌∙◌, ap, sym, append-nil, map}
-use Rattle.delay_table.specs.Read.{read_outcomes}
+use Rattle.delay_table.proofs.Common.{◌++◌, ◌∙◌, ap, sym, append-nil, map, read_outcomes}
 use Rattle.delay_table.proofs.Others.{others-zero, other-rows-next}
 use Rattle.delay_table.proofs.table.add_others.Goals as goal
 

@@ -1,6 +1,4 @@
-use Rattle.std.proofs.Common.{◌≡◌, ◌++◌, map}
-use Rattle.delay_table.specs.Delays.{others}
-use Rattle.delay_table.specs.Read.{read_outcomes}
+use Rattle.delay_table.proofs.Common.{◌≡◌, ◌++◌, map, others, read_outcomes}
 use Rattle.delay_table.proofs.table.add_others.Given as goal
 
 abbrev pub invariant-loop-index : goal.invariant-loop-index

@@ -1,6 +1,4 @@
-use Rattle.std.proofs.Common.{◌≡◌, ◌++◌, map, take}
-use Rattle.delay_table.specs.Delays.{type_rows}
-use Rattle.delay_table.specs.Read.{read_outcomes}
+use Rattle.delay_table.proofs.Common.{◌≡◌, ◌++◌, map, take, type_rows, read_outcomes}
 use Rattle.delay_table.proofs.table.add_types.Given as goal
 
 abbrev pub invariant-loop-route_type : goal.invariant-loop-route_type

@@ -1,9 +1,4 @@
-use Rattle.std.proofs.Common.{◌≡◌, ◌++◌, ◌∷◌, ◌∙◌, ap, sym, subst, length, map, List, None, ℕ}
-use Rattle.plan_model.specs.declared.model.Outcome.{Outcome}
-use Rattle.delay_table.specs.Groups.{plain_types}
-use Rattle.delay_table.specs.Delays.{class_rows, others, type_rows}
-use Rattle.delay_table.specs.Read.{read_outcomes}
-use Rattle.delay_table.specs.Slots.{AreDelays}
+use Rattle.delay_table.proofs.Common.{◌≡◌, ◌++◌, ◌∷◌, ◌∙◌, ap, sym, subst, length, map, List, None, ℕ, Outcome, plain_types, class_rows, others, type_rows, read_outcomes, AreDelays}
 use Rattle.delay_table.proofs.Sound.{made-is, delays_valid, classes-are}
 use Rattle.delay_table.proofs.table.delays_in.Goals as goal
 

@@ -1,5 +1,4 @@
-use Rattle.std.proofs.Common.{◌∙◌, Some, sym, ap}
-use Rattle.delay_table.specs.Read.{line_at, read_outcomes}
+use Rattle.delay_table.proofs.Common.{◌∙◌, Some, sym, ap, line_at, read_outcomes}
 use Rattle.delay_table.proofs.Counted.{reported-count}
 use Rattle.delay_table.proofs.table.table_of.Goals as goal
 

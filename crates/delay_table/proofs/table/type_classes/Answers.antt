@@ -1,7 +1,4 @@
-use Rattle.std.proofs.Common.{◌++◌, ◌∷◌, ◌∙◌, [], ap, ap₂, map, List}
-use Rattle.plan_model.specs.declared.model.Outcome.{Outcome}
-use Rattle.delay_table.specs.Delays.{type_rows}
-use Rattle.delay_table.specs.Read.{read_outcomes}
+use Rattle.delay_table.proofs.Common.{◌++◌, ◌∷◌, ◌∙◌, [], ap, ap₂, map, List, Outcome, type_rows, read_outcomes}
 use Rattle.delay_table.proofs.table.type_classes.Goals as goal
 
 pub returns : goal.returns

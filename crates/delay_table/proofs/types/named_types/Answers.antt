@@ -1,5 +1,4 @@
-use Rattle.std.proofs.Common.{◌∙◌, ap, length, subst, List, ℕ, IsPermutation}
-use Rattle.std.proofs.lemmas.List.Sorted.{length_permutation}
+use Rattle.delay_table.proofs.Common.{◌∙◌, ap, length, subst, List, ℕ, IsPermutation, length_permutation}
 use Rattle.delay_table.proofs.PlainTypes.{sorted-are-route_types_below}
 use Rattle.delay_table.proofs.types.named_types.Goals as goal
 

@@ -1,5 +1,4 @@
-use Rattle.std.proofs.Common.{◌++◌, ◌∙◌, ap, sym}
-use Rattle.delay_table.specs.Groups.{group_in, listed, plain_type}
+use Rattle.delay_table.proofs.Common.{◌++◌, ◌∙◌, ap, sym, group_in, listed, plain_type}
 use Rattle.delay_table.proofs.PlainTypes.{plain-none, plain-next}
 use Rattle.delay_table.proofs.types.plain_types.Goals as goal
 

@@ -1,5 +1,4 @@
-use Rattle.std.proofs.Common.{◌≡◌}
-use Rattle.delay_table.specs.Groups.{plain_types}
+use Rattle.delay_table.proofs.Common.{◌≡◌, plain_types}
 use Rattle.delay_table.proofs.types.plain_types.Given as goal
 
 abbrev pub invariant-loop-index : goal.invariant-loop-index

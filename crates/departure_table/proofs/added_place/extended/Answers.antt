@@ -1,7 +1,4 @@
-use Rattle.std.proofs.Common.{◌++◌, [], ◌∷◌, ap, sym, ◌∙◌, subst}
-use Rattle.plan_model.specs.NetworkModel.{NetworkModel}
-use Rattle.plan_model.specs.View.{IsExtension, extended}
-use Rattle.plan_model.proofs.Extended.{is_extension}
+use Rattle.departure_table.proofs.Common.{◌++◌, [], ◌∷◌, ap, sym, ◌∙◌, subst, NetworkModel, IsExtension, extended, is_extension}
 use Rattle.plan_model.proofs.SameParts.{same_parts}
 use Rattle.departure_table.proofs.Added.{plain_valid, as_many_links, are_links}
 use Rattle.departure_table.proofs.Sources.{second_away}

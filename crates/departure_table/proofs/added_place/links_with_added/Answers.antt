@@ -1,6 +1,4 @@
-use Rattle.std.proofs.Common.{◌≡◌, length, map, arith, ap, ◌∙◌}
-use Rattle.std.specs.List.{range_with_len}
-use Rattle.plan_model.specs.View.{links_from_added}
+use Rattle.departure_table.proofs.Common.{◌≡◌, length, map, arith, ap, ◌∙◌, range_with_len, links_from_added}
 use Rattle.departure_table.proofs.Added.{links_more, none_added}
 use Rattle.departure_table.proofs.added_place.links_with_added.Goals as goal
 

@@ -1,6 +1,4 @@
-use Rattle.std.proofs.Common.{◌≡◌, map}
-use Rattle.std.specs.List.{range_with_len}
-use Rattle.plan_model.specs.View.{links_from_added}
+use Rattle.departure_table.proofs.Common.{◌≡◌, map, range_with_len, links_from_added}
 use Rattle.departure_table.proofs.added_place.links_with_added.Given as goal
 
 abbrev pub invariant-loop-place : goal.invariant-loop-place

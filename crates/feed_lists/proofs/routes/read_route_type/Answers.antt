@@ -1,4 +1,4 @@
-use Rattle.std.proofs.Common.{arith}
+use Rattle.feed_lists.proofs.Common.{arith}
 use Rattle.clock_text.proofs.DigitLemmas.{whole_bound}
 use Rattle.feed_lists.proofs.routes.read_route_type.Goals as goal
 

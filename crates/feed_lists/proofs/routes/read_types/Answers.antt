@@ -1,6 +1,4 @@
-use Rattle.std.proofs.Common.{ap, arith}
-use Rattle.std.specs.Result.{result_err}
-use Rattle.csv_rows.proofs.FaultLemmas.{match_raised, fault-at}
+use Rattle.feed_lists.proofs.Common.{ap, arith, result_err, match_raised, fault-at}
 use Rattle.feed_lists.proofs.RouteLemmas.{route_is}
 use Rattle.feed_lists.proofs.routes.read_types.Goals as goal
 

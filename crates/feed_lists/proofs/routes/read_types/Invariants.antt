@@ -1,7 +1,4 @@
-use Rattle.std.proofs.Common.{◌≡◌, None}
-use Rattle.csv_rows.specs.First.{first_below}
-use Rattle.csv_rows.specs.Lists.{list_below}
-use Rattle.feed_lists.specs.Routes.{bad_route, route_at, route_or_none}
+use Rattle.feed_lists.proofs.Common.{◌≡◌, None, first_below, list_below, bad_route, route_at, route_or_none}
 use Rattle.feed_lists.proofs.routes.read_types.Given as goal
 
 abbrev pub invariant-loop-i : goal.invariant-loop-i

@@ -1,9 +1,4 @@
-use Rattle.std.proofs.Common.{ap, arith}
-use Rattle.std.proofs.lemmas.List.{map-append}
-use Rattle.std.specs.Result.{result_err}
-use Rattle.csv_rows.proofs.FaultLemmas.{match_raised, fault-at}
-use Rattle.csv_rows.proofs.FirstLemmas.{first-zero, first-next}
-use Rattle.csv_rows.proofs.ListLemmas.{list_below-zero, list_below-next}
+use Rattle.feed_lists.proofs.Common.{ap, arith, map-append, result_err, match_raised, fault-at, first-zero, first-next, list_below-zero, list_below-next}
 use Rattle.feed_lists.proofs.StopLemmas.{stop_is}
 use Rattle.feed_lists.proofs.stops.read_parents.Goals as goal
 

@@ -1,7 +1,4 @@
-use Rattle.std.proofs.Common.{◌≡◌, None, map}
-use Rattle.csv_rows.specs.First.{first_below}
-use Rattle.csv_rows.specs.Lists.{list_below}
-use Rattle.feed_lists.specs.Stops.{bad_stop, parent_of}
+use Rattle.feed_lists.proofs.Common.{◌≡◌, None, map, first_below, list_below, bad_stop, parent_of}
 use Rattle.feed_lists.proofs.stops.read_parents.Given as goal
 
 abbrev pub invariant-loop-i : goal.invariant-loop-i

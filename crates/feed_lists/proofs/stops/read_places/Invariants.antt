@@ -1,7 +1,4 @@
-use Rattle.std.proofs.Common.{◌≡◌, None}
-use Rattle.csv_rows.specs.First.{first_below}
-use Rattle.csv_rows.specs.Lists.{list_below}
-use Rattle.feed_lists.specs.Stops.{unknown_parent, place_from, stop_ids, parent_of}
+use Rattle.feed_lists.proofs.Common.{◌≡◌, None, first_below, list_below, unknown_parent, place_from, stop_ids, parent_of}
 use Rattle.feed_lists.proofs.stops.read_places.Given as goal
 
 abbrev pub invariant-loop-i : goal.invariant-loop-i

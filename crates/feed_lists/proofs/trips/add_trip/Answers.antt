@@ -1,4 +1,4 @@
-use Rattle.std.proofs.Common.{arith}
+use Rattle.feed_lists.proofs.Common.{arith}
 use Rattle.plan_model.proofs.Texts.{texts-push}
 use Rattle.feed_lists.proofs.trips.add_trip.Goals as goal
 

@@ -1,11 +1,6 @@
-use Rattle.std.proofs.Common.{List, ℕ, ◌<◌, None, sym, subst, ap, ◌∙◌, arith, length, slice_index_or, All}
+use Rattle.feed_lists.proofs.Common.{List, ℕ, ◌<◌, None, sym, subst, ap, ◌∙◌, arith, length, slice_index_or, All, result_err, match_raised, fault-at, first-zero, first-next, texts, bad_trip}
+use Rattle.feed_lists.proofs.Common.{trip_at, trip_in, trip_or_none, list_below-zero, list_below-next}
 use Rattle.std.proofs.lemmas.List.Elements.{All-push, All-nil}
-use Rattle.std.specs.Result.{result_err}
-use Rattle.csv_rows.proofs.FaultLemmas.{match_raised, fault-at}
-use Rattle.csv_rows.proofs.FirstLemmas.{first-zero, first-next}
-use Rattle.plan_model.specs.NameLists.{texts}
-use Rattle.feed_lists.specs.Trips.{bad_trip, trip_at, trip_in, trip_or_none}
-use Rattle.csv_rows.proofs.ListLemmas.{list_below-zero, list_below-next}
 use Rattle.feed_lists.proofs.TripLemmas.{trip_is}
 use Rattle.feed_lists.proofs.trips.read_of_trips.Goals as goal
 

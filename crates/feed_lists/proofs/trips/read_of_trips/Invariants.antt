@@ -1,8 +1,4 @@
-use Rattle.std.proofs.Common.{◌≡◌, ◌<◌, All, length, None, slice_index_or}
-use Rattle.csv_rows.specs.First.{first_below}
-use Rattle.plan_model.specs.NameLists.{texts}
-use Rattle.csv_rows.specs.Lists.{list_below}
-use Rattle.feed_lists.specs.Trips.{bad_trip, trip_at, trip_or_none}
+use Rattle.feed_lists.proofs.Common.{◌≡◌, ◌<◌, All, length, None, slice_index_or, first_below, texts, list_below, bad_trip, trip_at, trip_or_none}
 use Rattle.feed_lists.proofs.trips.read_of_trips.Given as goal
 
 abbrev pub invariant-loop-i : goal.invariant-loop-i

@@ -1,7 +1,5 @@
-use Rattle.std.proofs.Common.{arith, rules}
-use Rattle.std.proofs.lemmas.List.{length-map}
+use Rattle.feed_lists.proofs.Common.{arith, rules, length-map, trips_fault}
 use Rattle.table_files.proofs.ReadSteps.{read_steps}
-use Rattle.feed_lists.specs.Trips.{trips_fault}
 use Rattle.feed_lists.proofs.TripLemmas.{trips_named}
 use Rattle.feed_lists.proofs.trips.read_trips.Goals as goal
 

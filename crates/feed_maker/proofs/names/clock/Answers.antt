@@ -1,5 +1,4 @@
-use Rattle.std.proofs.Common.{◌/◌, ◌%◌, arith, refl}
-use Rattle.feed_maker.specs.Names.{time_text}
+use Rattle.feed_maker.proofs.Common.{◌/◌, ◌%◌, arith, refl, time_text}
 use Rattle.feed_maker.proofs.DigitLemmas.{two_digits-bytes}
 use Rattle.feed_maker.proofs.names.clock.Goals as goal
 

@@ -1,5 +1,4 @@
-use Rattle.std.proofs.Common.{◌≡◌, ◌+◌, ◌*◌, ◌≤◌, ◌++◌, vec_len, vec_capacity}
-use Rattle.feed_maker.specs.MadeTables.{joined, run_rows}
+use Rattle.feed_maker.proofs.Common.{◌≡◌, ◌+◌, ◌*◌, ◌≤◌, ◌++◌, vec_len, vec_capacity, joined, run_rows}
 use Rattle.feed_maker.proofs.stop_times.add_line.Given as goal
 
 -- the rows of the runs so far, and the room that they took

@@ -1,5 +1,4 @@
-use Rattle.std.proofs.Common.{◌≡◌, ◌+◌, ◌*◌, ◌≤◌, ◌++◌, vec_len, vec_capacity}
-use Rattle.feed_maker.specs.MadeTables.{joined, stop_time_row}
+use Rattle.feed_maker.proofs.Common.{◌≡◌, ◌+◌, ◌*◌, ◌≤◌, ◌++◌, vec_len, vec_capacity, joined, stop_time_row}
 use Rattle.feed_maker.proofs.stop_times.add_run.Given as goal
 
 -- the rows of the places so far, and the room that they took

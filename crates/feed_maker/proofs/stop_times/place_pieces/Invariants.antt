@@ -1,5 +1,4 @@
-use Rattle.std.proofs.Common.{◌≡◌, ℕ, ◌<◌, length, slice_get, IfSome}
-use Rattle.feed_maker.specs.Pieces.{place_piece}
+use Rattle.feed_maker.proofs.Common.{◌≡◌, ℕ, ◌<◌, length, slice_get, IfSome, place_piece}
 use Rattle.feed_maker.proofs.stop_times.place_pieces.Given as goal
 
 -- the ends at the places so far

@@ -1,5 +1,4 @@
-use Rattle.std.proofs.Common.{◌≡◌, ◌++◌, codes}
-use Rattle.feed_maker.specs.MadeTables.{joined, line_rows}
+use Rattle.feed_maker.proofs.Common.{◌≡◌, ◌++◌, codes, joined, line_rows}
 use Rattle.feed_maker.proofs.stop_times.stop_times.Given as goal
 
 -- the rows of the lines so far

@@ -1,5 +1,4 @@
-use Rattle.std.proofs.Common.{◌≡◌, ◌++◌, string_bytes, codes}
-use Rattle.feed_maker.specs.MadeTables.{joined, route_row}
+use Rattle.feed_maker.proofs.Common.{◌≡◌, ◌++◌, string_bytes, codes, joined, route_row}
 use Rattle.feed_maker.proofs.tables.routes.Given as goal
 
 -- the rows of the lines so far

@@ -1,5 +1,4 @@
-use Rattle.std.proofs.Common.{◌≡◌, ◌++◌, string_bytes, codes}
-use Rattle.feed_maker.specs.MadeTables.{joined, hub_row, own_rows}
+use Rattle.feed_maker.proofs.Common.{◌≡◌, ◌++◌, string_bytes, codes, joined, hub_row, own_rows}
 use Rattle.feed_maker.proofs.tables.stops.Given as goal
 
 -- the rows of the lines so far

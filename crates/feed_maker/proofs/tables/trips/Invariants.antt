@@ -1,5 +1,4 @@
-use Rattle.std.proofs.Common.{◌≡◌, ◌++◌, string_bytes, codes}
-use Rattle.feed_maker.specs.MadeTables.{joined, trip_rows}
+use Rattle.feed_maker.proofs.Common.{◌≡◌, ◌++◌, string_bytes, codes, joined, trip_rows}
 use Rattle.feed_maker.proofs.tables.trips.Given as goal
 
 -- the rows of the lines so far

@@ -1,5 +1,4 @@
-use Rattle.std.proofs.Common.{◌≡◌, ◌++◌, string_bytes}
-use Rattle.feed_maker.specs.MadeTables.{joined, hub_row}
+use Rattle.feed_maker.proofs.Common.{◌≡◌, ◌++◌, string_bytes, joined, hub_row}
 use Rattle.feed_maker.proofs.tables.write_hubs.Given as goal
 
 -- the rows of the hubs so far

@@ -1,5 +1,4 @@
-use Rattle.std.proofs.Common.{◌≡◌, ◌++◌, string_bytes}
-use Rattle.feed_maker.specs.MadeTables.{joined, own_row}
+use Rattle.feed_maker.proofs.Common.{◌≡◌, ◌++◌, string_bytes, joined, own_row}
 use Rattle.feed_maker.proofs.tables.write_own_stops.Given as goal
 
 -- the rows of the stops so far

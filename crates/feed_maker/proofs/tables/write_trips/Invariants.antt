@@ -1,5 +1,4 @@
-use Rattle.std.proofs.Common.{◌≡◌, ◌++◌, string_bytes}
-use Rattle.feed_maker.specs.MadeTables.{joined, trip_row}
+use Rattle.feed_maker.proofs.Common.{◌≡◌, ◌++◌, string_bytes, joined, trip_row}
 use Rattle.feed_maker.proofs.tables.write_trips.Given as goal
 
 -- the rows of the runs so far

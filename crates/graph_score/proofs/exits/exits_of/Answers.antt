@@ -1,7 +1,4 @@
-use Rattle.std.proofs.Common.{List, map, take_all, ◌∙◌, ap}
-use Rattle.graph_score.specs.declared.legs.GraphLeg.{GraphLeg}
-use Rattle.plan_model.specs.Order.{departure_of}
-use Rattle.graph_score.specs.Exits.{exit_of}
+use Rattle.graph_score.proofs.Common.{List, map, take_all, ◌∙◌, ap, GraphLeg, departure_of, exit_of}
 use Rattle.graph_score.proofs.ExitLemmas.{exits_in_order}
 use Rattle.graph_score.proofs.exits.exits_of.Goals as goal
 

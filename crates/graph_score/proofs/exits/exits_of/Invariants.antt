@@ -1,6 +1,4 @@
-use Rattle.std.proofs.Common.{◌≡◌, map, take}
-use Rattle.plan_model.specs.Order.{departure_of}
-use Rattle.graph_score.specs.Exits.{exit_of}
+use Rattle.graph_score.proofs.Common.{◌≡◌, map, take, departure_of, exit_of}
 use Rattle.graph_score.proofs.exits.exits_of.Given as goal
 
 -- the exits of the legs so far

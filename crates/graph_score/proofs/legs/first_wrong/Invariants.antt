@@ -1,5 +1,4 @@
-use Rattle.std.specs.List.{AllWithin}
-use Rattle.graph_score.specs.Legs.{IsFitLeg}
+use Rattle.graph_score.proofs.Common.{AllWithin, IsFitLeg}
 use Rattle.graph_score.proofs.legs.first_wrong.Given as goal
 
 -- those that were looked at fit

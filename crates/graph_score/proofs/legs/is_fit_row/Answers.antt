@@ -1,5 +1,4 @@
-use Rattle.std.proofs.Common.{arith}
-use Rattle.std.proofs.lemmas.Bool.{both_ways}
+use Rattle.graph_score.proofs.Common.{arith, both_ways}
 use Rattle.graph_score.proofs.GraphLegs.{fit_place}
 use Rattle.graph_score.proofs.legs.is_fit_row.Goals as goal
 use Rattle.graph_score.proofs.legs.is_fit_row.Goals.{then-place-places-via-then-place-places, then-place-places-via-else-place-places+then-not-is_leg}

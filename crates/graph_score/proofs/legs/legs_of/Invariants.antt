@@ -1,5 +1,4 @@
-use Rattle.std.proofs.Common.{◌≡◌, ◌++◌, drop, flat_map}
-use Rattle.graph_score.specs.Legs.{legs_in, legs_of}
+use Rattle.graph_score.proofs.Common.{◌≡◌, ◌++◌, drop, flat_map, legs_in, legs_of}
 use Rattle.graph_score.proofs.legs.legs_of.Given as goal
 
 -- the legs so far, and those that remain

@@ -1,5 +1,4 @@
-use Rattle.std.proofs.Common.{◌≡◌, ◌++◌, drop, map}
-use Rattle.graph_score.specs.declared.legs.GraphLeg.TheVariants.{Row}
+use Rattle.graph_score.proofs.Common.{◌≡◌, ◌++◌, drop, map, Row}
 use Rattle.graph_score.proofs.legs.push_rows.Given as goal
 
 -- the legs so far, and those that remain

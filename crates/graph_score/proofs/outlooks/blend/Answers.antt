@@ -1,4 +1,4 @@
-use Rattle.std.proofs.Common.{sym, ◌∙◌}
+use Rattle.graph_score.proofs.Common.{sym, ◌∙◌}
 use Rattle.graph_score.proofs.Failures.{length_spans}
 use Rattle.graph_score.proofs.outlooks.blend.Goals as goal
 

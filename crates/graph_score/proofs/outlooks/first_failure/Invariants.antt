@@ -1,5 +1,4 @@
-use Rattle.std.proofs.Common.{◌≡◌, drop, None}
-use Rattle.graph_score.specs.Steps.{first_failure_of}
+use Rattle.graph_score.proofs.Common.{◌≡◌, drop, None, first_failure_of}
 use Rattle.graph_score.proofs.outlooks.first_failure.Given as goal
 
 -- the first so far, and those that remain

@@ -1,6 +1,4 @@
-use Rattle.std.proofs.Common.{◌≡◌, ◌+◌, ◌++◌, drop, length}
-use Rattle.arrayvec.specs.ArrayVec.{array_vec_len}
-use Rattle.graph_score.specs.Steps.{spans_in}
+use Rattle.graph_score.proofs.Common.{◌≡◌, ◌+◌, ◌++◌, drop, length, array_vec_len, spans_in}
 use Rattle.graph_score.proofs.outlooks.mean.Given as goal
 
 -- the bounds so far, and those that remain

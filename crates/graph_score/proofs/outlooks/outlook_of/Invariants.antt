@@ -1,6 +1,4 @@
-use Rattle.std.proofs.Common.{◌≡◌, take}
-use Rattle.arrayvec.specs.ArrayVec.{array_vec_len}
-use Rattle.graph_score.specs.Steps.{outlooks_after}
+use Rattle.graph_score.proofs.Common.{◌≡◌, take, array_vec_len, outlooks_after}
 use Rattle.graph_score.proofs.outlooks.outlook_of.Given as goal
 
 -- what comes of the outcomes so far

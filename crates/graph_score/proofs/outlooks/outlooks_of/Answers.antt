@@ -1,4 +1,4 @@
-use Rattle.std.proofs.Common.{arith}
+use Rattle.graph_score.proofs.Common.{arith}
 use Rattle.graph_score.proofs.GraphLegs.{exits_there}
 use Rattle.graph_score.proofs.Looks.{are_ready, reported_first, reported_there, reported_next, reported_last}
 use Rattle.graph_score.proofs.outlooks.outlooks_of.Goals as goal

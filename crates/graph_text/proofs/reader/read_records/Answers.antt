@@ -1,7 +1,4 @@
-use Rattle.std.proofs.Common.{◌∙◌, Ok, Result, sym, ap}
-use Rattle.plan_model.specs.Results.{and_then}
-use Rattle.plan_graph.specs.declared.PlanGraph.{PlanGraph}
-use Rattle.graph_text.specs.declared.reader.TextFault.{TextFault}
+use Rattle.graph_text.proofs.Common.{◌∙◌, Ok, Result, sym, ap, and_then, PlanGraph, TextFault}
 use Rattle.graph_text.proofs.Tables.{reported_by}
 use Rattle.graph_text.proofs.reader.read_records.Goals as goal
 

@@ -1,6 +1,5 @@
-use Rattle.std.proofs.Common.{sym, refl}
+use Rattle.graph_text.proofs.Common.{sym, refl, rows_leave, rides_leave}
 use Rattle.plan_model.specs.Unfold.{end_of}
-use Rattle.graph_text.specs.Versions.{rows_leave, rides_leave}
 use Rattle.graph_text.proofs.Leaving.{fails_at, passes_at}
 use Rattle.graph_text.proofs.version.rides_leave.Goals as goal
 

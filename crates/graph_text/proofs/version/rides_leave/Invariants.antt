@@ -1,5 +1,4 @@
-use Rattle.std.proofs.Common.{◌≡◌, drop}
-use Rattle.graph_text.specs.Versions.{rides_leave}
+use Rattle.graph_text.proofs.Common.{◌≡◌, drop, rides_leave}
 use Rattle.graph_text.proofs.version.rides_leave.Given as goal
 
 -- what remains gives what all of it does

@@ -1,6 +1,4 @@
-use Rattle.std.proofs.Common.{sym, refl, ◌==◌}
-use Rattle.plan_model.specs.Network.{from_of}
-use Rattle.graph_text.specs.Versions.{rows_leave}
+use Rattle.graph_text.proofs.Common.{sym, refl, ◌==◌, from_of, rows_leave}
 use Rattle.graph_text.proofs.Leaving.{fails_at, passes_at}
 use Rattle.graph_text.proofs.version.rows_leave.Goals as goal
 

@@ -1,5 +1,4 @@
-use Rattle.std.proofs.Common.{sym, refl}
-use Rattle.graph_text.specs.Versions.{rows_leave, tables_leave}
+use Rattle.graph_text.proofs.Common.{sym, refl, rows_leave, tables_leave}
 use Rattle.graph_text.proofs.Leaving.{fails_at, passes_at}
 use Rattle.graph_text.proofs.version.tables_leave.Goals as goal
 

@@ -1,5 +1,4 @@
-use Rattle.std.proofs.Common.{◌∙◌}
-use Rattle.csv_rows.proofs.FaultLemmas.{some_raised}
+use Rattle.gtfs_tables.proofs.Common.{◌∙◌, some_raised}
 use Rattle.gtfs_tables.proofs.FeedLemmas.{if_same, fault_at_stops, fault_at_routes, fault_at_trips, lists_of}
 use Rattle.gtfs_tables.proofs.lists.load_lists.Goals as goal
 

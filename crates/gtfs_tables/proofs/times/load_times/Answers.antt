@@ -1,4 +1,4 @@
-use Rattle.csv_rows.proofs.FaultLemmas.{some_raised}
+use Rattle.gtfs_tables.proofs.Common.{some_raised}
 use Rattle.gtfs_tables.proofs.FeedLemmas.{if_same, fault_at_times, fault_at_repeats, times_of}
 use Rattle.gtfs_tables.proofs.times.load_times.Goals as goal
 

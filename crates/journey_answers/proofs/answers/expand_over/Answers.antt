@@ -1,5 +1,4 @@
-use Rattle.journey_answers.specs.Answers.{AnswersExpand}
-use Rattle.journey_report.specs.Findings.{findings_of}
+use Rattle.journey_answers.proofs.Common.{AnswersExpand, findings_of}
 use Rattle.journey_answers.proofs.Sought.{in_query}
 use Rattle.journey_answers.proofs.answers.expand_over.Goals as goal
 

@@ -1,4 +1,4 @@
-use Rattle.decision_graph.specs.Expanded.{IsNoneSafe}
+use Rattle.journey_answers.proofs.Common.{IsNoneSafe}
 use Rattle.journey_answers.proofs.Sought.{none_is_safe, match_none}
 use Rattle.journey_answers.proofs.answers.planned_of.Goals as goal
 

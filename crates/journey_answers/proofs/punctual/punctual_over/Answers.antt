@@ -1,10 +1,5 @@
-use Rattle.std.proofs.Common.{subst, sym}
-use Rattle.std.proofs.lemmas.Option.{MatchOption-at_some}
-use Rattle.decision_graph.specs.Expanded.{IsNoneSafe}
-use Rattle.journey_model.specs.declared.problem.Problem.{Problem}
-use Rattle.journey_answers.specs.Answers.{IsWorst}
+use Rattle.journey_answers.proofs.Common.{subst, sym, MatchOption-at_some, IsNoneSafe, Problem, IsWorst, findings_of}
 use Rattle.journey_answers.specs.Punctual.{AnswersPunctual}
-use Rattle.journey_report.specs.Findings.{findings_of}
 use Rattle.journey_answers.proofs.Sought.{in_query, none_is_safe, match_none}
 use Rattle.journey_answers.proofs.punctual.punctual_over.Goals as goal
 

@@ -1,6 +1,4 @@
-use Rattle.std.proofs.Common.{subst}
-use Rattle.plan_graph.specs.Unfold.{unfold_plan}
-use Rattle.graph_score.specs.Scores.{IsScoreOf}
+use Rattle.journey_answers.proofs.Common.{subst, unfold_plan, IsScoreOf}
 use Rattle.journey_answers.proofs.Unsafe.{unsafe_has_site}
 use Rattle.journey_answers.proofs.scores.score_over.Goals as goal
 

@@ -1,13 +1,7 @@
-use Rattle.std.proofs.Common.{◌≡◌, ℕ, List, Some, None, Err, ◌≤◌, ◌∙◌, sym, subst, arith, ◌≢◌}
-use Rattle.trip_replay.specs.Walk.{IsAnswer}
+use Rattle.journey_answers.proofs.Common.{◌≡◌, ℕ, List, Some, None, Err, ◌≤◌, ◌∙◌, sym, subst, arith, ◌≢◌, IsAnswer, NoMemory, unread_input, last_printable, HasSite, parts_of, replay_as, trip_by}
+use Rattle.journey_answers.proofs.Common.{IsTripFault, arrivals}
 use Rattle.journey_model.specs.declared.faults.Fault.{Fault}
-use Rattle.journey_model.specs.declared.faults.Fault.TheVariants.{NoMemory}
-use Rattle.journey_model.specs.Faults.{unread_input}
-use Rattle.journey_model.specs.Sites.{last_printable, HasSite}
-use Rattle.journey_model.specs.Known.{parts_of}
 use Rattle.command_line.specs.Jobs.{late_in}
-use Rattle.journey_answers.specs.Trips.{replay_as, trip_by, IsTripFault}
-use Rattle.journey_report.proofs.TextLemmas.{arrivals}
 use Rattle.journey_answers.proofs.TripFaults.{stuck_has_site, trip_fault, replay_unread}
 use Rattle.journey_answers.proofs.trips.trip_over.Goals as goal
 

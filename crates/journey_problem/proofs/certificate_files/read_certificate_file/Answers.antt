@@ -1,4 +1,4 @@
-use Rattle.csv_rows.proofs.FaultLemmas.{if_raised}
+use Rattle.journey_problem.proofs.Common.{if_raised}
 use Rattle.journey_model.specs.declared.faults.Input.TheVariants as input
 use Rattle.journey_problem.proofs.Causes.{causes-quiet}
 use Rattle.journey_problem.proofs.FeedSteps.{none_unread_of}

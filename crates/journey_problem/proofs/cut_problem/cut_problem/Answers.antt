@@ -1,8 +1,5 @@
-use Rattle.std.proofs.lemmas.Result.{IfOk-weaker, IfErr-weaker}
-use Rattle.command_line.specs.Jobs.{CutFile}
-use Rattle.command_line.specs.Shown.{journey_shown}
+use Rattle.journey_problem.proofs.Common.{IfOk-weaker, IfErr-weaker, CutFile, journey_shown, path_by}
 use Rattle.journey_model.specs.declared.faults.Input.TheVariants as input
-use Rattle.journey_problem.specs.Files.{path_by}
 use Rattle.journey_problem.proofs.Causes.{causes-then}
 use Rattle.journey_problem.proofs.FeedSteps.{if_some_both}
 use Rattle.journey_problem.proofs.cut_problem.cut_problem.Goals as goal

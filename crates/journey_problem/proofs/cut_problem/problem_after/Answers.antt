@@ -1,9 +1,8 @@
-use Rattle.command_line.specs.Shown.{journey_shown}
+use Rattle.journey_problem.proofs.Common.{journey_shown, IfSome_then}
 use Rattle.journey_model.specs.declared.faults.Input.TheVariants as input
 use Rattle.journey_problem.proofs.Causes.{causes-quiet}
 use Rattle.journey_problem.proofs.CutSteps.{cut_timetable, cut_file_problem, stop_first, delay_first}
 use Rattle.journey_problem.proofs.FeedSteps.{none_unread_of}
-use Rattle.std.proofs.lemmas.Option.{IfSome_then}
 use Rattle.journey_problem.proofs.cut_problem.problem_after.Goals as goal
 
 pub returns-in-Err-clause-fault : goal.returns-in-Err-clause-fault

@@ -1,11 +1,4 @@
-use Rattle.std.proofs.Common.{◌≡◌, ◌∙◌, List, ℕ, Some, None, ap, arith, subst}
-use Rattle.std.proofs.lemmas.Option.{slice_get_within}
-use Rattle.csv_rows.proofs.FaultLemmas.{if_raised}
-use Rattle.cut_file.specs.CutNetwork.{IsCutNetwork}
-use Rattle.cut_file.specs.Read.{IsCutRead}
-use Rattle.plan_model.specs.NameLists.{NameLists}
-use Rattle.journey_problem.specs.CutProblems.{stop_fault}
-use Rattle.journey_problem.specs.Files.{Records}
+use Rattle.journey_problem.proofs.Common.{◌≡◌, ◌∙◌, List, ℕ, Some, None, ap, arith, subst, slice_get_within, if_raised, IsCutNetwork, IsCutRead, NameLists, stop_fault, Records}
 use Rattle.journey_problem.proofs.CutSteps.{of_parts}
 use Rattle.journey_problem.proofs.cut_problem.problem_in.Goals as goal
 

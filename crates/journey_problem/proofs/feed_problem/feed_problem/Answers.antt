@@ -1,13 +1,6 @@
-use Rattle.std.proofs.Common.{◌∙◌, ap, inl, inr}
-use Rattle.std.proofs.lemmas.Result.{IfOk-weaker, IfErr-weaker}
-use Rattle.command_line.specs.Jobs.{FeedFolder}
-use Rattle.command_line.specs.Shown.{journey_shown}
+use Rattle.journey_problem.proofs.Common.{◌∙◌, ap, inl, inr, IfOk-weaker, IfErr-weaker, FeedFolder, journey_shown, feed_as, path_by, gtfs_folder_of, IfSome_then}
 use Rattle.journey_model.specs.declared.faults.Input.TheVariants as input
-use Rattle.journey_problem.specs.FeedProblems.{feed_as}
-use Rattle.journey_problem.specs.Files.{path_by}
-use Rattle.journey_problem.specs.Folders.{gtfs_folder_of}
 use Rattle.journey_problem.proofs.Loads.{if_some_any}
-use Rattle.std.proofs.lemmas.Option.{IfSome_then}
 use Rattle.journey_problem.proofs.Causes.{causes-then}
 use Rattle.journey_problem.proofs.FeedSteps.{if_some_both}
 use Rattle.journey_problem.proofs.feed_problem.feed_problem.Goals as goal

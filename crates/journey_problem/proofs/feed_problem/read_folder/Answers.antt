@@ -1,7 +1,5 @@
-use Rattle.std.proofs.Common.{inl, inr}
+use Rattle.journey_problem.proofs.Common.{inl, inr, causes-next, IfSome_then}
 use Rattle.journey_problem.proofs.FeedSteps.{if_some_both}
-use Rattle.file_ports.proofs.CauseLemmas.{causes-next}
-use Rattle.std.proofs.lemmas.Option.{IfSome_then}
 use Rattle.journey_problem.proofs.feed_problem.read_folder.Goals as goal
 
 pub returns-in-Err-clause-fault : goal.returns-in-Err-clause-fault

@@ -1,9 +1,5 @@
-use Rattle.std.proofs.Common.{inl, inr, refl, IsOk, IsOkAnd, None, Result, Ok, Err}
-use Rattle.service_days.specs.Services.{runs}
-use Rattle.service_days.specs.Calendars.{calendars_in, RunsBy}
+use Rattle.journey_problem.proofs.Common.{inl, inr, refl, IsOk, IsOkAnd, None, Result, Ok, Err, runs, calendars_in, RunsBy, causes-next, IfSome_then}
 use Rattle.journey_problem.proofs.FeedSteps.{if_some_both}
-use Rattle.file_ports.proofs.CauseLemmas.{causes-next}
-use Rattle.std.proofs.lemmas.Option.{IfSome_then}
 use Rattle.journey_problem.proofs.feed_problem.read_rules.Goals as goal
 
 -- an answer of which something holds is one

@@ -1,9 +1,7 @@
-use Rattle.file_ports.specs.Ports.{file_at}
+use Rattle.journey_problem.proofs.Common.{file_at, IfSome_then, IfOk-weaker}
 use Rattle.journey_model.specs.declared.faults.Input.TheVariants as input
 use Rattle.journey_problem.proofs.Causes.{causes-quiet}
 use Rattle.journey_problem.proofs.FeedSteps.{none_unread_of}
-use Rattle.std.proofs.lemmas.Option.{IfSome_then}
-use Rattle.std.proofs.lemmas.Result.{IfOk-weaker}
 use Rattle.graph_text.proofs.Accepted.{graph_deadline}
 use Rattle.journey_problem.proofs.GraphFiles.{graph_finds}
 use Rattle.journey_problem.proofs.graph_files.read_graph_file.Goals as goal

@@ -1,8 +1,6 @@
-use Rattle.std.proofs.Common.{◌+◌, refl}
+use Rattle.journey_problem.proofs.Common.{◌+◌, refl, file_at, causes-of}
 use Rattle.journey_problem.proofs.Loads.{if_some_any, bytes_of-unread}
 use Rattle.journey_problem.proofs.FactsBeforeSearch.{early_read, early_missing, early_limit}
-use Rattle.file_ports.specs.Ports.{file_at}
-use Rattle.file_ports.proofs.CauseLemmas.{causes-of}
 use Rattle.journey_problem.proofs.inputs.load_bytes.Goals as goal
 
 pub returns-in-Err-Read-clause-bytes : goal.returns-in-Err-Read-clause-bytes

@@ -1,9 +1,6 @@
-use Rattle.command_line.specs.Jobs.{CutFile}
-use Rattle.file_ports.specs.Ports.{file_at}
+use Rattle.journey_problem.proofs.Common.{CutFile, file_at, IfSome_then, if_raised}
 use Rattle.journey_problem.proofs.TableSteps.{cut_of_some, cut_none, cut_first}
-use Rattle.std.proofs.lemmas.Option.{IfSome_then}
 use Rattle.journey_problem.proofs.inputs.read_cut_file.Goals as goal
-use Rattle.csv_rows.proofs.FaultLemmas.{if_raised}
 
 pub returns-in_err-rows-clause-early : goal.returns-in_err-rows-clause-early
 returns-in_err-rows-clause-early g c = if_raised _ c.from_residual.result c.from_residual.ensures (c.in_err-rows.ensures.early (CutFile c.args.path.now) tt)

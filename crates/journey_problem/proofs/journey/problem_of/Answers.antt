@@ -1,10 +1,5 @@
-use Rattle.std.proofs.Common.{◌≡◌, Result, ap, sym, subst, IfOk}
+use Rattle.journey_problem.proofs.Common.{◌≡◌, Result, ap, sym, subst, IfOk, TimetableModel, CutFile, FeedFolder, JourneyModel, journey_shown, timetable_shown, Fault, Problem, HasTimetable}
 use Rattle.command_line.specs.declared.job.Timetable.{Timetable}
-use Rattle.command_line.specs.Jobs.{TimetableModel, CutFile, FeedFolder, JourneyModel}
-use Rattle.command_line.specs.Shown.{journey_shown, timetable_shown}
-use Rattle.journey_model.specs.declared.faults.Fault.{Fault}
-use Rattle.journey_model.specs.declared.problem.Problem.{Problem}
-use Rattle.journey_problem.specs.Problems.{HasTimetable}
 use Rattle.journey_problem.proofs.journey.problem_of.Goals as goal
 
 sound : (timetable : TimetableModel) (j : JourneyModel) (r : Result Problem Fault) → j.timetable ≡ timetable → IfOk r (HasTimetable timetable j) → IfOk r (HasTimetable j.timetable j)

@@ -1,10 +1,4 @@
-use Rattle.std.proofs.Common.{[], ◌∷◌, ap, ◌∙◌, arith, decimal}
-use Rattle.clock_text.specs.Civil.{nanos_text}
-use Rattle.plan_model.specs.declared.model.Connection.{Connection}
-use Rattle.printed_rows.proofs.Connections.{run_named}
-use Rattle.printed_rows.proofs.Lines.{name_is}
-use Rattle.printed_rows.specs.Writers.{run_name}
-use Rattle.journey_report.specs.DepartureTexts.{departure_text}
+use Rattle.journey_report.proofs.Common.{[], ◌∷◌, ap, ◌∙◌, arith, decimal, nanos_text, Connection, run_named, name_is, run_name, departure_text}
 use Rattle.journey_report.proofs.RowLemmas.{row-of}
 use Rattle.journey_report.proofs.departure_texts.departure_text.Goals as goal
 

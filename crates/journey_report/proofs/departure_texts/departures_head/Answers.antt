@@ -1,5 +1,4 @@
-use Rattle.std.proofs.Common.{[], ◌∷◌, ◌∙◌}
-use Rattle.journey_report.specs.DepartureTexts.{departures_head}
+use Rattle.journey_report.proofs.Common.{[], ◌∷◌, ◌∙◌, departures_head}
 use Rattle.journey_report.proofs.RowLemmas.{row-of}
 use Rattle.journey_report.proofs.departure_texts.departures_head.Goals as goal
 

@@ -1,7 +1,5 @@
-use Rattle.std.proofs.Common.{ℕ, List, ◌++◌, length, ap, ◌∙◌}
-use Rattle.printed_rows.specs.Writers.{place_name}
+use Rattle.journey_report.proofs.Common.{ℕ, List, ◌++◌, length, ap, ◌∙◌, place_name, departures_head, departure_text, departures_text, rows_text}
 use Rattle.plan_model.specs.declared.model.Query.{Query}
-use Rattle.journey_report.specs.DepartureTexts.{departures_head, departure_text, departures_text, rows_text}
 use Rattle.journey_report.proofs.DepartureLines.{rows_step, rows_end}
 use Rattle.journey_report.proofs.departure_texts.departures_text.Goals as goal
 

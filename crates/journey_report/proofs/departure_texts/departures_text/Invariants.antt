@@ -1,5 +1,4 @@
-use Rattle.std.proofs.Common.{◌≡◌, ◌++◌, drop}
-use Rattle.journey_report.specs.DepartureTexts.{rows_text, departures_text}
+use Rattle.journey_report.proofs.Common.{◌≡◌, ◌++◌, drop, rows_text, departures_text}
 use Rattle.journey_report.proofs.departure_texts.departures_text.Given as goal
 
 -- the text so far, and that of the rows that remain

@@ -1,5 +1,4 @@
-use Rattle.std.proofs.Common.{[], ◌∷◌, ◌∙◌}
-use Rattle.journey_report.specs.AnswerTexts.{arrived_text}
+use Rattle.journey_report.proofs.Common.{[], ◌∷◌, ◌∙◌, arrived_text}
 use Rattle.journey_report.proofs.RowLemmas.{row-of}
 use Rattle.journey_report.proofs.texts.arrived_text.Goals as goal
 

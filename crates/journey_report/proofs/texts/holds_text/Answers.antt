@@ -1,5 +1,4 @@
-use Rattle.std.proofs.Common.{[], ◌∷◌, ◌∙◌}
-use Rattle.journey_report.specs.AnswerTexts.{holds_text}
+use Rattle.journey_report.proofs.Common.{[], ◌∷◌, ◌∙◌, holds_text}
 use Rattle.journey_report.proofs.RowLemmas.{row-of}
 use Rattle.journey_report.proofs.texts.holds_text.Goals as goal
 

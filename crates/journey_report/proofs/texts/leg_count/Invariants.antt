@@ -1,5 +1,4 @@
-use Rattle.std.proofs.Common.{◌≡◌, ◌+◌, ◌*◌, ◌≤◌, length, take, sum_by, ◌^◌}
-use Rattle.journey_report.specs.AnswerTexts.{start_count}
+use Rattle.journey_report.proofs.Common.{◌≡◌, ◌+◌, ◌*◌, ◌≤◌, length, take, sum_by, ◌^◌, start_count}
 use Rattle.journey_report.proofs.texts.leg_count.Given as goal
 
 -- the legs of the tables so far, and how many these may be

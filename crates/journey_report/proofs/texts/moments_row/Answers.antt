@@ -1,4 +1,4 @@
-use Rattle.std.proofs.Common.{[], ◌∷◌, ◌∙◌}
+use Rattle.journey_report.proofs.Common.{[], ◌∷◌, ◌∙◌}
 use Rattle.journey_report.proofs.RowLemmas.{row-of}
 use Rattle.journey_report.proofs.texts.moments_row.Goals as goal
 

@@ -1,5 +1,4 @@
-use Rattle.std.proofs.Common.{[], ◌∷◌, ap, ◌∙◌}
-use Rattle.journey_report.specs.AnswerTexts.{punctual_row}
+use Rattle.journey_report.proofs.Common.{[], ◌∷◌, ap, ◌∙◌, punctual_row}
 use Rattle.journey_report.proofs.RowLemmas.{row-of}
 use Rattle.late_chance.specs.ChanceTexts.{chance_text}
 use Rattle.journey_report.proofs.texts.punctual_row.Goals as goal

@@ -1,10 +1,4 @@
-use Rattle.std.proofs.Common.{ℕ, ◌<◌, [], ◌∷◌, length, ap, ◌∙◌, sym, subst}
-use Rattle.clock_text.specs.Civil.{moment_text}
-use Rattle.printed_rows.specs.Writers.{place_name, run_name}
-use Rattle.plan_model.specs.declared.model.Connection.{Connection}
-use Rattle.printed_rows.proofs.Connections.{dep_printable, arr_printable}
-use Rattle.printed_rows.proofs.Lines.{name_is}
-use Rattle.journey_report.specs.AnswerTexts.{ride_text}
+use Rattle.journey_report.proofs.Common.{ℕ, ◌<◌, [], ◌∷◌, length, ap, ◌∙◌, sym, subst, moment_text, place_name, run_name, Connection, dep_printable, arr_printable, name_is, ride_text}
 use Rattle.journey_report.proofs.RowLemmas.{row-of}
 use Rattle.journey_report.proofs.TextLemmas.{ride_arrival}
 use Rattle.journey_report.proofs.texts.ride_text.Goals as goal

@@ -1,7 +1,5 @@
-use Rattle.std.proofs.Common.{[], ◌∷◌, ap, ◌∙◌, decimal}
-use Rattle.journey_report.specs.AnswerTexts.{sample_text}
+use Rattle.journey_report.proofs.Common.{[], ◌∷◌, ap, ◌∙◌, decimal, sample_text, nanos_text}
 use Rattle.journey_report.proofs.RowLemmas.{row-of}
-use Rattle.clock_text.specs.Civil.{nanos_text}
 use Rattle.journey_report.proofs.texts.sample_text.Goals as goal
 
 pub returns : goal.returns

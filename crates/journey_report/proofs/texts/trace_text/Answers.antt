@@ -1,6 +1,4 @@
-use Rattle.std.proofs.Common.{◌∙◌, ◌≤◌, List, length, subst}
-use Rattle.trip_replay.specs.declared.Ridden.{Ridden}
-use Rattle.printed_rows.proofs.Lines.{name_is}
+use Rattle.journey_report.proofs.Common.{◌∙◌, ◌≤◌, List, length, subst, Ridden, name_is}
 use Rattle.journey_report.proofs.TextLemmas.{trace_end}
 use Rattle.journey_report.proofs.texts.trace_text.Goals as goal
 

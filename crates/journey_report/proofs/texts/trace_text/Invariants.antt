@@ -1,5 +1,4 @@
-use Rattle.std.proofs.Common.{◌≡◌, ◌++◌, drop}
-use Rattle.journey_report.specs.AnswerTexts.{rides_text}
+use Rattle.journey_report.proofs.Common.{◌≡◌, ◌++◌, drop, rides_text}
 use Rattle.journey_report.proofs.texts.trace_text.Given as goal
 
 -- the text so far, and that of the rides that remain

@@ -1,5 +1,4 @@
-use Rattle.std.proofs.Common.{◌≡◌, map, take}
-use Rattle.late_chance.specs.LaterGraphs.{later_row}
+use Rattle.late_chance.proofs.Common.{◌≡◌, map, take, later_row}
 use Rattle.late_chance.proofs.shift.later_rows.Given as goal
 
 abbrev pub invariant-loop-row : goal.invariant-loop-row

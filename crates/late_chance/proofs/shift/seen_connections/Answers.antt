@@ -1,7 +1,4 @@
-use Rattle.std.proofs.Common.{◌<◌, length, ap, ◌∙◌, arith}
-use Rattle.std.proofs.lemmas.List.{map_more}
-use Rattle.plan_model.specs.Network.{connection, no_connection}
-use Rattle.late_chance.specs.SeenFrom.{shifted_connection}
+use Rattle.late_chance.proofs.Common.{◌<◌, length, ap, ◌∙◌, arith, map_more, connection, no_connection, shifted_connection}
 use Rattle.late_chance.proofs.shift.seen_connections.Goals as goal
 
 pub loop-id-preserved : goal.loop-id-preserved

@@ -1,5 +1,4 @@
-use Rattle.std.proofs.Common.{◌≡◌, map, take}
-use Rattle.late_chance.specs.SeenFrom.{shifted_connection}
+use Rattle.late_chance.proofs.Common.{◌≡◌, map, take, shifted_connection}
 use Rattle.late_chance.proofs.shift.seen_connections.Given as goal
 
 abbrev pub invariant-loop-id : goal.invariant-loop-id

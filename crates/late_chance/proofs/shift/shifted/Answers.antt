@@ -1,7 +1,5 @@
-use Rattle.std.proofs.Common.{◌≡◌, ◌-◌, arith}
+use Rattle.late_chance.proofs.Common.{◌≡◌, ◌-◌, arith, IsView, seconds_per_week}
 use Rattle.std.proofs.lemmas.Result.{IfOk-weaker}
-use Rattle.plan_model.specs.View.{IsView}
-use Rattle.late_chance.specs.Chances.{seconds_per_week}
 use Rattle.late_chance.proofs.SeenFrom.{valid, view}
 use Rattle.late_chance.proofs.shift.shifted.Goals as goal
 

@@ -1,5 +1,4 @@
-use Rattle.std.proofs.Common.{◌≡◌, map, take}
-use Rattle.late_chance.specs.LaterGraphs.{later_table}
+use Rattle.late_chance.proofs.Common.{◌≡◌, map, take, later_table}
 use Rattle.late_chance.proofs.shift.unshifted.Given as goal
 
 abbrev pub invariant-loop-table : goal.invariant-loop-table

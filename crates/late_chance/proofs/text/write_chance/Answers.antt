@@ -1,5 +1,4 @@
-use Rattle.std.proofs.Common.{ℕ, ◌+◌, ◌/◌, ◌%◌, List, ◌∷◌, ap, sym}
-use Rattle.plan_model.specs.Bounds.{certainty}
+use Rattle.late_chance.proofs.Common.{ℕ, ◌+◌, ◌/◌, ◌%◌, List, ◌∷◌, ap, sym, certainty}
 use Rattle.late_chance.proofs.Spelled.{digits-spelled}
 use Rattle.late_chance.proofs.text.write_chance.Goals as goal
 

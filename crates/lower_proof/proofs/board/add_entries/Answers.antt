@@ -1,9 +1,5 @@
-use Rattle.std.proofs.Common.{◌≡◌, ◌+◌, ◌-◌, ◌<◌, ◌∙◌, length, slice_get, Some, arith, subst, ap, length-set}
-use Rattle.std.proofs.lemmas.List.{get_or_default}
-use Rattle.plan_model.specs.declared.model.Connection.{Connection}
-use Rattle.plan_model.specs.Network.{from_of, dep_of}
-use Rattle.plan_model.specs.Ways.{ways_into}
-use Rattle.plan_model.proofs.Boarding.{way_takes, way_of-listed}
+use Rattle.lower_proof.proofs.Common.{◌≡◌, ◌+◌, ◌-◌, ◌<◌, ◌∙◌, length, slice_get, Some, arith, subst, ap, length-set, get_or_default, Connection, from_of, dep_of, ways_into, way_takes}
+use Rattle.lower_proof.proofs.Common.{way_of-listed}
 use Rattle.lower_proof.proofs.Entries.{no_board, no_ways, all_ways, way_passed, way_added}
 use Rattle.lower_proof.proofs.board.add_entries.Goals as goal
 use Rattle.lower_proof.proofs.board.add_entries.Goals.{then-seconds-connection+in_ok-add, else-seconds-connection}

@@ -1,5 +1,4 @@
-use Rattle.std.proofs.Common.{◌≡◌, ℕ, length}
-use Rattle.lower_proof.specs.Minima.{HaveEntries}
+use Rattle.lower_proof.proofs.Common.{◌≡◌, ℕ, length, HaveEntries}
 use Rattle.lower_proof.proofs.Entries.{HaveWays}
 use Rattle.lower_proof.proofs.board.add_entries.Given as goal
 

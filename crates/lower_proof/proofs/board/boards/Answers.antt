@@ -1,7 +1,4 @@
-use Rattle.std.proofs.Common.{◌≡◌, length, arith, take_at}
-use Rattle.std.proofs.lemmas.Bool.{both_ways}
-use Rattle.plan_model.specs.Network.{count}
-use Rattle.lower_proof.specs.Minima.{HaveEntries}
+use Rattle.lower_proof.proofs.Common.{◌≡◌, length, arith, take_at, both_ways, count, HaveEntries}
 use Rattle.lower_proof.proofs.Entries.{entries_skipped}
 use Rattle.lower_proof.proofs.board.boards.Goals as goal
 use Rattle.lower_proof.proofs.board.boards.Goals.{then-boards_by+in_ok-add_entries, else-boards_by}

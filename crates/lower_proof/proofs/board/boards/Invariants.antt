@@ -1,6 +1,4 @@
-use Rattle.std.proofs.Common.{◌≡◌, length}
-use Rattle.plan_model.specs.Network.{IsValid}
-use Rattle.lower_proof.specs.Minima.{HaveEntries}
+use Rattle.lower_proof.proofs.Common.{◌≡◌, length, IsValid, HaveEntries}
 use Rattle.lower_proof.proofs.board.boards.Given as goal
 
 abbrev pub invariant-loop-i : goal.invariant-loop-i

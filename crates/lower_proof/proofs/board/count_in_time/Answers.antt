@@ -1,9 +1,5 @@
-use Rattle.std.proofs.Common.{ℕ, List, arith, rules, nat_le, leb-true, leb-false, le-leb}
-use Rattle.std.proofs.lemmas.Bool.{cases_lt}
-use Rattle.std.proofs.lemmas.List.Sorted.{IsPartitionPoint-from_clause}
+use Rattle.lower_proof.proofs.Common.{ℕ, List, arith, rules, nat_le, leb-true, leb-false, le-leb, cases_lt, IsPartitionPoint-from_clause, Entry, Falls, entry_at}
 use Rattle.std.specs.List.Sorted.{IsPartitionedBy}
-use Rattle.lower_proof.specs.declared.board.Entry.{Entry}
-use Rattle.lower_proof.specs.Boards.{Falls, entry_at}
 use Rattle.lower_proof.proofs.board.count_in_time.Goals as goal
 
 -- entries that fall are parted by an arrival

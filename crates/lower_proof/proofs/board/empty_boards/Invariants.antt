@@ -1,5 +1,4 @@
-use Rattle.std.proofs.Common.{◌≡◌, ℕ, length}
-use Rattle.lower_proof.specs.Minima.{board_at}
+use Rattle.lower_proof.proofs.Common.{◌≡◌, ℕ, length, board_at}
 use Rattle.lower_proof.proofs.Entries.{no_board}
 use Rattle.lower_proof.proofs.board.empty_boards.Given as goal
 

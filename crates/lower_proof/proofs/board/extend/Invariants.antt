@@ -1,5 +1,4 @@
-use Rattle.std.proofs.Common.{◌≡◌, length}
-use Rattle.lower_proof.specs.Minima.{AreMinima}
+use Rattle.lower_proof.proofs.Common.{◌≡◌, length, AreMinima}
 use Rattle.lower_proof.proofs.board.extend.Given as goal
 
 abbrev pub invariant-loop-k : goal.invariant-loop-k

@@ -1,6 +1,4 @@
-use Rattle.std.proofs.Common.{◌≡◌, ◌<◌, ◌∙◌, length, arith, subst, IsPermutation, length-set}
-use Rattle.std.proofs.lemmas.List.{get_or_default}
-use Rattle.lower_proof.specs.Boards.{ShownBoard}
+use Rattle.lower_proof.proofs.Common.{◌≡◌, ◌<◌, ◌∙◌, length, arith, subst, IsPermutation, length-set, get_or_default, ShownBoard}
 use Rattle.lower_proof.proofs.Entries.{no_board, AreSorted, sorted_more, sorted_fresh}
 use Rattle.lower_proof.proofs.board.sort_boards.Goals as goal
 

@@ -1,6 +1,4 @@
-use Rattle.std.proofs.Common.{◌≡◌, ℕ, length}
-use Rattle.plan_model.specs.Network.{count}
-use Rattle.lower_proof.specs.Minima.{HaveEntries}
+use Rattle.lower_proof.proofs.Common.{◌≡◌, ℕ, length, count, HaveEntries}
 use Rattle.lower_proof.proofs.Entries.{AreSorted}
 use Rattle.lower_proof.proofs.board.sort_boards.Given as goal
 

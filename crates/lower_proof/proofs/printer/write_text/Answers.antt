@@ -1,8 +1,4 @@
-use Rattle.std.proofs.Common.{◌≡◌, ◌≤◌, ℕ, List, Option, Vec, length, arith, subst, is_some, count_by, Global}
-use Rattle.std.proofs.lemmas.List.Sums.{count_by-le-length}
-use Rattle.lower_proof.specs.Steps.{AllFit}
-use Rattle.lower_proof.specs.Reading.{IsProofRead, ReadsBack}
-use Rattle.lower_proof.specs.CertificateTexts.{certificate_text}
+use Rattle.lower_proof.proofs.Common.{◌≡◌, ◌≤◌, ℕ, List, Option, Vec, length, arith, subst, is_some, count_by, Global, count_by-le-length, AllFit, IsProofRead, ReadsBack, certificate_text}
 use Rattle.lower_proof.proofs.ReadBack.{IfOk-with, present, reads_back}
 use Rattle.lower_proof.proofs.printer.write_text.Goals as goal
 

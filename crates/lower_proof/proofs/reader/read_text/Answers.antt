@@ -1,6 +1,4 @@
-use Rattle.std.proofs.Common.{rules, subst}
-use Rattle.plan_model.specs.NameLists.{NameLists}
-use Rattle.lower_proof.specs.Reading.{IsProofRead}
+use Rattle.lower_proof.proofs.Common.{rules, subst, NameLists, IsProofRead}
 use Rattle.lower_proof.proofs.reader.read_text.Goals as goal
 
 -- what is read by the index is read by the names

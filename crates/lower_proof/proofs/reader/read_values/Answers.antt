@@ -1,5 +1,4 @@
-use Rattle.std.proofs.Common.{◌≡◌, ◌∙◌, ◌<◌, ◌≤◌, ◌⊎◌, ap, inl, inr, arith, max}
-use Rattle.csv_rows.specs.Tables.{row_count}
+use Rattle.lower_proof.proofs.Common.{◌≡◌, ◌∙◌, ◌<◌, ◌≤◌, ◌⊎◌, ap, inl, inr, arith, max, row_count}
 use Rattle.csv_rows.proofs.FaultLemmas.{if_raised}
 use Rattle.lower_proof.proofs.ReadRows.{read_first, read_on, fault_here, ends_here, read_all}
 use Rattle.lower_proof.proofs.reader.read_values.Goals as goal

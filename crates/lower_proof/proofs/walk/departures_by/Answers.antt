@@ -1,6 +1,4 @@
-use Rattle.std.proofs.Common.{◌≡◌, arith, ap, subst}
-use Rattle.plan_model.specs.declared.departure.Departure.{Departure}
-use Rattle.plan_model.specs.Network.{count, dep_of}
+use Rattle.lower_proof.proofs.Common.{◌≡◌, arith, ap, subst, Departure, count, dep_of}
 use Rattle.lower_proof.proofs.Departing.{AreFound, found_later, found_more, departures_sorted}
 use Rattle.lower_proof.proofs.walk.departures_by.Goals as goal
 use Rattle.lower_proof.proofs.walk.departures_by.Goals.{then-departure-last+in_ok-push, else-departure-last}

@@ -1,4 +1,4 @@
-use Rattle.plan_model.specs.Network.{IsValid}
+use Rattle.lower_proof.proofs.Common.{IsValid}
 use Rattle.lower_proof.proofs.Departing.{AreFound}
 use Rattle.lower_proof.proofs.walk.departures_by.Given as goal
 

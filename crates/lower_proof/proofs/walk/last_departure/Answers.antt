@@ -1,5 +1,4 @@
-use Rattle.std.proofs.Common.{arith}
-use Rattle.std.proofs.lemmas.Bool.{cases_lt}
+use Rattle.lower_proof.proofs.Common.{arith, cases_lt}
 use Rattle.lower_proof.proofs.walk.last_departure.Goals as goal
 
 pub loop-i-preserved : goal.loop-i-preserved

@@ -1,6 +1,4 @@
-use Rattle.std.proofs.Common.{◌≡◌, ℕ, ◌<◌, ◌≤◌, None}
-use Rattle.plan_model.specs.Network.{dep_of}
-use Rattle.lower_proof.specs.Certificates.{bound_of}
+use Rattle.lower_proof.proofs.Common.{◌≡◌, ℕ, ◌<◌, ◌≤◌, None, dep_of, bound_of}
 use Rattle.lower_proof.proofs.walk.last_departure.Given as goal
 
 abbrev pub invariant-loop-i : goal.invariant-loop-i

@@ -1,12 +1,5 @@
-use Rattle.std.proofs.Common.{Option, Ok, Err, inl, refl, sym, subst}
-use Rattle.file_ports.specs.Ports.{FileMap}
-use Rattle.command_line.specs.Shown.{journey_shown, ask_shown}
-use Rattle.journey_model.specs.declared.faults.Fault.{Fault}
-use Rattle.journey_report.specs.declared.answer.Answer.{Answer}
-use Rattle.journey_problem.specs.Files.{path_of, HasCauses}
+use Rattle.meat_engine.proofs.Common.{Option, Ok, Err, inl, refl, sym, subst, FileMap, journey_shown, ask_shown, Fault, Answer, path_of, HasCauses, findings_of, own_paths, AnswersAsk, FailsAsk}
 use Rattle.file_ports.proofs.CauseLemmas.{causes-next}
-use Rattle.journey_report.specs.Findings.{findings_of}
-use Rattle.meat_engine.specs.Asks.{own_paths, AnswersAsk, FailsAsk}
 use Rattle.meat_engine.proofs.Asking.{causes-paths, beside}
 use Rattle.meat_engine.proofs.asks.journey_over.Goals as goal
 

@@ -1,9 +1,4 @@
-use Rattle.std.proofs.Common.{◌≡◌, None, Some, inl, inr, refl, sym, subst}
-use Rattle.journey_model.specs.declared.faults.Fault.{Fault}
-use Rattle.journey_model.specs.Faults.{unread_input}
-use Rattle.journey_model.specs.Known.{parts_of}
-use Rattle.journey_answers.specs.Answers.{IsNoSafe}
-use Rattle.meat_engine.specs.Samples.{sample_journey, FailsSample}
+use Rattle.meat_engine.proofs.Common.{◌≡◌, None, Some, inl, inr, refl, sym, subst, Fault, unread_input, parts_of, IsNoSafe, sample_journey, FailsSample}
 use Rattle.meat_engine.proofs.Asking.{early_has_site, unsafe_reported, plain_refusal}
 use Rattle.meat_engine.proofs.samples.sample.Goals as goal
 

@@ -1,8 +1,5 @@
-use Rattle.std.proofs.Common.{ℕ, subst}
-use Rattle.journey_answers.specs.Answers.{IsQueryOf}
+use Rattle.meat_engine.proofs.Common.{ℕ, subst, IsQueryOf, findings_of, sample_alpha, AnswersSampled}
 use Rattle.journey_answers.proofs.Sought.{in_query}
-use Rattle.journey_report.specs.Findings.{findings_of}
-use Rattle.meat_engine.specs.Samples.{sample_alpha, AnswersSampled}
 use Rattle.meat_engine.proofs.samples.sample_in.Goals as goal
 
 pub returns-clause-sampled : goal.returns-clause-sampled

@@ -1,13 +1,6 @@
-use Rattle.std.proofs.Common.{◌≡◌, ℕ, List, Option, Result, Ok, Err, None, refl, subst, arith, IfOk, IfErr}
+use Rattle.meat_engine.proofs.Common.{◌≡◌, ℕ, List, Option, Result, Ok, Err, None, refl, subst, arith, IfOk, IfErr, FilesState, JourneyModel, Fault, Input, unread_input, HasCauses, HasTimetable}
+use Rattle.meat_engine.proofs.Common.{IsProblem, IsProblemFault, no_path}
 use Rattle.feed_maker.specs.Files.{folder_of}
-use Rattle.file_ports.specs.Ports.{FilesState}
-use Rattle.command_line.specs.Jobs.{JourneyModel}
-use Rattle.journey_model.specs.declared.faults.Fault.{Fault}
-use Rattle.journey_model.specs.declared.faults.Input.{Input}
-use Rattle.journey_model.specs.Faults.{unread_input}
-use Rattle.journey_problem.specs.Files.{HasCauses}
-use Rattle.journey_problem.specs.Problems.{HasTimetable, IsProblem, IsProblemFault}
-use Rattle.meat_engine.specs.Asks.{no_path}
 use Rattle.std.proofs.lemmas.Result.{IfOk-weaker, IfErr-weaker}
 use Rattle.meat_engine.proofs.Asking.{never_unread}
 use Rattle.meat_engine.proofs.samples.sample_problem.Goals as goal

@@ -1,10 +1,5 @@
-use Rattle.std.proofs.Common.{ap, sym, subst, IfOk, IfErr}
+use Rattle.meat_engine.proofs.Common.{ap, sym, subst, IfOk, IfErr, JobModel, wanted_job, IsRefusalBy, findings_of, AnswersJob, FailsJob}
 use Rattle.command_line.specs.declared.job.Job.{Job}
-use Rattle.command_line.specs.Jobs.{JobModel}
-use Rattle.command_line.specs.Shown.{wanted_job}
-use Rattle.meat_engine.specs.Refusals.{IsRefusalBy}
-use Rattle.journey_report.specs.Findings.{findings_of}
-use Rattle.meat_engine.specs.Received.{AnswersJob, FailsJob}
 use Rattle.meat_engine.proofs.top.answer_of.Goals as goal
 
 pub returns-in-Journey-clause-fault : goal.returns-in-Journey-clause-fault

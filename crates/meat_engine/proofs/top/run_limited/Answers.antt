@@ -1,13 +1,5 @@
-use Rattle.std.proofs.Common.{◌≡◌, ◌∙◌, inl, inr, map, string_bytes, sym, subst, arith}
-use Rattle.command_line.specs.Jobs.{JobModel}
-use Rattle.command_line.specs.Shown.{wanted_job}
-use Rattle.journey_model.specs.declared.faults.Input.{Input}
-use Rattle.journey_model.specs.declared.faults.Fault.{Fault}
-use Rattle.journey_model.specs.declared.faults.Fault.TheVariants.{Words, Read, Write, NoMemory}
-use Rattle.journey_model.specs.Sites.{HasSite}
-use Rattle.journey_report.specs.Findings.{findings_of}
-use Rattle.meat_engine.specs.Received.{FailsJob}
-use Rattle.meat_engine.specs.Refusals.{known_of}
+use Rattle.meat_engine.proofs.Common.{◌≡◌, ◌∙◌, inl, inr, map, string_bytes, sym, subst, arith, JobModel, wanted_job, Input, Fault, Words, Read, Write, NoMemory, HasSite, findings_of, FailsJob}
+use Rattle.meat_engine.proofs.Common.{known_of}
 use Rattle.meat_engine.proofs.Outcomes.{job_cause, write_fails}
 use Rattle.meat_engine.proofs.Runs.{refused_run, answered_run, path_of_job}
 use Rattle.meat_engine.proofs.top.run_limited.Goals as goal

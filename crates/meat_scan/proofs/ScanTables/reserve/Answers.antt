@@ -1,4 +1,4 @@
-use Rattle.std.proofs.Common.{arith}
+use Rattle.meat_scan.proofs.Common.{arith}
 use Rattle.meat_scan.proofs.Reserves.{fits_all, fits_any}
 use Rattle.meat_scan.proofs.ScanTables.reserve.Goals as goal
 

@@ -1,5 +1,4 @@
-use Rattle.std.proofs.Common.{◌∙◌, ap, refl, sym, Some, position}
-use Rattle.file_ports.proofs.NamedLemmas.{at_path, searched}
+use Rattle.memory_ports.proofs.Common.{◌∙◌, ap, refl, sym, Some, position, at_path, searched}
 use Rattle.memory_ports.proofs.FailingLemmas.{push_stands, fresh_counter}
 use Rattle.memory_ports.proofs.memory.counter.Goals as goal
 

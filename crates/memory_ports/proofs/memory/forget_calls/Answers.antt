@@ -1,4 +1,4 @@
-use Rattle.std.proofs.Common.{arith, ◌∙◌, refl}
+use Rattle.memory_ports.proofs.Common.{arith, ◌∙◌, refl}
 use Rattle.std.proofs.Math.Seq.{map-set_same}
 use Rattle.memory_ports.proofs.Silent.{shape, silenced, silent, same_counts}
 use Rattle.memory_ports.proofs.memory.forget_calls.Goals as goal

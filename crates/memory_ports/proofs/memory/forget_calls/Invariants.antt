@@ -1,4 +1,4 @@
-use Rattle.std.proofs.Common.{◌≡◌, map}
+use Rattle.memory_ports.proofs.Common.{◌≡◌, map}
 use Rattle.memory_ports.proofs.Silent.{shape, AreSilent}
 use Rattle.memory_ports.proofs.memory.forget_calls.Given as goal
 

@@ -1,5 +1,4 @@
-use Rattle.std.proofs.Common.{◌+◌, ◌-◌, ◌/◌, arith, ap}
-use Rattle.plan_model.specs.declared.model.Connection.{Connection}
+use Rattle.merged_runs.proofs.Common.{◌+◌, ◌-◌, ◌/◌, arith, ap, Connection}
 use Rattle.merged_runs.proofs.SkipLemmas.{IsParted-up}
 use Rattle.merged_runs.proofs.merged.end_by.Goals as goal
 

@@ -1,5 +1,4 @@
-use Rattle.std.proofs.Common.{◌-◌}
-use Rattle.merged_runs.specs.Merged.{IsParted}
+use Rattle.merged_runs.proofs.Common.{◌-◌, IsParted}
 use Rattle.merged_runs.proofs.merged.end_by.Given as goal
 
 abbrev pub invariant-loop-low : goal.invariant-loop-low

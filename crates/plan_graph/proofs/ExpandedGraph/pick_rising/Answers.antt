@@ -1,9 +1,4 @@
-use Rattle.std.proofs.Common.{rules, arith, sym, ap, ◌∙◌, List}
-use Rattle.std.proofs.lemmas.List.Sorted.{IsPartitionPoint-from_clause}
-use Rattle.plan_graph.specs.declared.Ride.{Ride}
-use Rattle.plan_graph.specs.declared.GraphRow.{GraphRow}
-use Rattle.plan_graph.specs.PickedRows.{leg_lt, pick_row}
-use Rattle.std.proofs.lemmas.List.{get_or_default}
+use Rattle.plan_graph.proofs.Common.{rules, arith, sym, ap, ◌∙◌, List, IsPartitionPoint-from_clause, Ride, GraphRow, leg_lt, pick_row, get_or_default}
 use Rattle.plan_graph.proofs.Searches.{rides_parted, pick_after-at, pick_after-none, leg_same, leg_other}
 use Rattle.plan_graph.proofs.ExpandedGraph.pick_rising.Goals as goal
 

@@ -1,7 +1,4 @@
-use Rattle.std.proofs.Common.{◌<◌, List, AllPairs, arith, subst, sym, ◌∙◌, ap}
-use Rattle.plan_graph.specs.declared.GraphRow.{GraphRow}
-use Rattle.plan_graph.specs.declared.PlaceTable.{PlaceTable}
-use Rattle.plan_graph.specs.PickedRows.{rows_of_place}
+use Rattle.plan_graph.proofs.Common.{◌<◌, List, AllPairs, arith, subst, sym, ◌∙◌, ap, GraphRow, PlaceTable, rows_of_place}
 use Rattle.plan_graph.proofs.Picked.{rows_of_place-by}
 use Rattle.plan_graph.proofs.PlanGraph.pick_rising.Goals as goal
 

@@ -1,4 +1,4 @@
-use Rattle.std.proofs.Common.{◌≡◌, ◌++◌, drop, map}
+use Rattle.plan_graph.proofs.Common.{◌≡◌, ◌++◌, drop, map}
 use Rattle.plan_graph.proofs.chosen_rides.push_legs.Given as goal
 
 -- the legs so far, and those that remain

@@ -1,6 +1,4 @@
-use Rattle.std.proofs.Common.{◌≡◌, sym, subst, List, arith, inr, [], ◌∷◌, Some}
-use Rattle.plan_model.specs.Unfold.{unfolding_of}
-use Rattle.plan_model.specs.declared.model.Leg.{Leg}
+use Rattle.plan_graph.proofs.Common.{◌≡◌, sym, subst, List, arith, inr, [], ◌∷◌, Some, unfolding_of, Leg}
 use Rattle.plan_graph.proofs.Reaching.{IsReaching, begin, start_placed, all_seen, popped, popped_there, visited}
 use Rattle.plan_graph.proofs.chosen_rides.reach.Goals as goal
 

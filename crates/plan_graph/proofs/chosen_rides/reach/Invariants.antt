@@ -1,7 +1,4 @@
-use Rattle.std.proofs.Common.{ℕ, Option, Some}
-use Rattle.std.specs.List.Sorted.{IsStrictlySortedBy}
-use Rattle.plan_model.specs.Unfold.{unfolding_of}
-use Rattle.plan_graph.specs.WalkTables.{leg_cmp}
+use Rattle.plan_graph.proofs.Common.{ℕ, Option, Some, IsStrictlySortedBy, unfolding_of, leg_cmp}
 use Rattle.plan_graph.proofs.Reaching.{IsReaching}
 use Rattle.plan_graph.proofs.chosen_rides.reach.Given as goal
 

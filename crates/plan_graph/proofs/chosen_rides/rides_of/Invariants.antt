@@ -1,7 +1,4 @@
-use Rattle.std.proofs.Common.{◌≡◌, ◌<◌, ◌++◌, map}
-use Rattle.std.specs.List.{AllByRecursion}
-use Rattle.plan_model.specs.Network.{count}
-use Rattle.plan_graph.specs.WalkTables.{ride_of_leg}
+use Rattle.plan_graph.proofs.Common.{◌≡◌, ◌<◌, ◌++◌, map, AllByRecursion, count, ride_of_leg}
 use Rattle.plan_graph.proofs.chosen_rides.rides_of.Given as goal
 
 -- the rides so far, and those of the legs that remain

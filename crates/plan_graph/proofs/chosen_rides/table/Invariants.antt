@@ -1,5 +1,4 @@
-use Rattle.std.proofs.Common.{◌≡◌, ◌++◌, drop}
-use Rattle.plan_graph.specs.WalkTables.{rows_for}
+use Rattle.plan_graph.proofs.Common.{◌≡◌, ◌++◌, drop, rows_for}
 use Rattle.plan_graph.proofs.chosen_rides.table.Given as goal
 
 -- the rows so far, and those of the outcomes that remain

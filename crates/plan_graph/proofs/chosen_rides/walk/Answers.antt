@@ -1,8 +1,4 @@
-use Rattle.std.proofs.Common.{◌<◌}
-use Rattle.std.proofs.lemmas.List.Elements.{recursion_from_All}
-use Rattle.plan_model.specs.Network.{count}
-use Rattle.plan_model.specs.declared.model.Leg.{Leg}
-use Rattle.plan_model.proofs.Lists.{All-from_contains}
+use Rattle.plan_graph.proofs.Common.{◌<◌, recursion_from_All, count, Leg, All-from_contains}
 use Rattle.plan_graph.proofs.Walks.{walked}
 use Rattle.plan_graph.proofs.chosen_rides.walk.Goals as goal
 

@@ -1,8 +1,5 @@
-use Rattle.std.proofs.Common.{◌≡◌, ◌∙◌, ◌<◌, ◌≤◌, List, [], length, get_or, arith, sym, ap, ⊎_elim, String, Global, string_bytes}
-use Rattle.std.proofs.lemmas.Bool.{cases_lt, false≢true}
-use Rattle.std.proofs.lemmas.List.{length-map}
+use Rattle.plan_model.proofs.Common.{◌≡◌, ◌∙◌, ◌<◌, ◌≤◌, List, [], length, get_or, arith, sym, ap, ⊎_elim, String, Global, string_bytes, cases_lt, false≢true, length-map, texts}
 use Rattle.std.proofs.lemmas.Slice.Eq.{bytes_eq-Decides}
-use Rattle.plan_model.specs.NameLists.{texts}
 use Rattle.plan_model.proofs.Texts.{texts-at}
 use Rattle.plan_model.proofs.text_list.place_among.Goals as goal
 

@@ -1,5 +1,4 @@
-use Rattle.std.proofs.Common.{◌≡◌, ℕ, ◌<◌, get_or, []}
-use Rattle.plan_model.specs.NameLists.{texts}
+use Rattle.plan_model.proofs.Common.{◌≡◌, ℕ, ◌<◌, get_or, [], texts}
 use Rattle.plan_model.proofs.text_list.place_among.Given as goal
 
 abbrev pub invariant-loop-i : goal.invariant-loop-i

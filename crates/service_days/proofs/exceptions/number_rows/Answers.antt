@@ -1,7 +1,4 @@
-use Rattle.std.proofs.Common.{◌<◌, ◌-◌, ◌^◌, ◌+◌, All, List, ℕ, length, sym, subst, ◌∙◌}
-use Rattle.plan_model.specs.NameLists.{IsTrimmed}
-use Rattle.csv_rows.specs.Tables.{row_count}
-use Rattle.service_days.specs.Numbered.{AreNumbered}
+use Rattle.service_days.proofs.Common.{◌<◌, ◌-◌, ◌^◌, ◌+◌, All, List, ℕ, length, sym, subst, ◌∙◌, IsTrimmed, row_count, AreNumbered}
 use Rattle.service_days.proofs.exceptions.number_rows.Goals as goal
 
 pub read_rows-requires-clause-few : goal.read_rows-requires-clause-few

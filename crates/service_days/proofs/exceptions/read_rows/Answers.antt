@@ -1,9 +1,4 @@
-use Rattle.std.proofs.Common.{None, sym, ap, subst, arith, ◌∙◌}
-use Rattle.std.specs.Result.{result_err}
-use Rattle.csv_rows.proofs.FaultLemmas.{match_raised, fault-at}
-use Rattle.csv_rows.proofs.FirstLemmas.{first-zero, first-next}
-use Rattle.service_days.specs.Dates.{ServiceDate, bad_date, date_of, date_or_none}
-use Rattle.service_days.specs.Numbered.{AddsDate}
+use Rattle.service_days.proofs.Common.{None, sym, ap, subst, arith, ◌∙◌, result_err, match_raised, fault-at, first-zero, first-next, ServiceDate, bad_date, date_of, date_or_none, AddsDate}
 use Rattle.service_days.proofs.DateLemmas.{date_is, service_trimmed}
 use Rattle.service_days.proofs.NumberLemmas.{numbered_none, numbered_next, length-adds, trimmed-adds}
 use Rattle.service_days.proofs.exceptions.read_rows.Goals as goal

@@ -1,8 +1,4 @@
-use Rattle.std.proofs.Common.{◌≡◌, ◌≤◌, ◌+◌, length, None, All}
-use Rattle.plan_model.specs.NameLists.{IsTrimmed}
-use Rattle.csv_rows.specs.First.{first_below}
-use Rattle.service_days.specs.Dates.{bad_date}
-use Rattle.service_days.specs.Numbered.{AreNumbered}
+use Rattle.service_days.proofs.Common.{◌≡◌, ◌≤◌, ◌+◌, length, None, All, IsTrimmed, first_below, bad_date, AreNumbered}
 use Rattle.service_days.proofs.exceptions.read_rows.Given as goal
 
 abbrev pub invariant-loop-i : goal.invariant-loop-i

@@ -1,9 +1,5 @@
-use Rattle.std.proofs.Common.{None, sym, ap, ◌∙◌, arith}
-use Rattle.std.specs.Result.{result_err}
-use Rattle.csv_rows.proofs.FaultLemmas.{match_raised, fault-at}
-use Rattle.csv_rows.proofs.FirstLemmas.{first-zero, first-next}
-use Rattle.csv_rows.proofs.ListLemmas.{list_below-zero, list_below-next}
-use Rattle.service_days.specs.Periods.{bad_period, period_of, period_or_none}
+use Rattle.service_days.proofs.Common.{None, sym, ap, ◌∙◌, arith, result_err, match_raised, fault-at, first-zero, first-next, list_below-zero, list_below-next, bad_period, period_of}
+use Rattle.service_days.proofs.Common.{period_or_none}
 use Rattle.service_days.proofs.PeriodLemmas.{period_is}
 use Rattle.service_days.proofs.periods.read_periods.Goals as goal
 

@@ -1,7 +1,5 @@
-use Rattle.std.proofs.Common.{◌≡◌, None}
-use Rattle.csv_rows.specs.First.{first_below}
+use Rattle.service_days.proofs.Common.{◌≡◌, None, first_below, bad_period, period_of}
 use Rattle.csv_rows.specs.Lists.{list_below}
-use Rattle.service_days.specs.Periods.{bad_period, period_of}
 use Rattle.service_days.proofs.periods.read_periods.Given as goal
 
 abbrev pub invariant-loop-i : goal.invariant-loop-i

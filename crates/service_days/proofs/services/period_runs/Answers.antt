@@ -1,8 +1,4 @@
-use Rattle.std.proofs.Common.{◌∙◌, ap, sym, Some, w32}
-use Rattle.std.proofs.lemmas.Int.{to_z-of_z}
-use Rattle.std.proofs.lemmas.Option.{slice_get-get_or, slice_get_past}
-use Rattle.service_days.specs.Periods.{runs_in_period}
-use Rattle.service_days.specs.Services.{runs_within}
+use Rattle.service_days.proofs.Common.{◌∙◌, ap, sym, Some, w32, to_z-of_z, slice_get-get_or, slice_get_past, runs_in_period, runs_within}
 use Rattle.service_days.proofs.services.period_runs.Goals as goal
 
 pub returns-in-Some : goal.returns-in-Some

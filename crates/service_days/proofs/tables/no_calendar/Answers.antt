@@ -1,11 +1,5 @@
-use Rattle.std.proofs.Common.{◌∙◌, sym, []}
-use Rattle.csv_rows.specs.declared.columns.Column.TheVariants.{ServiceId}
-use Rattle.csv_rows.specs.declared.feed_tables.Table.TheVariants.{Calendar}
+use Rattle.service_days.proofs.Common.{◌∙◌, sym, [], ServiceId, Calendar, field, first-zero, list_below-zero, period_of}
 use Rattle.csv_rows.specs.RowFaults.{repeated_id}
-use Rattle.csv_rows.specs.Tables.{field}
-use Rattle.csv_rows.proofs.FirstLemmas.{first-zero}
-use Rattle.csv_rows.proofs.ListLemmas.{list_below-zero}
-use Rattle.service_days.specs.Periods.{period_of}
 use Rattle.service_days.proofs.tables.no_calendar.Goals as goal
 
 pub returns-clause-ids : goal.returns-clause-ids

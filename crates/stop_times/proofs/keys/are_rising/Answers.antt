@@ -1,8 +1,4 @@
-use Rattle.std.proofs.Common.{◌≡◌, ◌-◌, ◌∙◌, arith, refl, subst}
-use Rattle.std.proofs.lemmas.List.{get_or_default}
-use Rattle.stop_times.specs.declared.rows.TimedRow.{TimedRow}
-use Rattle.stop_times.specs.StopTimes.{no_row, row_at}
-use Rattle.stop_times.specs.StopTimeKeys.{IsRowBefore}
+use Rattle.stop_times.proofs.Common.{◌≡◌, ◌-◌, ◌∙◌, arith, refl, subst, get_or_default, TimedRow, no_row, row_at, IsRowBefore}
 use Rattle.stop_times.proofs.RisingRows.{rising-next}
 use Rattle.stop_times.proofs.keys.are_rising.Goals as goal
 

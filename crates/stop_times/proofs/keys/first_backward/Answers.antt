@@ -1,9 +1,5 @@
-use Rattle.std.proofs.Common.{ℕ, true, sym, ap, ◌∙◌, length, arith, option_map, refl, Some, None}
-use Rattle.csv_rows.specs.declared.feed_tables.FeedFault.{FeedFault}
-use Rattle.csv_rows.proofs.KeyLemmas.{before_inside}
-use Rattle.csv_rows.proofs.SoonestLemmas.{soonest-next, soonest-first}
-use Rattle.stop_times.specs.StopTimes.{trip_of, sequence_of, backward_time}
-use Rattle.stop_times.specs.StopTimeKeys.{is_taken}
+use Rattle.stop_times.proofs.Common.{ℕ, true, sym, ap, ◌∙◌, length, arith, option_map, refl, Some, None, FeedFault, before_inside, soonest-next, soonest-first, trip_of, sequence_of, backward_time}
+use Rattle.stop_times.proofs.Common.{is_taken}
 use Rattle.stop_times.proofs.BackLemmas.{back_is, quiet}
 use Rattle.stop_times.proofs.keys.first_backward.Goals as goal
 

@@ -1,7 +1,4 @@
-use Rattle.std.proofs.Common.{◌≡◌, length, None}
-use Rattle.csv_rows.specs.First.{first_below}
-use Rattle.csv_rows.proofs.SoonestLemmas.{IsSoonest}
-use Rattle.stop_times.specs.StopTimes.{repeated_time, backward_time}
+use Rattle.stop_times.proofs.Common.{◌≡◌, length, None, first_below, IsSoonest, repeated_time, backward_time}
 use Rattle.stop_times.proofs.keys.first_backward.Given as goal
 
 abbrev pub invariant-loop-k : goal.invariant-loop-k

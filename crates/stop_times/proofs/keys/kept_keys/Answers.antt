@@ -1,6 +1,4 @@
-use Rattle.std.proofs.Common.{true, List, sym, subst}
-use Rattle.csv_rows.specs.declared.keys.Key.{Key}
-use Rattle.stop_times.specs.StopTimeKeys.{AreKeysOf}
+use Rattle.stop_times.proofs.Common.{true, List, sym, subst, Key, AreKeysOf}
 use Rattle.stop_times.proofs.KeptLemmas.{kept_sorted}
 use Rattle.stop_times.proofs.keys.kept_keys.Goals as goal
 

@@ -1,7 +1,5 @@
-use Rattle.std.proofs.Common.{rules}
+use Rattle.stop_times.proofs.Common.{rules, Key, is_kept}
 use Rattle.std.proofs.lemmas.Fn.{filter_same}
-use Rattle.csv_rows.specs.declared.keys.Key.{Key}
-use Rattle.stop_times.specs.StopTimes.{is_kept}
 use Rattle.stop_times.proofs.keys.retain_kept.Goals as goal
 
 pub returns-clause-kept : goal.returns-clause-kept

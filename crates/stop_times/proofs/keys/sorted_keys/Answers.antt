@@ -1,11 +1,6 @@
-use Rattle.std.proofs.Common.{◌≡◌, false, ap, ap₂, refl, arith, subst, ℕ, List, [], ◌∷◌, ◌++◌, length, ◌+◌, ◌<◌, ◌∙◌}
-use Rattle.std.proofs.lemmas.List.{length_push, get_or_default}
+use Rattle.stop_times.proofs.Common.{◌≡◌, false, ap, ap₂, refl, arith, subst, ℕ, List, [], ◌∷◌, ◌++◌, length, ◌+◌, ◌<◌, ◌∙◌, length_push, get_or_default, Key, AreKeys, key_of, sorted_are}
+use Rattle.stop_times.proofs.Common.{keys-none, keys-taken, TimedRow, trip_of, sequence_of, no_row, is_taken}
 use Rattle.std.proofs.lemmas.List.Sorted.{length_permutation, IsPermutation-refl}
-use Rattle.csv_rows.specs.declared.keys.Key.{Key}
-use Rattle.csv_rows.proofs.SortLemmas.{AreKeys, key_of, sorted_are, keys-none, keys-taken}
-use Rattle.stop_times.specs.declared.rows.TimedRow.{TimedRow}
-use Rattle.stop_times.specs.StopTimes.{trip_of, sequence_of, no_row}
-use Rattle.stop_times.specs.StopTimeKeys.{is_taken}
 use Rattle.stop_times.proofs.RisingRows.{keys_rise}
 use Rattle.stop_times.proofs.keys.sorted_keys.Goals as goal
 

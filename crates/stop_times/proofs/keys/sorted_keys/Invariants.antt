@@ -1,7 +1,4 @@
-use Rattle.std.proofs.Common.{◌≤◌, length, false}
-use Rattle.csv_rows.proofs.SortLemmas.{AreKeys}
-use Rattle.stop_times.specs.StopTimes.{trip_of, sequence_of}
-use Rattle.stop_times.specs.StopTimeKeys.{is_taken}
+use Rattle.stop_times.proofs.Common.{◌≤◌, length, false, AreKeys, trip_of, sequence_of, is_taken}
 use Rattle.stop_times.proofs.keys.sorted_keys.Given as goal
 
 abbrev pub invariant-loop-i : goal.invariant-loop-i

@@ -1,4 +1,4 @@
-use Rattle.std.proofs.Common.{◌≡◌, ◌∙◌, sym, ap, subst, Some, IsUtf8}
+use Rattle.stop_times.proofs.Common.{◌≡◌, ◌∙◌, sym, ap, subst, Some, IsUtf8}
 use Rattle.std.proofs.lemmas.Slice.Eq.{bytes_eq-Decides}
 use Rattle.stop_times.proofs.RowLemmas.{stop_here}
 use Rattle.stop_times.proofs.rows.read_stop_number.Goals as goal

@@ -1,11 +1,6 @@
-use Rattle.std.proofs.Common.{rules, ◌≡◌, ◌<◌, ◌+◌, ◌∷◌, ◌∙◌, List, ℕ, None, Some, sym, ap, subst, arith, length, Err}
+use Rattle.stop_times.proofs.Common.{rules, ◌≡◌, ◌<◌, ◌+◌, ◌∷◌, ◌∙◌, List, ℕ, None, Some, sym, ap, subst, arith, length, Err, StopTimes, first_below, loaded_from, row_count, table_of}
+use Rattle.stop_times.proofs.Common.{stop_times_from, bad_time, counted_fault, missing_time_column, order_fault, stop_times_fault, time_columns, timed_rows}
 use Rattle.std.proofs.lemmas.Result.{IfErr-weaker, on_ok_weaker}
-use Rattle.csv_rows.specs.declared.feed_tables.Table.TheVariants.{StopTimes}
-use Rattle.csv_rows.specs.First.{first_below}
-use Rattle.table_files.specs.Loading.{loaded_from}
-use Rattle.csv_rows.specs.Tables.{row_count, table_of}
-use Rattle.stop_times.specs.Timetables.{stop_times_from}
-use Rattle.stop_times.specs.StopTimes.{bad_time, counted_fault, missing_time_column, order_fault, stop_times_fault, time_columns, timed_rows}
 use Rattle.stop_times.proofs.TimeLemmas.{counted_same, times_fault, fault_of_header, fault_of_row, fault_of_order}
 use Rattle.stop_times.proofs.table_rows.read_timed_rows.Goals as goal
 

@@ -1,15 +1,6 @@
-use Rattle.std.proofs.Common.{◌≡◌, ◌<◌, ◌+◌, ◌-◌, ◌∷◌, ◌∙◌, ℕ, [], Option, None, Some, sym, ap, subst, arith, drop, length, Ok, Err}
-use Rattle.std.proofs.lemmas.List.{length_push}
-use Rattle.std.specs.Result.{result_err}
-use Rattle.plan_model.specs.Results.{value_or}
-use Rattle.csv_rows.specs.declared.feed_tables.FeedFault.{FeedFault}
-use Rattle.csv_rows.specs.declared.feed_tables.FeedFault.TheVariants.{TooManyRows}
-use Rattle.csv_rows.specs.declared.feed_tables.Table.TheVariants.{StopTimes}
-use Rattle.csv_rows.specs.First.{first_below}
-use Rattle.csv_rows.specs.Lists.{list_below}
-use Rattle.csv_rows.proofs.FirstLemmas.{first-zero, first-next, first-at}
-use Rattle.csv_rows.proofs.ListLemmas.{drop-next, drop-none, list_below-zero, list_below-next}
-use Rattle.stop_times.specs.StopTimes.{bad_time, counted_fault, timed_at, no_row}
+use Rattle.stop_times.proofs.Common.{◌≡◌, ◌<◌, ◌+◌, ◌-◌, ◌∷◌, ◌∙◌, ℕ, [], Option, None, Some, sym, ap, subst, arith, drop, length, Ok, Err, length_push, result_err, value_or, FeedFault}
+use Rattle.stop_times.proofs.Common.{TooManyRows, StopTimes, first_below, list_below, first-zero, first-next, first-at, drop-next, drop-none, list_below-zero, list_below-next, bad_time}
+use Rattle.stop_times.proofs.Common.{counted_fault, timed_at, no_row}
 use Rattle.stop_times.proofs.TimeLemmas.{row_is, counted_row, counted_many}
 use Rattle.stop_times.proofs.table_rows.rows_after.Goals as goal
 

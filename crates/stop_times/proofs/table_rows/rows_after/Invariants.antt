@@ -1,8 +1,4 @@
-use Rattle.std.proofs.Common.{◌≡◌, ◌≤◌, ◌+◌, ◌∷◌, None, drop, length}
-use Rattle.plan_model.specs.Results.{value_or}
-use Rattle.csv_rows.specs.First.{first_below}
-use Rattle.csv_rows.specs.Lists.{list_below}
-use Rattle.stop_times.specs.StopTimes.{bad_time, timed_at, no_row, IsKnownIn}
+use Rattle.stop_times.proofs.Common.{◌≡◌, ◌≤◌, ◌+◌, ◌∷◌, None, drop, length, value_or, first_below, list_below, bad_time, timed_at, no_row, IsKnownIn}
 use Rattle.stop_times.proofs.table_rows.rows_after.Given as goal
 
 abbrev pub invariant-loop-order : goal.invariant-loop-order

@@ -1,6 +1,4 @@
-use Rattle.std.proofs.Common.{refl, option_map, sym, ap, ◌∙◌, ◌+◌, Some}
-use Rattle.csv_rows.specs.declared.feed_tables.Table.TheVariants.{StopTimes}
-use Rattle.csv_rows.specs.declared.feed_tables.FeedFault.TheVariants.{DuplicateKey}
+use Rattle.stop_times.proofs.Common.{refl, option_map, sym, ap, ◌∙◌, ◌+◌, Some, StopTimes, DuplicateKey}
 use Rattle.stop_times.proofs.BackLemmas.{repeats_first}
 use Rattle.stop_times.proofs.RisingRows.{rising_once}
 use Rattle.stop_times.proofs.timetable.check_once.Goals as goal

@@ -1,8 +1,6 @@
-use Rattle.std.proofs.Common.{◌∙◌, ap, sym, subst, refl}
-use Rattle.csv_rows.specs.declared.feed_tables.Table.TheVariants.{StopTimes}
+use Rattle.stop_times.proofs.Common.{◌∙◌, ap, sym, subst, refl, StopTimes, or_then}
 use Rattle.csv_rows.specs.FeedTables.{unread_table, IsFaultOf}
 use Rattle.csv_rows.proofs.FaultLemmas.{match_raised, fault-first}
-use Rattle.csv_rows.proofs.RowLemmas.{or_then}
 use Rattle.stop_times.proofs.BackLemmas.{backward_is}
 use Rattle.stop_times.proofs.timetable.in_order.Goals as goal
 

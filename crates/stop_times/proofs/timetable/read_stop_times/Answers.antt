@@ -1,9 +1,4 @@
-use Rattle.std.proofs.Common.{◌≡◌, List, ℕ, length, ap, ◌∙◌, subst, arith, Err}
-use Rattle.std.proofs.lemmas.Grind.{common_steps}
-use Rattle.csv_rows.specs.declared.feed_tables.Table.TheVariants.{StopTimes}
-use Rattle.table_files.specs.Loading.{loaded_from}
-use Rattle.csv_rows.specs.Tables.{table_of}
-use Rattle.stop_times.specs.Timetables.{stop_times_from, AreVisits}
+use Rattle.stop_times.proofs.Common.{◌≡◌, List, ℕ, length, ap, ◌∙◌, subst, arith, Err, common_steps, StopTimes, loaded_from, table_of, stop_times_from, AreVisits}
 use Rattle.stop_times.proofs.TimeLemmas.{timed_rows_are, order_faulty, order_sound, visits_of_rows, visits_of_text}
 use Rattle.stop_times.proofs.timetable.read_stop_times.Goals as goal
 

@@ -1,10 +1,5 @@
-use Rattle.std.proofs.Common.{◌≡◌, ◌≢◌, List, ℕ, subst, length, ◌∙◌, sym, ap, Err, IfOk, IfErr, OnOk}
-use Rattle.csv_rows.specs.declared.feed_tables.Table.TheVariants.{StopTimes}
-use Rattle.csv_rows.specs.declared.feed_tables.FeedFault.TheVariants.{NoMemory}
-use Rattle.csv_rows.specs.Tables.{table_of}
-use Rattle.table_files.specs.Loading.{loaded_from}
-use Rattle.stop_times.specs.StopTimes.{order_fault, stop_times_fault, timed_rows}
-use Rattle.stop_times.specs.Timetables.{stop_times_from}
+use Rattle.stop_times.proofs.Common.{◌≡◌, ◌≢◌, List, ℕ, subst, length, ◌∙◌, sym, ap, Err, IfOk, IfErr, OnOk, StopTimes, NoMemory, table_of, loaded_from, order_fault, stop_times_fault, timed_rows}
+use Rattle.stop_times.proofs.Common.{stop_times_from}
 use Rattle.stop_times.proofs.timetable.rows_of.Goals as goal
 
 -- what holds of both indexes, holds of the ids

@@ -1,6 +1,4 @@
-use Rattle.std.proofs.Common.{◌≡◌, ◌≤◌, ◌<◌, ◌+◌, ℕ, length, slice_index}
-use Rattle.csv_rows.specs.Keys.{key_at}
-use Rattle.stop_times.specs.Visits.{IsSpanOf}
+use Rattle.stop_times.proofs.Common.{◌≡◌, ◌≤◌, ◌<◌, ◌+◌, ℕ, length, slice_index, key_at, IsSpanOf}
 use Rattle.stop_times.proofs.visits.bounds_of.Given as goal
 
 abbrev pub invariant-loop-trip : goal.invariant-loop-trip

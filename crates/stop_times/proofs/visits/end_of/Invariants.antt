@@ -1,5 +1,4 @@
-use Rattle.std.proofs.Common.{◌≡◌, ◌≤◌, ◌<◌, ◌-◌, ℕ, length}
-use Rattle.csv_rows.specs.Keys.{key_at}
+use Rattle.stop_times.proofs.Common.{◌≡◌, ◌≤◌, ◌<◌, ◌-◌, ℕ, length, key_at}
 use Rattle.stop_times.proofs.visits.end_of.Given as goal
 
 abbrev pub invariant-loop-end : goal.invariant-loop-end

@@ -1,6 +1,4 @@
-use Rattle.std.proofs.Common.{sym, ◌∙◌}
-use Rattle.csv_rows.proofs.ListLemmas.{list_below-zero, list_below-next}
-use Rattle.stop_times.specs.Visits.{visit_at}
+use Rattle.stop_times.proofs.Common.{sym, ◌∙◌, list_below-zero, list_below-next, visit_at}
 use Rattle.stop_times.proofs.visits.visits_by.Goals as goal
 
 pub loop-k-init : goal.loop-k-init

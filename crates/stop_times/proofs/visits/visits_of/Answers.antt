@@ -1,7 +1,4 @@
-use Rattle.std.proofs.Common.{◌≤◌, List, [], length, slice_index_or, ap, sym, subst, ◌∙◌}
-use Rattle.stop_times.specs.declared.rows.StopRow.{StopRow}
-use Rattle.stop_times.specs.StopTimeBounds.{most_stop_times}
-use Rattle.stop_times.specs.Visits.{AreStopTimes}
+use Rattle.stop_times.proofs.Common.{◌≤◌, List, [], length, slice_index_or, ap, sym, subst, ◌∙◌, StopRow, most_stop_times, AreStopTimes}
 use Rattle.stop_times.proofs.VisitLemmas.{bounded, parted_count, parted_are, parted_few}
 use Rattle.stop_times.proofs.visits.visits_of.Goals as goal
 

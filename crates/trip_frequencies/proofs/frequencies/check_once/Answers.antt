@@ -1,9 +1,4 @@
-use Rattle.std.proofs.Common.{refl, ◌+◌, true, length, List, Some, option_map, sym, subst, ap, ◌∙◌}
-use Rattle.csv_rows.specs.declared.feed_tables.Table.TheVariants.{Frequencies}
-use Rattle.csv_rows.specs.declared.feed_tables.FeedFault.TheVariants.{DuplicateKey}
-use Rattle.csv_rows.specs.declared.keys.Key.{Key}
-use Rattle.csv_rows.specs.Keys.{AreSorted}
-use Rattle.trip_frequencies.specs.Frequencies.{trip_of_row, start_of_row}
+use Rattle.trip_frequencies.proofs.Common.{refl, ◌+◌, true, length, List, Some, option_map, sym, subst, ap, ◌∙◌, Frequencies, DuplicateKey, Key, AreSorted, trip_of_row, start_of_row}
 use Rattle.trip_frequencies.proofs.FrequencyLemmas.{first_repeated}
 use Rattle.trip_frequencies.proofs.frequencies.check_once.Goals as goal
 

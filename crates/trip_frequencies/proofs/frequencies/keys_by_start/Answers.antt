@@ -1,6 +1,4 @@
-use Rattle.std.proofs.Common.{◌≡◌, ℕ, true, length, refl, subst, arith}
-use Rattle.csv_rows.proofs.SortLemmas.{AreKeys, key_of, sorted_are, keys-none, keys-taken}
-use Rattle.trip_frequencies.specs.Frequencies.{trip_of_row, start_of_row}
+use Rattle.trip_frequencies.proofs.Common.{◌≡◌, ℕ, true, length, refl, subst, arith, AreKeys, key_of, sorted_are, keys-none, keys-taken, trip_of_row, start_of_row}
 use Rattle.trip_frequencies.proofs.frequencies.keys_by_start.Goals as goal
 
 pub loop-i-init : goal.loop-i-init

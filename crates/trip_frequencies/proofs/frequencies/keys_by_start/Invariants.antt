@@ -1,6 +1,4 @@
-use Rattle.std.proofs.Common.{true}
-use Rattle.csv_rows.proofs.SortLemmas.{AreKeys}
-use Rattle.trip_frequencies.specs.Frequencies.{trip_of_row, start_of_row}
+use Rattle.trip_frequencies.proofs.Common.{true, AreKeys, trip_of_row, start_of_row}
 use Rattle.trip_frequencies.proofs.frequencies.keys_by_start.Given as goal
 
 abbrev pub invariant-loop-i : goal.invariant-loop-i

@@ -1,8 +1,4 @@
-use Rattle.std.proofs.Common.{◌≡◌, None}
-use Rattle.plan_model.specs.Results.{value_or}
-use Rattle.csv_rows.specs.First.{first_below}
-use Rattle.csv_rows.specs.Lists.{list_below}
-use Rattle.trip_frequencies.specs.Frequencies.{bad_frequency, frequency_at, no_frequency}
+use Rattle.trip_frequencies.proofs.Common.{◌≡◌, None, value_or, first_below, list_below, bad_frequency, frequency_at, no_frequency}
 use Rattle.trip_frequencies.proofs.frequencies.read_frequency_rows.Given as goal
 
 abbrev pub invariant-loop-i : goal.invariant-loop-i

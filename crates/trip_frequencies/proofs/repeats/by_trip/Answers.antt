@@ -1,6 +1,4 @@
-use Rattle.std.proofs.Common.{rules}
-use Rattle.std.proofs.lemmas.List.Sorted.{answers_always, IsNonDecreasingBy-from_sort_by_key}
-use Rattle.trip_frequencies.specs.declared.frequencies.TripFrequency.{TripFrequency}
+use Rattle.trip_frequencies.proofs.Common.{rules, answers_always, IsNonDecreasingBy-from_sort_by_key, TripFrequency}
 use Rattle.trip_frequencies.proofs.RepeatLemmas.{repeats_of-stable}
 use Rattle.trip_frequencies.proofs.repeats.by_trip.Goals as goal
 

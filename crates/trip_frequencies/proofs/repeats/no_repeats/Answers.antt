@@ -1,5 +1,4 @@
-use Rattle.std.proofs.Common.{arith}
-use Rattle.csv_rows.proofs.ListLemmas.{list_below-zero}
+use Rattle.trip_frequencies.proofs.Common.{arith, list_below-zero}
 use Rattle.trip_frequencies.proofs.repeats.no_repeats.Goals as goal
 
 pub returns-clause-repeats : goal.returns-clause-repeats

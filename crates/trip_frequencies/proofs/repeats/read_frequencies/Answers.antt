@@ -1,4 +1,4 @@
-use Rattle.std.proofs.Common.{arith}
+use Rattle.trip_frequencies.proofs.Common.{arith}
 use Rattle.trip_frequencies.proofs.FrequencyLemmas.{frequency_count}
 use Rattle.trip_frequencies.proofs.repeats.read_frequencies.Goals as goal
 

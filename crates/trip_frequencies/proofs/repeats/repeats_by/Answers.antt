@@ -1,7 +1,5 @@
-use Rattle.std.proofs.Common.{arith, List, sym, subst, Result, Ok, Err, IfOk}
-use Rattle.std.specs.List.Sorted.{IsNonDecreasing, IsNonDecreasingBy}
+use Rattle.trip_frequencies.proofs.Common.{arith, List, sym, subst, Result, Ok, Err, IfOk, IsNonDecreasing, IsNonDecreasingBy, TripFrequency}
 use Rattle.std.proofs.lemmas.Result.{IfOk-weaker}
-use Rattle.trip_frequencies.specs.declared.frequencies.TripFrequency.{TripFrequency}
 use Rattle.trip_frequencies.proofs.RepeatLemmas.{ordered-parted, all_repeats-parted}
 use Rattle.trip_frequencies.proofs.repeats.repeats_by.Goals as goal
 

@@ -1,5 +1,4 @@
-use Rattle.std.proofs.Common.{ℕ, leb, ltb, rules}
-use Rattle.std.proofs.lemmas.List.Sorted.{IsPartitionPoint-from_clause, IsPartitionedBy-leb, IsPartitionedBy-ltb}
+use Rattle.trip_frequencies.proofs.Common.{ℕ, leb, ltb, rules, IsPartitionPoint-from_clause, IsPartitionedBy-leb, IsPartitionedBy-ltb}
 use Rattle.trip_frequencies.proofs.RepeatLemmas.{span_is}
 use Rattle.trip_frequencies.proofs.repeats.span_of.Goals as goal
 

@@ -1,6 +1,4 @@
-use Rattle.std.proofs.Common.{ℕ, subst}
-use Rattle.change_times.specs.Changes.{ChangeParts, links_of}
-use Rattle.plan_model.specs.Network.{AreLinksInto}
+use Rattle.change_times.proofs.Common.{ℕ, subst, ChangeParts, links_of, AreLinksInto}
 use Rattle.change_times.proofs.changes.Changes.links_into.Goals as goal
 
 abbrev AreOf : ChangeParts → Type 0

@@ -1,11 +1,7 @@
-use Rattle.std.proofs.Common.{Result, Ok, Err, IfOk}
+use Rattle.change_times.proofs.Common.{Result, Ok, Err, IfOk, Loaded, loaded_rows, FeedParts, ChangeParts, AreCollectedChanges, AreReportedBySome, fault_of_transfers}
 use Rattle.csv_rows.specs.declared.feed_tables.FeedFault.{FeedFault}
 use Rattle.csv_rows.specs.declared.feed_tables.Table.TheVariants.{Transfers}
 use Rattle.csv_rows.specs.RowFaults.{ReportsFirst}
-use Rattle.table_files.specs.declared.loading.Loaded.{Loaded}
-use Rattle.table_files.specs.Loading.{loaded_rows}
-use Rattle.gtfs_tables.specs.Feeds.{FeedParts}
-use Rattle.change_times.specs.Changes.{ChangeParts, AreCollectedChanges, AreReportedBySome, fault_of_transfers}
 use Rattle.change_times.proofs.changes.Changes.read.Goals as goal
 
 -- what is said of a table with no fault is said by some

@@ -1,6 +1,4 @@
-use Rattle.std.proofs.Common.{◌≡◌, ◌<◌, ◌-◌, length, sym, ap, ◌∙◌, arith}
-use Rattle.std.proofs.lemmas.List.{get_or_default}
-use Rattle.plan_model.specs.declared.model.Way.{Way}
+use Rattle.change_times.proofs.Common.{◌≡◌, ◌<◌, ◌-◌, length, sym, ap, ◌∙◌, arith, get_or_default, Way}
 use Rattle.change_times.proofs.LinkLemmas.{put-raised}
 use Rattle.change_times.proofs.links.Ways.put.Goals as goal
 

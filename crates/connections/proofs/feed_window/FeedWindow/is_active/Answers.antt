@@ -1,6 +1,4 @@
-use Rattle.std.proofs.Common.{ap, ◌∙◌}
-use Rattle.gtfs_tables.specs.Feeds.{FeedParts}
-use Rattle.connections.specs.Steps.{is_active_trip}
+use Rattle.connections.proofs.Common.{ap, ◌∙◌, FeedParts, is_active_trip}
 use Rattle.connections.proofs.feed_window.FeedWindow.is_active.Goals as goal
 
 pub returns : goal.returns

@@ -1,7 +1,4 @@
-use Rattle.std.proofs.Common.{length, sym, subst}
-use Rattle.gtfs_tables.specs.Timed.{rows_of}
-use Rattle.gtfs_tables.specs.TripRepeats.{AreRepeats}
-use Rattle.connections.specs.Steps.{DepartOnDay}
+use Rattle.connections.proofs.Common.{length, sym, subst, rows_of, AreRepeats, DepartOnDay}
 use Rattle.connections.proofs.ReachLemmas.{departures_are}
 use Rattle.connections.proofs.feed_window.FeedWindow.trip.Goals as goal
 

@@ -1,5 +1,4 @@
-use Rattle.std.proofs.Common.{arith}
-use Rattle.std.proofs.lemmas.Int.{ints}
+use Rattle.connections.proofs.Common.{arith, ints}
 use Rattle.connections.proofs.origins.Origin.plus.Goals as goal
 
 pub returns : goal.returns

@@ -1,9 +1,5 @@
-use Rattle.std.proofs.Common.{◌<◌, ℕ, ℤ, List, [], Option, length, slice_index_or, w32, SFits, rules, ap, ◌∙◌, arith}
-use Rattle.std.proofs.lemmas.Int.{to_z-of_z}
-use Rattle.csv_rows.specs.Tables.{number_in}
-use Rattle.csv_rows.proofs.ListLemmas.{length-list_below, get-list_below}
-use Rattle.service_days.specs.Services.{runs_at}
-use Rattle.connections.specs.Steps.{is_active_trip}
+use Rattle.connections.proofs.Common.{◌<◌, ℕ, ℤ, List, [], Option, length, slice_index_or, w32, SFits, rules, ap, ◌∙◌, arith, to_z-of_z, number_in, length-list_below, get-list_below, runs_at}
+use Rattle.connections.proofs.Common.{is_active_trip}
 use Rattle.connections.specs.TripDays.{FeedDays}
 use Rattle.connections.proofs.trip_days.TripDays.is_active.Goals as goal
 

@@ -1,13 +1,7 @@
-use Rattle.std.proofs.Common.{sym, subst, rules}
-use Rattle.plan_model.specs.NetworkModel.{NetworkModel, plain_network}
+use Rattle.cut_file.proofs.Common.{sym, subst, rules, NetworkModel, plain_network, DelayLists, Cut, IsCutRead, IsNetwork, NameLists, NamesFit, IsCutNetwork}
 use Rattle.plan_model.proofs.SameParts.{same_parts}
-use Rattle.delay_table.specs.DelayLists.{DelayLists}
-use Rattle.cut_file.specs.Read.{Cut, IsCutRead}
-use Rattle.cut_file.specs.CutNetworks.{IsNetwork}
 use Rattle.cut_file.proofs.Made.{make_network}
-use Rattle.plan_model.specs.NameLists.{NameLists, NamesFit}
 use Rattle.cut_file.proofs.Fit.{names_fit}
-use Rattle.cut_file.specs.CutNetwork.{IsCutNetwork}
 use Rattle.cut_file.proofs.NetworkFacts.{cut_network}
 use Rattle.cut_file.proofs.Valid.{network_valid}
 use Rattle.cut_file.proofs.table.CutTable.network.Goals as goal

@@ -1,5 +1,4 @@
-use Rattle.std.proofs.Common.{◌∙◌, ap, None}
-use Rattle.delay_table.specs.Groups.{group_index, of_class}
+use Rattle.delay_table.proofs.Common.{◌∙◌, ap, None, group_index, of_class}
 use Rattle.delay_table.proofs.LineGroups.{line-index}
 use Rattle.delay_table.proofs.groups.Groups.class_index.Goals as goal
 

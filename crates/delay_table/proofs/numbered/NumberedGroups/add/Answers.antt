@@ -1,8 +1,5 @@
-use Rattle.std.proofs.Common.{◌≡◌, ◌++◌, ◌∷◌, [], List, length, Some, cond, ap, ◌∙◌, arith}
-use Rattle.std.specs.List.{list_any}
+use Rattle.delay_table.proofs.Common.{◌≡◌, ◌++◌, ◌∷◌, [], List, length, Some, cond, ap, ◌∙◌, arith, list_any, NumberedGroup, same_numbered}
 use Rattle.std.specs.HashMap.{get}
-use Rattle.delay_table.specs.declared.numbered.NumberedGroup.{NumberedGroup}
-use Rattle.delay_table.specs.Numbered.{same_numbered}
 use Rattle.delay_table.proofs.IndexFacts.{indexes-push}
 use Rattle.delay_table.proofs.numbered.NumberedGroups.add.Goals as goal
 

@@ -1,5 +1,4 @@
-use Rattle.std.proofs.Common.{is_some, ap, ◌∙◌, position}
-use Rattle.delay_table.specs.Numbered.{same_numbered}
+use Rattle.delay_table.proofs.Common.{is_some, ap, ◌∙◌, position, same_numbered}
 use Rattle.delay_table.proofs.IndexFacts.{any-position}
 use Rattle.delay_table.proofs.numbered.NumberedGroups.index_of.Goals as goal
 

@@ -1,6 +1,4 @@
-use Rattle.std.proofs.Common.{◌∙◌, ap, sym, subst, IfSome, length, ℕ, List, ◌<◌}
-use Rattle.plan_model.specs.NameLists.{AreDistinct}
-use Rattle.delay_table.specs.Groups.{numbered_route, routes_of}
+use Rattle.delay_table.proofs.Common.{◌∙◌, ap, sym, subst, IfSome, length, ℕ, List, ◌<◌, AreDistinct, numbered_route, routes_of}
 use Rattle.delay_table.proofs.RouteFacts.{routes-distinct}
 use Rattle.delay_table.proofs.NumberedFacts.{index-is}
 use Rattle.delay_table.proofs.other_groups.OtherGroups.index_of.Goals as goal

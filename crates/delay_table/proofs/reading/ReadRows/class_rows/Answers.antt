@@ -1,7 +1,4 @@
-use Rattle.std.proofs.Common.{◌∙◌, ap, arith, length, sym, List}
-use Rattle.delay_table.specs.declared.reading.GroupRows.{GroupRows}
-use Rattle.delay_table.specs.Groups.{of_class}
-use Rattle.delay_table.specs.Read.{group_rows_at}
+use Rattle.delay_table.proofs.Common.{◌∙◌, ap, arith, length, sym, List, GroupRows, of_class, group_rows_at}
 use Rattle.delay_table.proofs.GroupFacts.{group-here}
 use Rattle.delay_table.proofs.ReadFacts.{rows-known, rows-new}
 use Rattle.delay_table.proofs.reading.ReadRows.class_rows.Goals as goal

@@ -1,6 +1,4 @@
-use Rattle.std.proofs.Common.{◌∙◌, ap, sym, List}
-use Rattle.delay_table.specs.declared.reading.GroupRows.{GroupRows}
-use Rattle.delay_table.specs.Read.{group_rows_at}
+use Rattle.delay_table.proofs.Common.{◌∙◌, ap, sym, List, GroupRows, group_rows_at}
 use Rattle.delay_table.proofs.ReadFacts.{rows-here}
 use Rattle.delay_table.proofs.reading.ReadRows.group_rows.Goals as goal
 

@@ -1,7 +1,4 @@
-use Rattle.std.proofs.Common.{◌≡◌, ◌≢◌, ◌∙◌, arith, sym, subst, List, Some, None, option_map, OnOk, IfErr}
-use Rattle.plan_model.specs.declared.model.Outcome.{Outcome}
-use Rattle.delay_table.specs.declared.faults.DelayFault.TheVariants.{NoMemory}
-use Rattle.delay_table.specs.Delays.{Line, fault_after, line_with}
+use Rattle.delay_table.proofs.Common.{◌≡◌, ◌≢◌, ◌∙◌, arith, sym, subst, List, Some, None, option_map, OnOk, IfErr, Outcome, NoMemory, Line, fault_after, line_with}
 use Rattle.delay_table.proofs.GroupFacts.{group-here}
 use Rattle.delay_table.proofs.ReadFacts.{rows-known, rows-new, first-none}
 use Rattle.delay_table.proofs.reading.Reading.add.Goals as goal

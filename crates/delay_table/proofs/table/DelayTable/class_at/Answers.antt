@@ -1,7 +1,4 @@
-use Rattle.std.proofs.Common.{◌∙◌}
-use Rattle.delay_table.specs.DelayLists.{class_at, class_for}
-use Rattle.delay_table.specs.Delays.{class_type}
-use Rattle.delay_table.specs.Groups.{numbered_route, routes_of}
+use Rattle.delay_table.proofs.Common.{◌∙◌, class_at, class_for, class_type, numbered_route, routes_of}
 use Rattle.delay_table.proofs.RouteFacts.{unnumbered-class}
 use Rattle.delay_table.proofs.table.DelayTable.class_at.Goals as goal
 

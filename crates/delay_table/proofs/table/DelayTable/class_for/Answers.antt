@@ -1,7 +1,4 @@
-use Rattle.std.proofs.Common.{◌≡◌, sym, subst, Bor, ℕ, List, Option, Some, option_map, IfNone, IfSome, Contains, slice_get}
-use Rattle.delay_table.specs.DelayLists.{class_for}
-use Rattle.delay_table.specs.Delays.{class_type}
-use Rattle.delay_table.specs.Groups.{numbered_route, routes_of}
+use Rattle.delay_table.proofs.Common.{◌≡◌, sym, subst, Bor, ℕ, List, Option, Some, option_map, IfNone, IfSome, Contains, slice_get, class_for, class_type, numbered_route, routes_of}
 use Rattle.delay_table.proofs.RouteFacts.{numbered-class}
 use Rattle.delay_table.proofs.table.DelayTable.class_for.Goals as goal
 use Rattle.delay_table.proofs.table.DelayTable.class_for.Goals.{in-None, in-Some}

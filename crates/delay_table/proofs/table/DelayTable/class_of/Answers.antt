@@ -1,7 +1,5 @@
-use Rattle.std.proofs.Common.{ap, sym, ℕ, subst, Err, nat_cmp, List, Contains}
-use Rattle.std.proofs.lemmas.List.Sorted.{searched}
+use Rattle.delay_table.proofs.Common.{ap, sym, ℕ, subst, Err, nat_cmp, List, Contains, searched, DelayLists}
 use Rattle.std.specs.List.Sorted.{IsBinarySearchResult}
-use Rattle.delay_table.specs.DelayLists.{DelayLists}
 use Rattle.delay_table.proofs.TypeFacts.{absent_type, never_falls}
 use Rattle.delay_table.proofs.table.DelayTable.class_of.Goals as goal
 

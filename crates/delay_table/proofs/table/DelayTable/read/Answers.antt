@@ -1,9 +1,4 @@
-use Rattle.std.proofs.Common.{◌≡◌, ◌≢◌, ◌<◌, ◌∙◌, ap, sym, subst, length, ℕ, Some, None, rules, IfOk, OnOk, IfErr}
-use Rattle.csv_rows.proofs.FaultLemmas.{if_raised}
-use Rattle.delay_table.specs.declared.faults.DelayFault.TheVariants.{NoMemory, TooManyClasses}
-use Rattle.delay_table.specs.DelayBounds.{most_groups}
-use Rattle.delay_table.specs.DelayLists.{DelayLists}
-use Rattle.delay_table.specs.Delays.{delays_of}
+use Rattle.delay_table.proofs.Common.{◌≡◌, ◌≢◌, ◌<◌, ◌∙◌, ap, sym, subst, length, ℕ, Some, None, rules, IfOk, OnOk, IfErr, if_raised, NoMemory, TooManyClasses, most_groups, DelayLists, delays_of}
 use Rattle.delay_table.proofs.Counted.{column-other, lines-other}
 use Rattle.delay_table.proofs.Sound.{column-first, line-first, fault-same, delays-same, groups-count}
 use Rattle.delay_table.proofs.table.DelayTable.read.Goals as goal

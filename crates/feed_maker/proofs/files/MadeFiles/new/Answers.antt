@@ -1,8 +1,4 @@
-use Rattle.std.proofs.Common.{◌∙◌, ap, codes}
-use Rattle.file_ports.specs.Steady.{folder_of as others_on}
-use Rattle.feed_maker.specs.StopTimes.{lines_of}
-use Rattle.feed_maker.specs.MadeTables.{stop_times_text}
-use Rattle.feed_maker.specs.Made.{other_files}
+use Rattle.feed_maker.proofs.Common.{◌∙◌, ap, codes, others_on, lines_of, stop_times_text, other_files}
 use Rattle.feed_maker.proofs.FolderLemmas.{folder_front, stop_times_first}
 use Rattle.feed_maker.proofs.files.MadeFiles.new.Goals as goal
 

@@ -1,7 +1,4 @@
-use Rattle.std.proofs.Common.{rules, codes, sym, ◌∙◌}
-use Rattle.file_ports.specs.Steady.{folder_of as others_on, remaining_of}
-use Rattle.feed_maker.specs.StopTimes.{lines_of}
-use Rattle.feed_maker.specs.MadeTables.{stop_times_text}
+use Rattle.feed_maker.proofs.Common.{rules, codes, sym, ◌∙◌, others_on, remaining_of, lines_of, stop_times_text}
 use Rattle.feed_maker.proofs.OpenLemmas.{opens_behind}
 use Rattle.feed_maker.proofs.files.MadeFilesFiles.open_file.Goals as goal
 

@@ -1,5 +1,4 @@
-use Rattle.std.proofs.Common.{ℕ, List, ◌++◌, ap, ◌∙◌, arith}
-use Rattle.feed_maker.specs.MadeTables.{line_rows}
+use Rattle.feed_maker.proofs.Common.{ℕ, List, ◌++◌, ap, ◌∙◌, arith, line_rows}
 use Rattle.feed_maker.proofs.StopTimeLemmas.{remaining_next}
 use Rattle.feed_maker.proofs.stop_times.StopTimes.fill.Goals as goal
 

@@ -1,5 +1,4 @@
-use Rattle.std.proofs.Common.{ap, ◌∙◌, vec_items}
-use Rattle.file_ports.specs.Ports.{FileMap, file_at}
+use Rattle.file_ports.proofs.Common.{ap, ◌∙◌, vec_items, FileMap, file_at}
 use Rattle.file_ports.proofs.OpenLemmas.{put_file}
 use Rattle.file_ports.proofs.steady.SteadyFiles.add.Goals as goal
 

@@ -1,4 +1,4 @@
-use Rattle.std.proofs.Common.{rules, true, sym, ◌∙◌, ap, ◌≡◌, position, vec_items}
+use Rattle.file_ports.proofs.Common.{rules, true, sym, ◌∙◌, ap, ◌≡◌, position, vec_items}
 use Rattle.file_ports.proofs.NamedLemmas.{at_path}
 use Rattle.file_ports.proofs.OpenLemmas.{opened_remaining, opened_path, absent}
 use Rattle.file_ports.proofs.steady.SteadyFilesFiles.open_file.Goals as goal

@@ -1,7 +1,5 @@
-use Rattle.std.proofs.Common.{◌∙◌, [], ap, refl}
-use Rattle.clock_text.specs.Civil.{nanos_text}
+use Rattle.graph_text.proofs.Common.{◌∙◌, [], ap, refl, nanos_text, name_is}
 use Rattle.graph_text.proofs.Fields.{take_nine}
-use Rattle.printed_rows.proofs.Lines.{name_is}
 use Rattle.graph_text.proofs.printer.Printer.put_head.Goals as goal
 
 pub returns : goal.returns

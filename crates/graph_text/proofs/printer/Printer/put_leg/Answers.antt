@@ -1,7 +1,6 @@
-use Rattle.std.proofs.Common.{◌∙◌}
+use Rattle.graph_text.proofs.Common.{◌∙◌, name_is}
 use Rattle.graph_text.proofs.Fields.{leg_row_fields}
 use Rattle.printed_rows.proofs.Connections.{dep_printable, arr_printable, run_named, from_named, to_named}
-use Rattle.printed_rows.proofs.Lines.{name_is}
 use Rattle.graph_text.proofs.printer.Printer.put_leg.Goals as goal
 
 pub returns : goal.returns

@@ -1,6 +1,5 @@
-use Rattle.std.proofs.Common.{◌∙◌, [], ap, decimal}
+use Rattle.graph_text.proofs.Common.{◌∙◌, [], ap, decimal, name_is}
 use Rattle.graph_text.proofs.Fields.{take_nine}
-use Rattle.printed_rows.proofs.Lines.{name_is}
 use Rattle.graph_text.proofs.printer.Printer.put_place.Goals as goal
 
 pub returns : goal.returns

@@ -1,6 +1,4 @@
-use Rattle.std.proofs.Common.{◌∙◌, ap, length, codes, decimal}
-use Rattle.graph_text.specs.GraphTexts.{leg_row, rows_text}
-use Rattle.printed_rows.proofs.Lines.{append_ok}
+use Rattle.graph_text.proofs.Common.{◌∙◌, ap, length, codes, decimal, leg_row, rows_text, append_ok}
 use Rattle.graph_text.proofs.printer.Printer.put_ride.Goals as goal
 
 pub returns : goal.returns

@@ -1,6 +1,4 @@
-use Rattle.std.proofs.Common.{refl}
-use Rattle.graph_text.specs.GraphTexts.{ride_text, rides_text}
-use Rattle.printed_rows.proofs.Lines.{text_more}
+use Rattle.graph_text.proofs.Common.{refl, ride_text, rides_text, text_more}
 use Rattle.graph_text.proofs.printer.Printer.put_rides.Goals as goal
 
 pub loop-ride-preserved : goal.loop-ride-preserved

@@ -1,5 +1,4 @@
-use Rattle.std.proofs.Common.{◌≡◌, ◌++◌, drop}
-use Rattle.graph_text.specs.GraphTexts.{rides_text}
+use Rattle.graph_text.proofs.Common.{◌≡◌, ◌++◌, drop, rides_text}
 use Rattle.graph_text.proofs.printer.Printer.put_rides.Given as goal
 
 -- the text so far, and that of the rides that remain

@@ -1,7 +1,4 @@
-use Rattle.std.proofs.Common.{◌∙◌, refl}
-use Rattle.clock_text.specs.Civil.{moment_text}
-use Rattle.graph_text.specs.GraphTexts.{leg_row, rows_text}
-use Rattle.printed_rows.proofs.Lines.{text_more}
+use Rattle.graph_text.proofs.Common.{◌∙◌, refl, moment_text, leg_row, rows_text, text_more}
 use Rattle.graph_text.proofs.printer.Printer.put_rows.Goals as goal
 
 pub loop-row-preserved : goal.loop-row-preserved

@@ -1,5 +1,4 @@
-use Rattle.std.proofs.Common.{◌≡◌, ◌++◌, drop}
-use Rattle.graph_text.specs.GraphTexts.{rows_text}
+use Rattle.graph_text.proofs.Common.{◌≡◌, ◌++◌, drop, rows_text}
 use Rattle.graph_text.proofs.printer.Printer.put_rows.Given as goal
 
 -- the text so far, and that of the rows that remain

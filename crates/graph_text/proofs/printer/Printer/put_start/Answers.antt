@@ -1,6 +1,4 @@
-use Rattle.std.proofs.Common.{◌∙◌, ap}
-use Rattle.clock_text.specs.Civil.{moment_text}
-use Rattle.plan_model.specs.declared.model.Connection.{Connection}
+use Rattle.graph_text.proofs.Common.{◌∙◌, ap, moment_text, Connection}
 use Rattle.graph_text.proofs.printer.Printer.put_start.Goals as goal
 
 pub returns : goal.returns

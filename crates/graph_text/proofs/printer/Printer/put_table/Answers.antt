@@ -1,6 +1,4 @@
-use Rattle.std.proofs.Common.{length, codes}
-use Rattle.graph_text.specs.GraphTexts.{place_row, rows_text}
-use Rattle.printed_rows.proofs.Lines.{append_ok}
+use Rattle.graph_text.proofs.Common.{length, codes, place_row, rows_text, append_ok}
 use Rattle.graph_text.proofs.printer.Printer.put_table.Goals as goal
 
 pub returns : goal.returns

@@ -1,6 +1,4 @@
-use Rattle.std.proofs.Common.{refl}
-use Rattle.graph_text.specs.GraphTexts.{table_text, tables_text}
-use Rattle.printed_rows.proofs.Lines.{text_more}
+use Rattle.graph_text.proofs.Common.{refl, table_text, tables_text, text_more}
 use Rattle.graph_text.proofs.printer.Printer.put_tables.Goals as goal
 
 pub loop-table-preserved : goal.loop-table-preserved

@@ -1,5 +1,4 @@
-use Rattle.std.proofs.Common.{◌≡◌, ◌++◌, drop}
-use Rattle.graph_text.specs.GraphTexts.{tables_text}
+use Rattle.graph_text.proofs.Common.{◌≡◌, ◌++◌, drop, tables_text}
 use Rattle.graph_text.proofs.printer.Printer.put_tables.Given as goal
 
 -- the text so far, and that of the tables that remain

@@ -1,7 +1,4 @@
-use Rattle.std.proofs.Common.{subst, Result}
-use Rattle.graph_text.specs.declared.reader.Reading.{Reading}
-use Rattle.graph_text.specs.declared.reader.TextFault.{TextFault}
-use Rattle.graph_text.specs.Reading.{IsUnlessNoMemory}
+use Rattle.graph_text.proofs.Common.{subst, Result, Reading, TextFault, IsUnlessNoMemory}
 use Rattle.graph_text.proofs.Tables.{leg_step}
 use Rattle.graph_text.proofs.reader.Reader.read_row.Goals as goal
 

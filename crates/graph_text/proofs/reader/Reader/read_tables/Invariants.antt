@@ -1,5 +1,4 @@
-use Rattle.std.proofs.Common.{◌≡◌, ◌+◌, drop}
-use Rattle.graph_text.specs.Reading.{place_tables_from, no_tables, IsPlaced}
+use Rattle.graph_text.proofs.Common.{◌≡◌, ◌+◌, drop, place_tables_from, no_tables, IsPlaced}
 use Rattle.graph_text.proofs.reader.Reader.read_tables.Given as goal
 
 -- what the rows that remain give from here on

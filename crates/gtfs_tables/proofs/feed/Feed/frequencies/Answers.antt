@@ -1,7 +1,4 @@
-use Rattle.std.proofs.Common.{◌<◌, [], length, slice_index_or, sym, ap, ◌∙◌, arith}
-use Rattle.csv_rows.proofs.ListLemmas.{get-list_below}
-use Rattle.gtfs_tables.specs.Feeds.{FeedParts}
-use Rattle.trip_frequencies.specs.Repeats.{repeats_in}
+use Rattle.gtfs_tables.proofs.Common.{◌<◌, [], length, slice_index_or, sym, ap, ◌∙◌, arith, get-list_below, FeedParts, repeats_in}
 use Rattle.gtfs_tables.proofs.feed.Feed.frequencies.Goals as goal
 
 pub returns : goal.returns

@@ -1,7 +1,5 @@
-use Rattle.std.proofs.Common.{◌<◌, length, ap, arith}
+use Rattle.gtfs_tables.proofs.Common.{◌<◌, length, ap, arith, FeedParts, feed_parts_of}
 use Rattle.std.proofs.lemmas.Grind.{get_or_default_zero}
-use Rattle.gtfs_tables.specs.Feeds.{FeedParts}
-use Rattle.gtfs_tables.specs.FeedInside.{feed_parts_of}
 use Rattle.gtfs_tables.proofs.FeedFacts.{place_below}
 use Rattle.gtfs_tables.proofs.feed.Feed.place.Goals as goal
 

@@ -1,4 +1,4 @@
-use Rattle.csv_rows.proofs.FaultLemmas.{some_raised}
+use Rattle.gtfs_tables.proofs.Common.{some_raised}
 use Rattle.gtfs_tables.proofs.FeedLemmas.{if_same, none_read, fault_after, feed_of_tables, sound_feed}
 use Rattle.gtfs_tables.proofs.feed.Feed.read.Goals as goal
 

@@ -1,7 +1,4 @@
-use Rattle.std.proofs.Common.{subst}
-use Rattle.gtfs_tables.specs.FeedInside.{feed_parts_of}
-use Rattle.gtfs_tables.specs.TripRepeats.{AreRepeating, IsSmall}
-use Rattle.gtfs_tables.specs.Timed.{IsTimed}
+use Rattle.gtfs_tables.proofs.Common.{subst, feed_parts_of, AreRepeating, IsSmall, IsTimed}
 use Rattle.gtfs_tables.proofs.FeedFacts.{is_timed}
 use Rattle.gtfs_tables.proofs.RepeatFacts.{is_repeating}
 use Rattle.gtfs_tables.proofs.SmallFacts.{is_small}

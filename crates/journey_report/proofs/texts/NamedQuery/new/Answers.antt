@@ -1,4 +1,4 @@
-use Rattle.printed_rows.proofs.Lines.{name_is}
+use Rattle.journey_report.proofs.Common.{name_is}
 use Rattle.journey_report.proofs.texts.NamedQuery.new.Goals as goal
 
 pub returns-clause-source : goal.returns-clause-source

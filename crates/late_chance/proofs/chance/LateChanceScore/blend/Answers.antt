@@ -1,7 +1,4 @@
-use Rattle.std.proofs.Common.{◌≤◌, List, sym, subst}
-use Rattle.plan_model.specs.Bounds.{certainty}
-use Rattle.interval_fixed.specs.Interval.{Interval}
-use Rattle.interval_fixed.specs.Means.{mean_of}
+use Rattle.late_chance.proofs.Common.{◌≤◌, List, sym, subst, certainty, Interval, mean_of}
 use Rattle.late_chance.proofs.Within.{mean_within}
 use Rattle.late_chance.proofs.chance.LateChanceScore.blend.Goals as goal
 

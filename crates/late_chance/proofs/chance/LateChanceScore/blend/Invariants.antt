@@ -1,7 +1,5 @@
-use Rattle.std.proofs.Common.{◌≡◌, ◌≤◌, map, take, All}
+use Rattle.late_chance.proofs.Common.{◌≡◌, ◌≤◌, map, take, All, certainty, itself}
 use Rattle.arrayvec.specs.ArrayVec.{array_vec_len}
-use Rattle.plan_model.specs.Bounds.{certainty}
-use Rattle.late_chance.specs.Chances.{itself}
 use Rattle.late_chance.proofs.chance.LateChanceScore.blend.Given as goal
 
 abbrev pub invariant-loop-child : goal.invariant-loop-child

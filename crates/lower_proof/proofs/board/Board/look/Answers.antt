@@ -1,7 +1,4 @@
-use Rattle.std.proofs.Common.{◌≡◌, ◌≤◌, length, max, arith, subst, sym, length-take, take_at}
-use Rattle.std.proofs.lemmas.Bool.{cases_lt}
-use Rattle.std.proofs.lemmas.List.{get_or_read}
-use Rattle.lower_proof.specs.Minima.{IsBoard, AreMinima}
+use Rattle.lower_proof.proofs.Common.{◌≡◌, ◌≤◌, length, max, arith, subst, sym, length-take, take_at, cases_lt, get_or_read, IsBoard, AreMinima}
 use Rattle.lower_proof.proofs.Leasts.{none_below}
 use Rattle.lower_proof.proofs.Minima.{before_is, front_in_time, board_shown}
 use Rattle.lower_proof.proofs.board.Board.look.Goals as goal

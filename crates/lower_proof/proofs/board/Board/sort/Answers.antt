@@ -1,5 +1,4 @@
-use Rattle.std.proofs.Common.{arith}
-use Rattle.std.proofs.lemmas.List.Sorted.{IsPermutation-trans, length_permutation}
+use Rattle.lower_proof.proofs.Common.{arith, IsPermutation-trans, length_permutation}
 use Rattle.lower_proof.proofs.Entries.{falls_reversed}
 use Rattle.lower_proof.proofs.board.Board.sort.Goals as goal
 

@@ -1,5 +1,4 @@
-use Rattle.std.proofs.Common.{◌∙◌, ap, decimal}
-use Rattle.printed_rows.proofs.Lines.{seven_fields, name_is}
+use Rattle.lower_proof.proofs.Common.{◌∙◌, ap, decimal, seven_fields, name_is}
 use Rattle.lower_proof.proofs.printer.Printer.put_bounds.Goals as goal
 
 pub returns : goal.returns

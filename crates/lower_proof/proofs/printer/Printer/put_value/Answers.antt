@@ -1,7 +1,4 @@
-use Rattle.std.proofs.Common.{◌∙◌, ap, decimal}
-use Rattle.plan_model.specs.declared.model.Connection.{Connection}
-use Rattle.printed_rows.specs.Writers.{run_name}
-use Rattle.printed_rows.proofs.Lines.{four_fields, name_is}
+use Rattle.lower_proof.proofs.Common.{◌∙◌, ap, decimal, Connection, run_name, four_fields, name_is}
 use Rattle.lower_proof.proofs.printer.Printer.put_value.Goals as goal
 
 pub returns-clause-text : goal.returns-clause-text

@@ -1,6 +1,4 @@
-use Rattle.std.proofs.Common.{◌++◌, ◌<◌, length, arith}
-use Rattle.printed_rows.specs.Writers.{text_of_records}
-use Rattle.lower_proof.specs.CertificateTexts.{value_records}
+use Rattle.lower_proof.proofs.Common.{◌++◌, ◌<◌, length, arith, text_of_records, value_records}
 use Rattle.lower_proof.proofs.ReadBack.{values_step, values_done, fit_more}
 use Rattle.lower_proof.proofs.printer.Printer.put_values.Goals as goal
 

@@ -1,7 +1,4 @@
-use Rattle.std.proofs.Common.{◌≡◌, ◌++◌, drop}
-use Rattle.printed_rows.specs.Writers.{text_of_records}
-use Rattle.lower_proof.specs.Steps.{AllFit}
-use Rattle.lower_proof.specs.CertificateTexts.{value_records}
+use Rattle.lower_proof.proofs.Common.{◌≡◌, ◌++◌, drop, text_of_records, AllFit, value_records}
 use Rattle.lower_proof.proofs.printer.Printer.put_values.Given as goal
 
 -- the text so far, and that of the values that remain

@@ -1,5 +1,4 @@
-use Rattle.std.proofs.Common.{refl, ◌∙◌, ap, ◌||◌, ◌&&◌, bytes_eq, nat_eq}
-use Rattle.file_ports.proofs.NamedLemmas.{entry_at}
+use Rattle.memory_ports.proofs.Common.{refl, ◌∙◌, ap, ◌||◌, ◌&&◌, bytes_eq, nat_eq, entry_at}
 use Rattle.memory_ports.proofs.FailingLemmas.{recalled_count, recalled_more, recalled_same, on_any_err}
 use Rattle.memory_ports.proofs.memory.MemoryFiles.fail.Goals as goal
 

@@ -1,5 +1,4 @@
-use Rattle.std.proofs.Common.{◌≡◌, ◌-◌, ◌*◌, ◌/◌, length, get_or, arith}
-use Rattle.std.proofs.lemmas.List.{get_or_read}
+use Rattle.merged_runs.proofs.Common.{◌≡◌, ◌-◌, ◌*◌, ◌/◌, length, get_or, arith, get_or_read}
 use Rattle.merged_runs.proofs.TournamentLemmas.{IsPlayedAround-run, IsPlayedAround-child, IsPlayedAround-more}
 use Rattle.merged_runs.proofs.merged.MergedRuns.give.Goals as goal
 

@@ -1,4 +1,4 @@
-use Rattle.std.proofs.Common.{◌≡◌}
+use Rattle.merged_runs.proofs.Common.{◌≡◌}
 use Rattle.merged_runs.proofs.TournamentLemmas.{IsPlayedAround}
 use Rattle.merged_runs.proofs.merged.MergedRuns.give.Given as goal
 

@@ -1,7 +1,4 @@
-use Rattle.std.proofs.Common.{◌-◌, arith, ap}
-use Rattle.std.proofs.lemmas.List.{get_or_read}
-use Rattle.plan_model.specs.declared.model.Connection.{Connection}
-use Rattle.plan_model.specs.Network.{dep_of}
+use Rattle.merged_runs.proofs.Common.{◌-◌, arith, ap, get_or_read, Connection, dep_of}
 use Rattle.merged_runs.proofs.StretchLemmas.{key_of-none, key_of-some}
 use Rattle.merged_runs.proofs.merged.MergedRuns.key.Goals as goal
 

@@ -1,4 +1,4 @@
-use Rattle.std.proofs.Common.{◌≡◌, ◌≤◌, length, arith}
+use Rattle.merged_runs.proofs.Common.{◌≡◌, ◌≤◌, length, arith}
 use Rattle.merged_runs.proofs.TournamentLemmas.{IsPlayedFrom-runs}
 use Rattle.merged_runs.proofs.merged.MergedRuns.play_all.Goals as goal
 

@@ -1,4 +1,4 @@
-use Rattle.std.proofs.Common.{◌≡◌}
+use Rattle.merged_runs.proofs.Common.{◌≡◌}
 use Rattle.merged_runs.proofs.TournamentLemmas.{AreRead, IsPlayedFrom}
 use Rattle.merged_runs.proofs.merged.MergedRuns.play_all.Given as goal
 

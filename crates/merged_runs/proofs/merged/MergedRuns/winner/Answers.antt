@@ -1,6 +1,4 @@
-use Rattle.std.proofs.Common.{◌+◌, ◌*◌, arith}
-use Rattle.std.proofs.lemmas.List.{get_or_read}
-use Rattle.merged_runs.specs.Merged.{IsWinner}
+use Rattle.merged_runs.proofs.Common.{◌+◌, ◌*◌, arith, get_or_read, IsWinner}
 use Rattle.merged_runs.proofs.TournamentLemmas.{IsWinner-first, IsWinner-second}
 use Rattle.merged_runs.proofs.merged.MergedRuns.winner.Goals as goal
 use Rattle.merged_runs.proofs.merged.MergedRuns.winner.Goals.{After-index-second}

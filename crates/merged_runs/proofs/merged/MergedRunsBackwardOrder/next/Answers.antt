@@ -1,10 +1,5 @@
-use Rattle.std.proofs.Common.{◌≡◌, ℕ, List, ◌-◌, ◌<◌, ◌%◌, ◌++◌, ◌∷◌, [], length, get_or, set, arith, refl, ap, sym, ◌∙◌, eqb-true}
-use Rattle.std.proofs.lemmas.Bool.{eqb-false}
-use Rattle.std.proofs.lemmas.List.{get_or_read, length_push}
-use Rattle.plan_model.specs.Bounds.{most_connections}
-use Rattle.plan_model.specs.declared.model.Connection.{Connection}
-use Rattle.plan_model.specs.Network.{connection}
-use Rattle.merged_runs.specs.Merged.{rest_of}
+use Rattle.merged_runs.proofs.Common.{◌≡◌, ℕ, List, ◌-◌, ◌<◌, ◌%◌, ◌++◌, ◌∷◌, [], length, get_or, set, arith, refl, ap, sym, ◌∙◌, eqb-true, eqb-false, get_or_read, length_push, most_connections}
+use Rattle.merged_runs.proofs.Common.{Connection, connection, rest_of}
 use Rattle.merged_runs.proofs.StretchLemmas.{rest_of-none}
 use Rattle.merged_runs.proofs.TournamentLemmas.{HasWon, won, rest_of-exhausted, rest_of-given}
 use Rattle.merged_runs.proofs.merged.MergedRunsBackwardOrder.next.Goals as goal

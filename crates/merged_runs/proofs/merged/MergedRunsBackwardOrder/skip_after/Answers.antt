@@ -1,5 +1,4 @@
-use Rattle.std.proofs.Common.{◌≡◌, ◌<◌, ◌≤◌, length, get_or, arith, ap, ◌∙◌}
-use Rattle.std.proofs.lemmas.List.{get_or_read}
+use Rattle.merged_runs.proofs.Common.{◌≡◌, ◌<◌, ◌≤◌, length, get_or, arith, ap, ◌∙◌, get_or_read}
 use Rattle.merged_runs.proofs.SkipLemmas.{DepartsInOrder-run, rest_of-lowered}
 use Rattle.merged_runs.proofs.merged.MergedRunsBackwardOrder.skip_after.Goals as goal
 

@@ -1,4 +1,4 @@
-use Rattle.std.proofs.Common.{◌≡◌}
+use Rattle.merged_runs.proofs.Common.{◌≡◌}
 use Rattle.merged_runs.proofs.SkipLemmas.{AreLowered}
 use Rattle.merged_runs.proofs.merged.MergedRunsBackwardOrder.skip_after.Given as goal
 

@@ -1,5 +1,4 @@
-use Rattle.std.proofs.Common.{subst}
-use Rattle.plan_model.specs.NameLists.{AreNames}
+use Rattle.plan_model.proofs.Common.{subst, AreNames}
 use Rattle.plan_model.proofs.names.Names.places.Goals as goal
 
 pub returns-clause-names : goal.returns-clause-names

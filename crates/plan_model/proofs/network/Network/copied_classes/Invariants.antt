@@ -1,4 +1,4 @@
-use Rattle.std.proofs.Common.{◌≡◌, take}
+use Rattle.plan_model.proofs.Common.{◌≡◌, take}
 use Rattle.plan_model.proofs.network.Network.copied_classes.Given as goal
 
 abbrev pub invariant-loop-row : goal.invariant-loop-row

@@ -1,7 +1,4 @@
-use Rattle.std.proofs.Common.{arith, ap, ◌∙◌, subst}
-use Rattle.plan_model.specs.declared.model.Connection.{Connection}
-use Rattle.plan_model.specs.NetworkModel.{NetworkModel}
-use Rattle.plan_model.specs.Network.{IsValid}
+use Rattle.plan_model.proofs.Common.{arith, ap, ◌∙◌, subst, Connection, NetworkModel, IsValid}
 use Rattle.plan_model.proofs.Searches.{at_place}
 use Rattle.plan_model.proofs.Boarding.{limit_of-found}
 use Rattle.plan_model.proofs.network.Network.limit.Goals as goal

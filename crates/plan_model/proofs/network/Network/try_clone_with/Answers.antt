@@ -1,4 +1,4 @@
-use Rattle.std.proofs.Common.{arith}
+use Rattle.plan_model.proofs.Common.{arith}
 use Rattle.plan_model.proofs.SameParts.{same_parts}
 use Rattle.plan_model.proofs.network.Network.try_clone_with.Goals as goal
 

@@ -1,4 +1,4 @@
-use Rattle.std.proofs.Common.{arith}
+use Rattle.plan_model.proofs.Common.{arith}
 use Rattle.plan_model.proofs.Links.{relinked, IsValid-relinked}
 use Rattle.plan_model.proofs.network.Network.with_links.Goals as goal
 

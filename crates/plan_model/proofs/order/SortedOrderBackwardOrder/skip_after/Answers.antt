@@ -1,8 +1,4 @@
-use Rattle.std.proofs.Common.{◌≡◌, ℕ, ◌+◌, ◌-◌, ◌/◌, ◌<◌, length, get_or, arith, ap, sym, ◌∙◌}
-use Rattle.std.proofs.lemmas.List.{get_or_read}
-use Rattle.plan_model.specs.declared.model.Connection.{Connection}
-use Rattle.plan_model.specs.declared.model.ConnectionId.{ConnectionId}
-use Rattle.plan_model.specs.Network.{dep_of}
+use Rattle.plan_model.proofs.Common.{◌≡◌, ℕ, ◌+◌, ◌-◌, ◌/◌, ◌<◌, length, get_or, arith, ap, sym, ◌∙◌, get_or_read, Connection, ConnectionId, dep_of}
 use Rattle.plan_model.proofs.ScanOrders.{has_each_id}
 use Rattle.plan_model.proofs.Skips.{IsHalved-up, IsHalved-down, IsPrefixUpTo-halved}
 use Rattle.plan_model.proofs.order.SortedOrderBackwardOrder.skip_after.Goals as goal

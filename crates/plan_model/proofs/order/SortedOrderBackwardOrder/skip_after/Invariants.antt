@@ -1,4 +1,4 @@
-use Rattle.std.proofs.Common.{◌-◌}
+use Rattle.plan_model.proofs.Common.{◌-◌}
 use Rattle.plan_model.proofs.Skips.{IsHalved}
 use Rattle.plan_model.proofs.order.SortedOrderBackwardOrder.skip_after.Given as goal
 

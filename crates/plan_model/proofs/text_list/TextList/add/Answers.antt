@@ -1,4 +1,4 @@
-use Rattle.std.proofs.Common.{refl}
+use Rattle.plan_model.proofs.Common.{refl}
 use Rattle.plan_model.proofs.TextLists.{there_by_number, absent_by_number}
 use Rattle.plan_model.proofs.text_list.TextList.add.Goals as goal
 

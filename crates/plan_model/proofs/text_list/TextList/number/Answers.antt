@@ -1,5 +1,4 @@
-use Rattle.std.proofs.Common.{◌≡◌, ◌∙◌, ap, subst, Some, Contains, slice_get, List, ℕ}
-use Rattle.plan_model.specs.NameLists.{texts}
+use Rattle.plan_model.proofs.Common.{◌≡◌, ◌∙◌, ap, subst, Some, Contains, slice_get, List, ℕ, texts}
 use Rattle.plan_model.proofs.TextLists.{absent_by_walk, found_at}
 use Rattle.plan_model.proofs.text_list.TextList.number.Goals as goal
 

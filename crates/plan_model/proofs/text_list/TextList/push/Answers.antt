@@ -1,5 +1,4 @@
-use Rattle.std.proofs.Common.{◌∙◌, ◌-◌, ◌^◌, ◌<◌, ◌++◌, ◌∷◌, [], List, ℕ, Contains, length, sym, ap, subst}
-use Rattle.plan_model.specs.NameLists.{texts}
+use Rattle.plan_model.proofs.Common.{◌∙◌, ◌-◌, ◌^◌, ◌<◌, ◌++◌, ◌∷◌, [], List, ℕ, Contains, length, sym, ap, subst, texts}
 use Rattle.plan_model.proofs.TextLists.{AreTexts-push, texts_more}
 use Rattle.plan_model.proofs.text_list.TextList.push.Goals as goal
 

@@ -1,6 +1,4 @@
-use Rattle.std.proofs.Common.{◌≡◌, ◌∙◌, ◌+◌, ◌<◌, ◌++◌, ◌∷◌, [], List, ℕ, String, Global, string_bytes, arith, length, get_or, take, sym, ap, subst}
-use Rattle.std.proofs.lemmas.List.{length-map, take_more}
-use Rattle.plan_model.specs.NameLists.{texts}
+use Rattle.plan_model.proofs.Common.{◌≡◌, ◌∙◌, ◌+◌, ◌<◌, ◌++◌, ◌∷◌, [], List, ℕ, String, Global, string_bytes, arith, length, get_or, take, sym, ap, subst, length-map, take_more, texts}
 use Rattle.plan_model.proofs.Texts.{texts-at}
 use Rattle.plan_model.proofs.TextLists.{texts_more}
 use Rattle.plan_model.proofs.text_list.TextList.try_clone.Goals as goal

@@ -1,5 +1,4 @@
-use Rattle.std.proofs.Common.{◌≡◌, take}
-use Rattle.plan_model.specs.NameLists.{texts}
+use Rattle.plan_model.proofs.Common.{◌≡◌, take, texts}
 use Rattle.plan_model.proofs.text_list.TextList.try_clone.Given as goal
 
 abbrev pub invariant-loop-text : goal.invariant-loop-text

@@ -1,6 +1,4 @@
-use Rattle.std.proofs.Common.{◌≡◌, filter}
-use Rattle.service_days.specs.Services.{runs}
-use Rattle.service_days.specs.Days.{days_from}
+use Rattle.service_days.proofs.Common.{◌≡◌, filter, runs, days_from}
 use Rattle.service_days.proofs.services.Services.days.Given as goal
 
 abbrev pub invariant-loop-n : goal.invariant-loop-n

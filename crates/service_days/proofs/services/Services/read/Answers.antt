@@ -1,12 +1,6 @@
-use Rattle.std.proofs.Common.{◌≡◌, ◌≢◌, Option, IfSome, None, subst, refl, Err}
-use Rattle.std.proofs.lemmas.Bool.{and_from, and_left, and_right}
-use Rattle.file_ports.specs.Ports.{FileMap}
+use Rattle.service_days.proofs.Common.{◌≡◌, ◌≢◌, Option, IfSome, None, subst, refl, Err, and_from, and_left, and_right, FileMap, unread_table, load_in, some_raised, dates_from, AreDates}
 use Rattle.csv_rows.specs.declared.feed_tables.Table.TheVariants as table
 use Rattle.csv_rows.specs.declared.feed_tables.FeedFault.TheVariants as fault
-use Rattle.csv_rows.specs.FeedTables.{unread_table}
-use Rattle.table_files.specs.Loading.{load_in}
-use Rattle.csv_rows.proofs.FaultLemmas.{some_raised}
-use Rattle.service_days.specs.Calendars.{dates_from, AreDates}
 use Rattle.service_days.proofs.ReadLemmas.{calendar_first, dates_first, none_there, services_here, runs_by_some}
 use Rattle.service_days.proofs.services.Services.read.Goals as goal
 use Rattle.service_days.proofs.services.Services.read.Goals.{else-missing-via-then-missing+else-dates, else-missing-via-else-missing}

@@ -1,4 +1,4 @@
-use Rattle.std.proofs.Common.{◌≡◌, ℕ, ◌<◌, get_or, []}
+use Rattle.stop_times.proofs.Common.{◌≡◌, ℕ, ◌<◌, get_or, []}
 use Rattle.stop_times.proofs.records.Record.index_named.Given as goal
 
 abbrev pub invariant-loop-i : goal.invariant-loop-i

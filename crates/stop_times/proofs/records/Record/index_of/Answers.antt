@@ -1,5 +1,4 @@
-use Rattle.std.proofs.Common.{◌∙◌, ap}
-use Rattle.csv_rows.specs.Tables.{number_in}
+use Rattle.stop_times.proofs.Common.{◌∙◌, ap, number_in}
 use Rattle.csv_rows.proofs.HeaderLemmas.{index_is}
 use Rattle.stop_times.proofs.records.Record.index_of.Goals as goal
 

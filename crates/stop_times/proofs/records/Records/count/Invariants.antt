@@ -1,4 +1,4 @@
-use Rattle.std.proofs.Common.{◌≡◌, ◌+◌, length}
+use Rattle.stop_times.proofs.Common.{◌≡◌, ◌+◌, length}
 use Rattle.stop_times.proofs.records.Records.count.Given as goal
 
 abbrev pub invariant-loop-count : goal.invariant-loop-count

@@ -1,8 +1,4 @@
-use Rattle.std.proofs.Common.{◌≡◌, ◌∙◌, refl, sym, ap, if◌then◌else◌, [], ◌∷◌, List, ℕ, Bool, true, false, map}
-use Rattle.csv.specs.Reading.{reader_state}
-use Rattle.csv.specs.Records.{fields_of}
-use Rattle.csv_rows.specs.Spaces.{trimmed_text}
-use Rattle.stop_times.specs.RecordsRemaining.{records_after, source}
+use Rattle.stop_times.proofs.Common.{◌≡◌, ◌∙◌, refl, sym, ap, if◌then◌else◌, [], ◌∷◌, List, ℕ, Bool, true, false, map, reader_state, fields_of, trimmed_text, records_after, source}
 use Rattle.stop_times.proofs.RecordLemmas.{took_first-read, took-none}
 use Rattle.stop_times.proofs.records.Records.next.Goals as goal
 use Rattle.stop_times.proofs.records.Records.next.Goals.{in-Ok-true, in-Ok-false, in-Err}

@@ -1,9 +1,4 @@
-use Rattle.std.proofs.Common.{◌-◌, ◌^◌, ◌<◌, ℕ, List, Some, length, sym, subst}
-use Rattle.plan_model.specs.NameLists.{Adds}
-use Rattle.plan_model.proofs.Texts.{IsNameList-adds}
-use Rattle.csv_rows.proofs.IdLemmas.{number_is}
-use Rattle.csv_rows.proofs.KeyTexts.{key_adds}
-use Rattle.text_index.specs.KeyTexts.{key_texts}
+use Rattle.text_index.proofs.Common.{◌-◌, ◌^◌, ◌<◌, ℕ, List, Some, length, sym, subst, Adds, IsNameList-adds, number_is, key_adds, key_texts}
 use Rattle.text_index.proofs.KeyLemmas.{text_of_stored}
 use Rattle.text_index.proofs.index.TextIndex.add.Goals as goal
 

@@ -1,4 +1,4 @@
-use Rattle.std.proofs.Common.{◌≡◌, take}
+use Rattle.text_index.proofs.Common.{◌≡◌, take}
 use Rattle.text_index.proofs.index.TextIndex.list.Given as goal
 
 abbrev pub invariant-loop-i : goal.invariant-loop-i

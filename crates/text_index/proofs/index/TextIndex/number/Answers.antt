@@ -1,8 +1,5 @@
-use Rattle.std.proofs.Common.{◌≡◌, ℕ, None, Some, List, Contains, slice_get, sym, subst, ◌∙◌, ap}
+use Rattle.text_index.proofs.Common.{◌≡◌, ℕ, None, Some, List, Contains, slice_get, sym, subst, ◌∙◌, ap, number_is, key_absent, key_position, key_texts}
 use Rattle.csv_rows.specs.Tables.{number_in}
-use Rattle.csv_rows.proofs.IdLemmas.{number_is}
-use Rattle.csv_rows.proofs.KeyTexts.{key_absent, key_position}
-use Rattle.text_index.specs.KeyTexts.{key_texts}
 use Rattle.text_index.proofs.index.TextIndex.number.Goals as goal
 
 pub returns-in-None-clause-none : goal.returns-in-None-clause-none

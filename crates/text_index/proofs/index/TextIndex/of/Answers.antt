@@ -1,8 +1,4 @@
-use Rattle.std.proofs.Common.{sym, ap, []}
-use Rattle.plan_model.proofs.Texts.{take-adds}
-use Rattle.csv_rows.proofs.IdLemmas.{got}
-use Rattle.csv_rows.proofs.KeyTexts.{key_adds}
-use Rattle.text_index.specs.KeyTexts.{key_texts}
+use Rattle.text_index.proofs.Common.{sym, ap, [], take-adds, got, key_adds, key_texts}
 use Rattle.text_index.proofs.index.TextIndex.of.Goals as goal
 
 pub loop-i-init : goal.loop-i-init

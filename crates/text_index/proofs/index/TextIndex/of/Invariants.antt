@@ -1,5 +1,4 @@
-use Rattle.std.proofs.Common.{◌≡◌, take}
-use Rattle.text_index.specs.KeyTexts.{key_texts}
+use Rattle.text_index.proofs.Common.{◌≡◌, take, key_texts}
 use Rattle.text_index.proofs.index.TextIndex.of.Given as goal
 
 abbrev pub invariant-loop-i : goal.invariant-loop-i
