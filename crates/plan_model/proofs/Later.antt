@@ -6,8 +6,8 @@ use Rattle.plan_model.specs.Late.{late}
 use Rattle.plan_model.proofs.Bounds.{row_is}
 use Rattle.plan_model.proofs.Laws.{pow_down}
 
-same_kid : (w : ℕ) (t u : Tree) (ks us : Kids) → t ≡ u → ks ≡ us → Kid w t ks ≡ Kid w u us
-same_kid w t u ks us e f = rw (e, f) refl
+same_child : (w : ℕ) (t u : Tree) (ks us : Kids) → t ≡ u → ks ≡ us → Kid w t ks ≡ Kid w u us
+same_child w t u ks us e f = rw (e, f) refl
 
 mutual
   pub later_by-none : (tree : Tree) → later_by 0 tree ≡ tree
@@ -17,7 +17,7 @@ mutual
 
   all_later_by-none : (kids : Kids) → all_later_by 0 kids ≡ kids
   all_later_by-none Nil = refl
-  all_later_by-none (Kid w tree kids) = same_kid w _ _ _ _ (later_by-none tree) (all_later_by-none kids)
+  all_later_by-none (Kid w tree kids) = same_child w _ _ _ _ (later_by-none tree) (all_later_by-none kids)
 
 pub deadline-none : (by : Option ℕ) → deadline_later_by 0 by ≡ by
 deadline-none None = refl
@@ -42,7 +42,7 @@ mutual
 
   all_undone : (shift : ℕ) (kids : Kids) → all_sooner_by shift (all_later_by shift kids) ≡ kids
   all_undone shift Nil = refl
-  all_undone shift (Kid w tree kids) = same_kid w _ _ _ _ (undone shift tree) (all_undone shift kids)
+  all_undone shift (Kid w tree kids) = same_child w _ _ _ _ (undone shift tree) (all_undone shift kids)
 
 -- no two trees have one later tree
 pub later_by-same : (shift : ℕ) (t u : Tree) → later_by shift t ≡ later_by shift u → t ≡ u
@@ -103,8 +103,8 @@ module _ (n : NetworkModel) (v : IsValid n) (target : ℕ) (by : Option ℕ) (sh
     worsts-later (Kid w tree (Kid v t kids)) (o ∷ []) p a some h = absurd h.2
     worsts-later (Kid w tree (Kid v t kids)) (o ∷ o' ∷ os) p a some h = omega (arith, worst-later tree p (a + o.delay) h.1, worsts-later (Kid v t kids) (o' ∷ os) p a (omega arith) h.2)
 
-one_kid : (w a c p b s : ℕ) → w * (a + c * p) + (b + c * p * s) ≡ w * a + b + c * p * (w + s)
-one_kid w a c p b s =
+one_child : (w a c p b s : ℕ) → w * (a + c * p) + (b + c * p * s) ≡ w * a + b + c * p * (w + s)
+one_child w a c p b s =
     omega (arith, mul-add w a (c * p), mul-add (c * p) w s, mul_comm w (c * p))
 
 whole_row : (c p q s : ℕ) → s ≡ 10000 → q ≡ p * 10000 → c * p * s ≡ c * q
@@ -129,4 +129,4 @@ module _ (n : NetworkModel) (v : IsValid n) (target : ℕ) (by : Option ℕ) (sh
         let weight = safe.0 in
         let one = num-later tree p (a + o.delay) h safe.1 (omega arith) in
         let others = nums-later kids os p a h safe.2 (omega arith) in
-        rw (sum_by-cons (λ o. o.weight) o os, one, others, weight) (one_kid o.weight (num tree h) shift (10000 ^ h) (weighted_kids arrival kids h) (sum_by (λ o. o.weight) os))
+        rw (sum_by-cons (λ o. o.weight) o os, one, others, weight) (one_child o.weight (num tree h) shift (10000 ^ h) (weighted_kids arrival kids h) (sum_by (λ o. o.weight) os))

@@ -14,30 +14,31 @@ pub dep_along : (n : NetworkModel) (ids : List ConnectionId) → IsScanOrder n i
 dep_along n ids order i j d h within = grind (arith, cases_eq)
 
 -- of the first connections those before low depart by a moment, and those from high on after it
-pub record IsHalved (n : NetworkModel) (ids : List ConnectionId) (last left low high : ℕ) : Type 0 where
+pub record IsHalved (n : NetworkModel) (ids : List ConnectionId) (last remaining low high : ℕ) : Type 0 where
   pub ordered : low ≤ high
-  pub within : high ≤ left
+  pub within : high ≤ remaining
   pub soon : (k : ℕ) (d : ConnectionId) → k < low → dep_of n (get_or ids k d).0 ≤ last
-  pub late : (k : ℕ) (d : ConnectionId) → high ≤ k → k < left → last < dep_of n (get_or ids k d).0
+  pub late : (k : ℕ) (d : ConnectionId) → high ≤ k → k < remaining → last < dep_of n (get_or ids k d).0
 
-module _ (n : NetworkModel) (ids : List ConnectionId) (last left low high : ℕ) (order : IsScanOrder n ids) (h : IsHalved n ids last left low high) where
-  pub IsHalved-up : (middle : ℕ) → low ≤ middle → middle < high → left ≤ length ids → ((d : ConnectionId) → dep_of n (get_or ids middle d).0 ≤ last) → IsHalved n ids last left (middle + 1) high
+module _ (n : NetworkModel) (ids : List ConnectionId) (last remaining low high : ℕ) (order : IsScanOrder n ids) (h : IsHalved n ids last remaining low high) where
+  pub IsHalved-up : (middle : ℕ) → low ≤ middle → middle < high → remaining ≤ length ids → ((d : ConnectionId) → dep_of n (get_or ids middle d).0 ≤ last)
+      → IsHalved n ids last remaining (middle + 1) high
   IsHalved-up middle from to all soon = grind (arith, dep_along)
 
-  pub IsHalved-down : (middle : ℕ) → low ≤ middle → middle < high → left ≤ length ids → ((d : ConnectionId) → last < dep_of n (get_or ids middle d).0) → IsHalved n ids last left low middle
+  pub IsHalved-down : (middle : ℕ) → low ≤ middle → middle < high → remaining ≤ length ids → ((d : ConnectionId) → last < dep_of n (get_or ids middle d).0) → IsHalved n ids last remaining low middle
   IsHalved-down middle from to all late = grind (arith, dep_along)
 
-  pub IsPrefixUpTo-halved : high ≤ low → left ≤ length ids → IsPrefixUpTo n last (take left ids) (take low ids)
+  pub IsPrefixUpTo-halved : high ≤ low → remaining ≤ length ids → IsPrefixUpTo n last (take remaining ids) (take low ids)
   IsPrefixUpTo-halved done all =
-      let low_is : low ≤ left = omega (arith, h.ordered, h.within) in
-      let front : take low (take left ids) ≡ take low ids = take_take ids low left low_is in
-      let long : length (take left ids) ≡ left = length-take-le left ids all in
+      let low_is : low ≤ remaining = omega (arith, h.ordered, h.within) in
+      let front : take low (take remaining ids) ≡ take low ids = take_take ids low remaining low_is in
+      let long : length (take remaining ids) ≡ remaining = length-take-le remaining ids all in
       record {
-        skipped = drop low (take left ids);
-        split = sym (take-append-drop low (take left ids)) ∙ ap (λ (xs : List ConnectionId). xs ++ drop low (take left ids)) front;
+        skipped = drop low (take remaining ids);
+        split = sym (take-append-drop low (take remaining ids)) ∙ ap (λ (xs : List ConnectionId). xs ++ drop low (take remaining ids)) front;
         late = λ k d within.
-            let less : low + k < left = omega (arith, within, length-drop low (take left ids), long) in
-            let at : get_or (drop low (take left ids)) k d ≡ get_or ids (low + k) d = get_or-drop low (take left ids) k d ∙ get_or-take left ids (low + k) d less in
+            let less : low + k < remaining = omega (arith, within, length-drop low (take remaining ids), long) in
+            let at : get_or (drop low (take remaining ids)) k d ≡ get_or ids (low + k) d = get_or-drop low (take remaining ids) k d ∙ get_or-take remaining ids (low + k) d less in
             rw at (h.late (low + k) d (omega arith) less);
         soon = λ k d within.
             let less : k < low = omega (arith, within, length-take-le low ids (omega arith)) in

@@ -75,8 +75,8 @@ module _ (n m : NetworkModel) (shift first : ℕ) (view : IsView n m shift first
       safe_there (Done a) p x inside h = (ap (λ (k : ℕ). k + shift) h.0, h.1, in_time_there shift by x h.2)
       safe_there (Ride i j kids) p x inside h =
           let leg = leg_there i j h.1 in
-          let kids_safe = all_there kids (outcomes n j) (to_of n j) (arr_of n j) (ends_inside j leg.0.exit) h.3 in
-          (h.0, leg.0, board_there p x i j inside leg.0 leg.1 h.2, reported_there target later i j leg.0 leg.1 (all_later_by shift kids) kids_safe)
+          let children_safe = all_there kids (outcomes n j) (to_of n j) (arr_of n j) (ends_inside j leg.0.exit) h.3 in
+          (h.0, leg.0, board_there p x i j inside leg.0 leg.1 h.2, reported_there target later i j leg.0 leg.1 (all_later_by shift kids) children_safe)
       safe_there (Stuck q y) p x inside h = absurd h
 
       all_there : (kids : Kids) (row : List Outcome) (p a : ℕ) → p < length m.change → AreSafe n target by kids row p a → AreSafe m target later (all_later_by shift kids) row p (a + shift)
@@ -129,9 +129,9 @@ module _ (n m : NetworkModel) (shift first : ℕ) (view : IsView n m shift first
     start_there (Done a) source x h = (ap (λ (k : ℕ). k + shift) h.0, h.1, in_time_there shift by x h.2)
     start_there (Ride i j kids) source x h =
         let leg = leg_there i j h.1 in
-        let kids_safe = all_there kids (outcomes n j) (to_of n j) (arr_of n j) (ends_inside j leg.0.exit) h.3 in
+        let children_safe = all_there kids (outcomes n j) (to_of n j) (arr_of n j) (ends_inside j leg.0.exit) h.3 in
         let board : IsBoardableAtStart m source (x + shift) i = (sym (seen i leg.0.enter).from ∙ h.2.0, omega (arith, h.2.1, departs i j leg.0 leg.1)) in
-        (h.0, leg.0, board, reported_there target later i j leg.0 leg.1 (all_later_by shift kids) kids_safe)
+        (h.0, leg.0, board, reported_there target later i j leg.0 leg.1 (all_later_by shift kids) children_safe)
     start_there (Stuck q y) source x h = absurd h
 
     abbrev pub ComesFrom : Tree → (source x : ℕ) → Type 0
