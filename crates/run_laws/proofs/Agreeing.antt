@@ -15,7 +15,7 @@ use Rattle.plan_model.specs.NameLists.{NameLists}
 use Rattle.plan_model.specs.Results.{and_then}
 use Rattle.meat_engine.specs.Received.{Outcome}
 use Rattle.meat_engine.proofs.Undisturbed.{fails as job_fails}
-use Rattle.run_laws.specs.Pairs.{RunModel, IsRunWithin, IsUntroubled, AskBoth, IsKept, OrStatus9, EndAlike, PlanIsAccepted, PlanIsReplayed, CertificateIsAccepted, LeaveAlike, LeaveByWorst, CertificateIsWithin, ShareStrategy, PromiseIsSure, WorstIsKept, LaterIsNoWorse, LatestIsOfLastRow, FaultIsFirst, Agree}
+use Rattle.run_laws.specs.Pairs.{RunModel, IsRunWithin, IsUntroubled, AskBoth, IsSaved, OrStatus9, EndAlike, PlanIsAccepted, PlanIsReplayed, CertificateIsAccepted, LeaveAlike, LeaveByWorst, CertificateIsWithin, ShareStrategy, PromiseIsSure, WorstIsKept, LaterIsNoWorse, LatestIsOfLastRow, FaultIsFirst, Agree}
 use Rattle.late_chance.proofs.Rounded.{no_chance}
 use Rattle.run_laws.proofs.Asks.{answer_of}
 use Rattle.run_laws.proofs.Certified.{printed_certificate, value_within}
@@ -179,15 +179,15 @@ module _ (limits : Limits) (r s : RunModel) (first : IsRunWithin limits r) (seco
     second_none = no_fault limits files both.other_old both.other_said s second both.second
 
     -- the text that the first wrote is that which is kept
-    kept_text : (path : List ℕ) (kept : IsKept limits files path r) (w : First) → kept.text ≡ w.text
+    kept_text : (path : List ℕ) (kept : IsSaved limits files path r) (w : First) → kept.text ≡ w.text
     kept_text path kept w =
         let appends : Appends (Some both.old) r.after.out.written kept.text = subst (λ (o : Option (List ℕ)). Appends o r.after.out.written kept.text) both.first.had kept.written in
         one_text both.old kept.text w.text r.after.out.written appends w.written
 
-    there : (path : List ℕ) (kept : IsKept limits files path r) (w : First) → file_at files path ≡ Some w.text
+    there : (path : List ℕ) (kept : IsSaved limits files path r) (w : First) → file_at files path ≡ Some w.text
     there path kept w = kept.there ∙ ap (λ (t : List ℕ). Some t) (kept_text path kept w)
 
-    small : (path : List ℕ) (kept : IsKept limits files path r) (w : First) → length w.text ≤ limits.bytes
+    small : (path : List ℕ) (kept : IsSaved limits files path r) (w : First) → length w.text ≤ limits.bytes
     small path kept w = subst (λ (t : List ℕ). length t ≤ limits.bytes) (kept_text path kept w) kept.small
 
   accepted : PlanIsAccepted limits r s

@@ -86,7 +86,7 @@ pub record AskBoth (files : FileMap) (j : JourneyModel) (a b : AskModel) (r s : 
   pub second_asks : job_of s.words ≡ Ok (Ask j b)
 
 -- the run ended without a fault and wrote a text, which the file of this path holds
-pub record IsKept (limits : Limits) (files : FileMap) (path : List ℕ) (r : RunModel) : Type 0 where
+pub record IsSaved (limits : Limits) (files : FileMap) (path : List ℕ) (r : RunModel) : Type 0 where
   pub text : List ℕ
   pub no_fault : r.report.fault ≡ None
   pub written : Appends r.before.out.written r.after.out.written text
@@ -107,7 +107,7 @@ EndAlike r s =
 -- `check` of the graph that `plan` printed ends with 0, with the same upper bound
 abbrev pub PlanIsAccepted : Limits → RunModel → RunModel → Type 0
 PlanIsAccepted limits r s =
-    (files : FileMap) (j : JourneyModel) (alpha : ℕ) (path : List ℕ) → AskBoth files j (Plan alpha) (CheckGraph path) r s → IsKept limits files path r
+    (files : FileMap) (j : JourneyModel) (alpha : ℕ) (path : List ℕ) → AskBoth files j (Plan alpha) (CheckGraph path) r s → IsSaved limits files path r
     → OrStatus9 s ((s.report.status.0 ≡ 0) × KeepsUpperBound (findings_of r.report) (findings_of s.report))
 
 -- a replay of the graph of a file, over the problem of the journey: the run ends as the walk by the graph does, and the walk is never
@@ -126,13 +126,13 @@ pub record IsReplayed (limits : Limits) (files : FileMap) (j : JourneyModel) (pa
 -- `replay` of the graph that `plan` printed is such a replay
 abbrev pub PlanIsReplayed : Limits → RunModel → RunModel → Type 0
 PlanIsReplayed limits r s =
-    (files : FileMap) (j : JourneyModel) (alpha : ℕ) (path late : List ℕ) → AskBoth files j (Plan alpha) (Replay path late) r s → IsKept limits files path r
+    (files : FileMap) (j : JourneyModel) (alpha : ℕ) (path late : List ℕ) → AskBoth files j (Plan alpha) (Replay path late) r s → IsSaved limits files path r
     → IsReplayed limits files j path late s
 
 -- `check` of the certificate that `certify` printed ends with 0
 abbrev pub CertificateIsAccepted : Limits → RunModel → RunModel → Type 0
 CertificateIsAccepted limits r s =
-    (files : FileMap) (j : JourneyModel) (alpha : ℕ) (path : List ℕ) → AskBoth files j (Certify alpha) (CheckProof path) r s → IsKept limits files path r
+    (files : FileMap) (j : JourneyModel) (alpha : ℕ) (path : List ℕ) → AskBoth files j (Certify alpha) (CheckProof path) r s → IsSaved limits files path r
     → OrStatus9 s (s.report.status.0 ≡ 0)
 
 -- `latest` and `departures` by one deadline end with one status
