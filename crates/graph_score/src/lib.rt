@@ -44,9 +44,9 @@ pub enum ScoreFault {
 }
 
 impl From<NoMemory> for ScoreFault {
-    ghost use Rattle.graph_score.specs.declared.ScoreFault.TheVariants.{NoMemory as WantOfMemory};
+    ghost use Rattle.graph_score.specs.declared.ScoreFault.TheVariants.{NoMemory as NoMemoryFault};
 
-    ghost from_gives = { λ _ e. e ≡ WantOfMemory };
+    ghost from_gives = { λ _ e. e ≡ NoMemoryFault };
 
     fn from(_: NoMemory) -> ScoreFault {
         ScoreFault::NoMemory

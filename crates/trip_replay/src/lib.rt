@@ -63,9 +63,9 @@ pub enum ReplayFault {
 }
 
 impl From<NoMemory> for ReplayFault {
-    ghost use Rattle.trip_replay.specs.declared.ReplayFault.TheVariants.{NoMemory as WantOfMemory};
+    ghost use Rattle.trip_replay.specs.declared.ReplayFault.TheVariants.{NoMemory as NoMemoryFault};
 
-    ghost from_gives = { λ _ e. e ≡ WantOfMemory };
+    ghost from_gives = { λ _ e. e ≡ NoMemoryFault };
 
     fn from(_: NoMemory) -> ReplayFault {
         ReplayFault::NoMemory
