@@ -1,7 +1,7 @@
 -- The links into places, built one place after the other.
 use Rattle.change_times.proofs.Common.{◌≡◌, ℕ, zero, suc, ◌+◌, ◌-◌, ◌<◌, max, List, [], ◌∷◌, ◌++◌, length, take, get_or, set, Option, Some, None, refl, sym, ap, ◌∙◌, subst, arith, add-one}
-use Rattle.change_times.proofs.Common.{length-append, get_or-set_same, get_or-set_other, inl, inr, OnOk, Result, Ok, Err, cases_eq, nat_tests, get_or_default, get_or_push, take_more, All-append}
-use Rattle.change_times.proofs.Common.{All-get_or, All-nil, All-push, All-weaker, Way, Walk, Transfer, greater, link_from, ways_below, ComeBefore, walk_to, walks_of, most_to, link_between}
+use Rattle.change_times.proofs.Common.{length-append, get_or-set_same, get_or-set_other, OnOk, Result, Ok, Err, cases_eq, nat_tests, get_or_default, get_or_push, take_more, All-append, All-get_or}
+use Rattle.change_times.proofs.Common.{All-nil, All-push, All-weaker, Way, Walk, Transfer, greater, link_from, ways_below, ComeBefore, walk_to, walks_of, most_to, link_between}
 use Rattle.std.proofs.Common.{append-nil}
 use Rattle.std.proofs.Math.Seq.{set-append_seam}
 use Rattle.change_times.proofs.GreatestLemmas.{greater-none, greater-assoc}
@@ -25,13 +25,11 @@ ways-none f (suc n) none = ways-suc f n ∙ ap (λ o. ways_below f n ++ link_fro
 -- the ways by the same seconds are the same
 pub ways-same : (f g : ℕ → Option ℕ) (n : ℕ) → ((i : ℕ) → f i ≡ g i) → ways_below f n ≡ ways_below g n
 ways-same f g zero same = ways-zero f ∙ sym (ways-zero g)
-ways-same f g (suc n) same =
-    ways-suc f n ∙ ap (λ ws. ws ++ link_from n (f n)) (ways-same f g n same) ∙ ap (λ o. ways_below g n ++ link_from n o) (same n) ∙ sym (ways-suc g n)
+ways-same f g (suc n) same = grind (arith, ways-suc, ways-same f g n same)
 
 one_before : (n : ℕ) (o : Option ℕ) → ComeBefore (link_from n o) (n + 1)
 one_before n None = All-nil (λ (way : Way). way.from.0 < n + 1)
-one_before n (Some s) = All-push (λ (way : Way). way.from.0 < n + 1) [] (record { from = record { 0 = n }; seconds = max 1 s })
-    (All-nil (λ (way : Way). way.from.0 < n + 1)) (omega arith)
+one_before n (Some s) = grind (arith, All-push, All-nil)
 
 pub ways_before : (f : ℕ → Option ℕ) (n : ℕ) → ComeBefore (ways_below f n) n
 ways_before f zero = subst (λ ws. ComeBefore ws 0) (sym (ways-zero f)) (All-nil (λ (way : Way). way.from.0 < 0))
@@ -55,55 +53,17 @@ most-next to walks i d h = ap (most_to to) (take_more walks i d h) ∙ most-push
 abbrev way : ℕ → ℕ → Way
 way from seconds = record { from = record { 0 = from }; seconds = seconds }
 
--- where the last way comes from a place, it is that of the place
-last_before : (base : List Way) (from : ℕ) (d : Way) → ComeBefore base from → 0 < length base → (get_or base (length base - 1) d).from.0 ≡ from
-    → {P : Type 0} → P
-last_before base from d before some e = absurd
-    (let h = All-get_or (λ (w : Way). w.from.0 < from) base (length base - 1) d (omega arith) before in omega (arith, h, e))
-
 pub put-raised : (old base : List Way) (i from seconds most : ℕ) (o : Option ℕ) (last : Way) → ComeBefore base from → old ≡ base ++ link_from from o
     → 0 < length old → i ≡ length old - 1
     → last ≡ get_or old i last → last.from.0 ≡ from → most ≡ max last.seconds seconds
     → set old i (record { from = last.from; seconds = most }) ≡ base ++ link_from from (greater o (Some seconds))
-put-raised old base i from seconds most None last before e some at is same m =
-    let e' : old ≡ base = e ∙ append-nil base in
-    last_before base from last before (omega (arith, ap length e', some))
-    (ap (λ (w : Way). w.from.0) (ap (λ ws. get_or ws (length ws - 1) last) (sym e') ∙ ap (λ k. get_or old k last) (sym at) ∙ sym is) ∙ same)
-put-raised old base i from seconds most (Some s) last before e some at is same m =
-    let w = way from (max 1 s) in
-    let size : length old ≡ length base + 1 = ap length e ∙ length-append base (w ∷ []) in
-    let end : i ≡ length base = omega (arith, size, at) in
-    let here : last ≡ w = is ∙ ap (λ k. get_or old k last) end ∙ ap (λ ws. get_or ws (length base) last) e ∙ get_or_push base w last (length base) refl in
-    let long : most ≡ max 1 (max s seconds) = omega (arith, m, ap (λ (x : Way). x.seconds) here) in
-    ap (λ k. set old k (record { from = last.from; seconds = most })) end
-    ∙ ap (λ (x : Way). set old (length base) (record { from = x.from; seconds = most })) here
-    ∙ ap (λ ws. set ws (length base) (way from most)) e
-    ∙ set-append_seam base w [] (way from most)
-    ∙ ap (λ n. base ++ way from n ∷ []) long
-
--- with the walk of a transfer more
-walk_is : (t : Transfer) (from to : ℕ) → (t.from ≡ t.to → ⊥) → t.from ≡ from
-    → link_between from to (Some t) ≡ walk_to to (record { to = t.to; seconds = t.seconds })
-walk_is t from to apart e = grind (arith, nat_tests)
-
-no_walk : (t : Transfer) (from to : ℕ) → (t.from ≡ from → ⊥) → link_between from to (Some t) ≡ None
-no_walk t from to other = grind (arith, nat_tests)
+put-raised old base i from seconds most None last before e some at is same m = grind (arith, append-nil, All-get_or)
+put-raised old base i from seconds most (Some s) last before e some at is same m = grind (arith, way, length-append, get_or_push, set, set-append_seam)
 
 pub add-walk : (walks : List (List Walk)) (t : Transfer) (old new : List Walk) → t.from < length walks → (t.from ≡ t.to → ⊥) → old ≡ get_or walks t.from old
     → new ≡ old ++ record { to = t.to; seconds = t.seconds } ∷ [] → (from to : ℕ)
     → most_to to (walks_of (set walks t.from new) from) ≡ greater (most_to to (walks_of walks from)) (link_between from to (Some t))
-add-walk walks t old new inside apart is more from to = elim (cases_eq t.from from) [
-  | inl here ↦
-      let same : old ≡ walks_of walks from = is ∙ get_or_default walks t.from old [] inside ∙ ap (λ k. get_or walks k []) here in
-      ap (λ k. most_to to (get_or (set walks t.from new) k [])) (sym here) ∙ ap (most_to to) (get_or-set_same walks t.from new [] inside) ∙ ap (most_to to) more
-      ∙ most-push to old (record { to = t.to; seconds = t.seconds })
-      ∙ ap (λ ws. greater (most_to to ws) (walk_to to (record { to = t.to; seconds = t.seconds }))) same
-      ∙ ap (greater (most_to to (walks_of walks from))) (sym (walk_is t from to apart here))
-  | inr other ↦
-      let away : from ≡ t.from → ⊥ = λ e. other (sym e) in
-      ap (most_to to) (get_or-set_other walks t.from from new [] away) ∙ sym (greater-none (most_to to (walks_of walks from)))
-      ∙ ap (greater (most_to to (walks_of walks from))) (sym (no_walk t from to other))
-]
+add-walk walks t old new inside apart is more from to = grind (arith, cases_eq, get_or_default, set, get_or-set_same, most-push, nat_tests, get_or-set_other, greater-none)
 
 pub by_ok : {T E : Type 0} (r : Result T E) (P Q : Type 0) → (P → Q) → OnOk r P → OnOk r Q
 by_ok (Ok x) P Q f h = f h

@@ -1,7 +1,7 @@
 -- Ways that rise, come from others and take a second to a day.
-use Rattle.change_times.proofs.Common.{◌≡◌, ◌≢◌, ℕ, zero, suc, ◌+◌, ◌<◌, ◌≤◌, max, List, [], ◌∷◌, ◌++◌, length, get_or, All, Option, Some, None, sym, ap, ◌∙◌, subst, arith, length-append, ⊎_elim}
-use Rattle.change_times.proofs.Common.{cases_lt, append-nil, get_or_append_left, get_or_past, get_or_push, All-get_or, All-nil, All-push, Way, link_from, ways_below, ways_at, AreLinksInto}
-use Rattle.change_times.proofs.Common.{TransfersSoFar, Records, FeedParts, transfer_reported_by, AreCollected, walks_of, most_to, link_between}
+use Rattle.change_times.proofs.Common.{◌≡◌, ℕ, zero, suc, ◌+◌, ◌<◌, ◌≤◌, List, [], ◌++◌, length, All, Option, Some, None, sym, ap, ◌∙◌, subst, arith, length-append, ⊎_elim, cases_lt, append-nil}
+use Rattle.change_times.proofs.Common.{get_or_append_left, get_or_past, get_or_push, All-get_or, All-nil, All-push, Way, link_from, ways_below, ways_at, AreLinksInto, TransfersSoFar, Records}
+use Rattle.change_times.proofs.Common.{FeedParts, transfer_reported_by, AreCollected, walks_of, most_to, link_between}
 use Rattle.change_times.proofs.ChangeLemmas.{no_own_link}
 use Rattle.change_times.proofs.GreatestLemmas.{IsShort, greatest-none}
 use Rattle.change_times.proofs.LinkLemmas.{ways-zero, ways-next, ways_before}
@@ -13,34 +13,12 @@ abbrev Takes : Way → Type 0
 Takes way = (1 ≤ way.seconds) × (way.seconds ≤ 86400)
 
 pub no_links : (places r : ℕ) (ws : List Way) → ws ≡ [] → AreLinksInto places r ws
-no_links places r ws e = subst (AreLinksInto places r) (sym e) (record {
-  rising = λ i j d l h. absurd (omega arith);
-  inside = All-nil (λ (way : Way). way.from.0 < places);
-  others = All-nil (λ (way : Way). way.from.0 ≢ r);
-  takes = All-nil Takes;
-})
+no_links places r ws e = grind (arith, All-nil)
 
 add : (places r n : ℕ) (ws : List Way) (o : Option ℕ) → n < places → (n ≡ r → o ≡ None) → IsShort o → All (λ (way : Way). way.from.0 < n) ws
     → AreLinksInto places r ws → AreLinksInto places r (ws ++ link_from n o)
 add places r n ws None less own short before are = subst (AreLinksInto places r) (sym (append-nil ws)) are
-add places r n ws (Some s) less own short before are =
-    let w : Way = record { from = record { 0 = n }; seconds = max 1 s } in
-    let size : length (ws ++ w ∷ []) ≡ length ws + 1 = length-append ws (w ∷ []) in
-    record {
-      rising = λ i j d l h.
-          ⊎_elim (λ (low : j < length ws).
-          let P : Way → Way → Type 0 = Rises in
-          subst (λ x. Rises x (get_or (ws ++ w ∷ []) j d)) (sym (get_or_append_left ws (w ∷ []) d i (omega arith)))
-          (subst (Rises (get_or ws i d)) (sym (get_or_append_left ws (w ∷ []) d j low)) (are.rising i j d l low)))
-          (λ (high : length ws ≤ j).
-          let end : length ws ≡ j = omega (arith, size) in
-          subst (λ x. Rises x (get_or (ws ++ w ∷ []) j d)) (sym (get_or_append_left ws (w ∷ []) d i (omega arith)))
-          (subst (Rises (get_or ws i d)) (sym (get_or_push ws w d j end)) (All-get_or (λ (way : Way). way.from.0 < n) ws i d (omega arith) before)))
-          (cases_lt j (length ws));
-      inside = All-push (λ (way : Way). way.from.0 < places) ws w are.inside less;
-      others = All-push (λ (way : Way). way.from.0 ≢ r) ws w are.others (λ e. let none : Some s ≡ None = own e in absurd (cc));
-      takes = All-push Takes ws w are.takes (omega arith, omega (arith, short));
-    }
+add places r n ws (Some s) less own short before are = grind (arith, length-append, get_or_append_left, get_or_push, All-get_or, cases_lt, All-push)
 
 pub sound : (places r n : ℕ) (f : ℕ → Option ℕ) → n ≤ places → f r ≡ None → ((i : ℕ) → IsShort (f i)) → AreLinksInto places r (ways_below f n)
 sound places r zero f few own short = no_links places r (ways_below f 0) (ways-zero f)
