@@ -1,7 +1,7 @@
 -- Dates from 1970 on.
-use Rattle.clock_text.proofs.Common.{◌≡◌, ℕ, ◌<◌, ◌≤◌, ◌⊎◌, inl, inr, arith, rules, pos, negsuc, ℤ, ◌≤ℤ◌, ◌<ℤ◌, true, refl, sym, ap, subst, ◌∙◌, Some, None, if◌then◌else◌, unsigned_abs}
-use Rattle.clock_text.proofs.Common.{cases_order, by_lt_z, epoch_day-lt, nat_tests, days_from_civil, day_count, days_in_month, IsEpochDay, epoch_day, Date, has_date, day_of, signed_arith}
-use Rattle.clock_text.proofs.Common.{days_from_civil-day_count, day_count-later_year, day_count-day_of_year, day_count-epoch}
+use Rattle.clock_text.proofs.Common.{◌≡◌, ℕ, ◌<◌, ◌≤◌, ◌⊎◌, inl, inr, arith, rules, pos, negsuc, ℤ, ◌≤ℤ◌, ◌<ℤ◌, true, Some, unsigned_abs, cases_order, by_lt_z, epoch_day-lt, nat_tests}
+use Rattle.clock_text.proofs.Common.{days_from_civil, day_count, days_in_month, IsEpochDay, epoch_day, Date, has_date, day_of, signed_arith, days_from_civil-day_count, day_count-later_year}
+use Rattle.clock_text.proofs.Common.{day_count-day_of_year, day_count-epoch}
 
 -- a later year counts more days
 year_counts : (y m d : ℕ) → 1 ≤ d → (1970 ≡ y) ⊎ ((1970 < y) ⊎ (y < 1970)) → 1970 ≤ y → day_count (pos 1970) 1 1 ≤ day_count (pos y) m d
@@ -19,16 +19,7 @@ has_date_true y m k a b c d e = grind (arith, nat_tests)
 
 -- the number of a date that has these parts
 pub day_is : (date : Date) (y m k : ℕ) → date.year ≡ pos y → pos date.month ≡ pos m → pos date.day ≡ pos k → (r : ℤ) → r ≡ epoch_day date → Some r ≡ day_of y m k
-day_is date y m k a b c r e =
-    let b' : date.month ≡ m = cc in
-    let c' : date.day ≡ k = cc in
-    let last : k ≤ days_in_month (pos y) m =
-    let P : ℤ → Type 0 = λ z. k ≤ days_in_month z m in
-    subst P a (let Q : ℕ → Type 0 = λ j. k ≤ days_in_month date.year j in subst Q b' (let R : ℕ → Type 0 = λ j. j ≤ days_in_month date.year date.month in subst R c' date.day_in.1)) in
-    let year : y ≤ 9999 = omega (arith, signed_arith, date.year_in) in
-    let t : has_date y m k ≡ true = has_date_true y m k year (rw (← b') date.month_in.0) (rw (← b') date.month_in.1) (rw (← c') date.day_in.0) last in
-    let f : epoch_day date ≡ days_from_civil (pos y) m k = rw (a, b', c') refl in
-    ap Some (e ∙ f) ∙ ap (λ b. if◌then◌else◌ b (Some (days_from_civil (pos y) m k)) None) (sym t)
+day_is date y m k a b c r e = grind (arith, pos, ℤ, signed_arith, has_date_true)
 
 epoch : Date
 epoch = record { year = pos 1970; month = 1; day = 1; year_in = search rules; month_in = search rules; day_in = search rules }
@@ -44,12 +35,7 @@ day_size (negsuc k) h = omega (arith, signed_arith, h.0)
 
 -- the day number of the first day of 1970
 pub epoch_day_zero : (d : Date) → d.year ≡ pos 1970 → pos d.month ≡ pos 1 → pos d.day ≡ pos 1 → epoch_day d ≡ pos 0
-epoch_day_zero d a b c =
-    let b' : d.month ≡ 1 = cc in
-    let c' : d.day ≡ 1 = cc in
-    let parts : epoch_day d ≡ days_from_civil (pos 1970) 1 1 = rw (a, b', c') refl in
-    let zero_days : days_from_civil (pos 1970) 1 1 ≡ pos 0 = omega (arith, signed_arith, days_from_civil-day_count, day_count-epoch) in
-    parts ∙ zero_days
+epoch_day_zero d a b c = grind (arith, pos, signed_arith, days_from_civil-day_count, day_count-epoch)
 
 -- a day number from 0 on is of a year from 1970 on
 pub year_from : (d : Date) → pos 0 ≤ℤ epoch_day d → pos 1970 ≤ℤ d.year

@@ -9,10 +9,7 @@ day_small (pos k) low high = omega (arith, signed_arith, high)
 day_small (negsuc k) low high = absurd (omega (arith, signed_arith, low))
 
 day_before : (p : Parts) → Holds p → unsigned_abs (days_from_civil (pos p.year) p.month p.day) ≤ 2_932_896
-day_before p h =
-    let count = day_count_bounds (pos p.year) p.month p.day ((omega (arith, signed_arith), omega (arith, signed_arith, h.year)), (h.month_low, h.month_high), (h.day_low, h.day_high)) in
-    day_small (days_from_civil (pos p.year) p.month p.day) (after_epoch p.year p.month p.day h.from h.day_low)
-    (omega (arith, signed_arith, days_from_civil-day_count (pos p.year) p.month p.day, count.1))
+day_before p h = grind (arith, day_count_bounds, pos, signed_arith, day_small, after_epoch, days_from_civil-day_count)
 
 seconds_small : (d h m s : ℕ) → d ≤ 2_932_896 → h < 24 → m < 60 → s < 60 → 86400 * d + (3600 * h + (60 * m + s)) ≤ 253_402_300_799
 seconds_small d h m s a b c e = omega arith
