@@ -1,8 +1,8 @@
 -- The names that most proofs of this crate cite, passed on from one place. Declares nothing.
 pub use Rattle.std.proofs.Common.{All, AllPairs, Bool, Contains, IfNone, IfSome, IsAscii, IsPermutation, IsSorted, List, None, Option, Ordering, SFits, Some, [], add-one, ap, append-nil}
-pub use Rattle.std.proofs.Common.{append_assoc, ap₂, arith, below_more, decimal, drop, false, get_or, if◌then◌else◌, inl, inr, int_le, is_lt, le-leb, le-ltb, leb-true, length, length-append}
-pub use Rattle.std.proofs.Common.{lt-ltb, ltb-false, ltb-true, map, max, min, nat_cmp, nat_eq, nat_le, nat_lt, negsuc, pos, refl, rules, slice_index, slice_index_or, subst, suc, sum_by, sym, take}
-pub use Rattle.std.proofs.Common.{true, unsigned_abs, w32, zero, ℕ, ℤ, ⊎_elim, ◌&&◌, ◌*◌, ◌++◌, ◌+ℤ◌, ◌+◌, ◌-◌, ◌<ℤ◌, ◌<◌, ◌^◌, ◌∙◌, ◌∷◌, ◌≡◌, ◌≢◌, ◌≤ℤ◌, ◌≤◌, ◌⊎◌}
+pub use Rattle.std.proofs.Common.{append_assoc, ap₂, arith, below_more, decimal, drop, false, get_or, if◌then◌else◌, inl, inr, int_le, is_lt, le-leb, le-ltb, leb-true, length, length-append, lt-ltb}
+pub use Rattle.std.proofs.Common.{ltb-false, ltb-true, map, max, min, nat_cmp, nat_le, nat_lt, negsuc, pos, refl, rules, slice_index, slice_index_or, subst, suc, sum_by, sym, take, true}
+pub use Rattle.std.proofs.Common.{unsigned_abs, w32, zero, ℕ, ℤ, ⊎_elim, ◌&&◌, ◌*◌, ◌++◌, ◌+ℤ◌, ◌+◌, ◌-◌, ◌<ℤ◌, ◌<◌, ◌^◌, ◌∙◌, ◌∷◌, ◌≡◌, ◌≢◌, ◌≤ℤ◌, ◌≤◌, ◌⊎◌}
 pub use Rattle.std.proofs.Math.Nat.{add-mul, le-mul_of_pos_right, mul-le-mul_right, suc-mul, zero-mul}
 pub use Rattle.std.proofs.lemmas.Bool.{and_from, and_parts, cases_Bool, cases_eq, cases_lt, cond_both, eqb-true, false_from_ne_true, lt-leb}
 pub use Rattle.std.proofs.lemmas.Bool.Decides.{nat_tests}
@@ -14,31 +14,10 @@ pub use Rattle.std.proofs.lemmas.List.Sums.{sum_by-append, sum_by-cons, sum_by-l
 pub use Rattle.std.proofs.lemmas.Option.{get_or_from_slice_get, same_Some}
 pub use Rattle.std.specs.Char.{is_ascii_digit}
 pub use Rattle.std.specs.List.{list_all}
+pub use Rattle.std.proofs.lemmas.Grind.{common_steps}
 pub use mathlib.Core.Path.{fun_ext}
 pub use Rattle.change_times.specs.Changes.{ChangeParts, LinksComeFrom, links_of, place_seconds}
-pub use Rattle.clock_text.specs.Times.{HasDate, date_at, day_of}
-pub use Rattle.connections.specs.Counts.{HaveWays, count_in, each_of, entries_in, row_sum, runs_sum, steps_sum, trip_sum, window_sum}
-unfoldable pub use Rattle.connections.specs.Counts.{day_sum, days_sum, leaving_sum, rows_sum}
-pub use Rattle.connections.specs.FeedNetworks.{AreChanges, AreRunNames, IsRunName, arrives, class_of_trip, connection_from, route_of, start_text}
-unfoldable pub use Rattle.connections.specs.FeedNetworks.{connections_below, run_connections}
-pub use Rattle.connections.specs.FeedRuns.{AreRunsOf, HaveConnections, IsDay, IsRunOfFeed, IsSmallRepeat}
-pub use Rattle.connections.specs.Joins.{only_if}
-unfoldable pub use Rattle.connections.specs.Joins.{join_below, sum_below}
-pub use Rattle.connections.specs.Origins.{moment_of, origin_of_day}
-pub use Rattle.connections.specs.Reach.{AreOverBy, NoneRuns}
-pub use Rattle.connections.specs.RepeatedRuns.{in_order, is_repeat, origin_at, repeat_of, repeat_precedes, with_repeat}
-unfoldable pub use Rattle.connections.specs.RepeatedRuns.{row_repeats, rows_repeats}
-pub use Rattle.connections.specs.RouteNumbers.{IsClassOfHour, route_number}
-pub use Rattle.connections.specs.Steps.{DepartInOrder, DepartOnDay, departs, has_connection, is_active_trip, steps_of}
-unfoldable pub use Rattle.connections.specs.Steps.{steps_below}
-pub use Rattle.connections.specs.TripRuns.{days, frequencies_of, no_run, own_run, repeat_run, run_at, run_steps, runs_of_trip, trip_runs, window_runs}
-unfoldable pub use Rattle.connections.specs.TripRuns.{day_runs, runs_below}
-pub use Rattle.connections.specs.Window.{IsWindow, day_at, holds}
-pub use Rattle.connections.specs.declared.origins.Origin.{Origin}
-pub use Rattle.connections.specs.declared.origins.ServiceDay.{ServiceDay}
-pub use Rattle.connections.specs.declared.repeats.Repeat.{Repeat}
-pub use Rattle.connections.specs.declared.runs.Run.{Run}
-pub use Rattle.connections.specs.declared.window.Window.{Window}
+pub use Rattle.clock_text.specs.Times.{HasDate, date_at}
 pub use Rattle.csv_rows.proofs.IdLemmas.{got, number-contained, number-here}
 pub use Rattle.csv_rows.proofs.ListLemmas.{get-list_below, length-list_below, list_below-next, list_below-zero}
 pub use Rattle.csv_rows.specs.Ids.{AreIds}
@@ -63,3 +42,25 @@ pub use Rattle.service_days.specs.Services.{ServiceParts, runs_at}
 pub use Rattle.stop_times.specs.StopTimeBounds.{end_of_times}
 pub use Rattle.stop_times.specs.declared.rows.StopRow.{StopRow}
 pub use Rattle.trip_frequencies.specs.declared.frequencies.FrequencyRow.{FrequencyRow}
+pub use Rattle.connections.specs.Counts.{HaveWays, count_in, each_of, entries_in, row_sum, runs_sum, steps_sum, trip_sum, window_sum}
+unfoldable pub use Rattle.connections.specs.Counts.{day_sum, days_sum, leaving_sum, rows_sum}
+pub use Rattle.connections.specs.FeedNetworks.{AreChanges, AreRunNames, IsRunName, arrives, class_of_trip, connection_from, route_of, start_text}
+unfoldable pub use Rattle.connections.specs.FeedNetworks.{connections_below, run_connections}
+pub use Rattle.connections.specs.FeedRuns.{AreRunsOf, HaveConnections, IsDay, IsRunOfFeed, IsSmallRepeat}
+pub use Rattle.connections.specs.Joins.{only_if}
+unfoldable pub use Rattle.connections.specs.Joins.{join_below, sum_below}
+pub use Rattle.connections.specs.Origins.{moment_of, origin_of_day}
+pub use Rattle.connections.specs.Reach.{AreOverBy, NoneRuns}
+pub use Rattle.connections.specs.RepeatedRuns.{in_order, is_repeat, origin_at, repeat_of, repeat_precedes, with_repeat}
+unfoldable pub use Rattle.connections.specs.RepeatedRuns.{row_repeats, rows_repeats}
+pub use Rattle.connections.specs.RouteNumbers.{IsClassOfHour, route_number}
+pub use Rattle.connections.specs.Steps.{DepartInOrder, DepartOnDay, departs, has_connection, is_active_trip, steps_of}
+unfoldable pub use Rattle.connections.specs.Steps.{steps_below}
+pub use Rattle.connections.specs.TripRuns.{days, frequencies_of, no_run, own_run, repeat_run, run_at, run_steps, runs_of_trip, trip_runs, window_runs}
+unfoldable pub use Rattle.connections.specs.TripRuns.{day_runs, runs_below}
+pub use Rattle.connections.specs.Window.{IsWindow, day_at, holds}
+pub use Rattle.connections.specs.declared.origins.Origin.{Origin}
+pub use Rattle.connections.specs.declared.origins.ServiceDay.{ServiceDay}
+pub use Rattle.connections.specs.declared.repeats.Repeat.{Repeat}
+pub use Rattle.connections.specs.declared.runs.Run.{Run}
+pub use Rattle.connections.specs.declared.window.Window.{Window}

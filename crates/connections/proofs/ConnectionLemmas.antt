@@ -1,9 +1,9 @@
 -- The connections of runs are in order, fit their places and classes, and each run has one.
-use Rattle.connections.proofs.Common.{◌≡◌, ℕ, suc, ◌+◌, ◌-◌, ◌<◌, ◌≤◌, ◌⊎◌, inl, inr, ℤ, pos, negsuc, ◌≤ℤ◌, List, length, map, get_or, slice_index, Some, All, refl, sym, ap, ◌∙◌, subst, arith}
-use Rattle.connections.proofs.Common.{⊎_elim, AllPairs, unsigned_abs, ints, get_or_default, length-map, All-weaker, All-get_or, All-map, Contains-get_or, AllPairs-map, end_of_arrivals}
-use Rattle.connections.proofs.Common.{end_of_steps, most_connections, Connection, NameLists, IsTrimmed, NamesFit, IsValid, connection, no_connection, change_of, row_of, NetworkModel}
-use Rattle.connections.proofs.Common.{plain_network, DelayLists, StopRow, FeedParts, AreIds, rows_of, kept_at, AreTimed, IsTimed, Origin, Window, Run, join_below, IsWindow, departs, steps_of}
-use Rattle.connections.proofs.Common.{run_at, run_steps, AreRunsOf, HaveConnections, AreChanges, AreRunNames, arrives, connection_from, run_connections, connections_below, class_of_trip, route_of}
+use Rattle.connections.proofs.Common.{common_steps, ◌≡◌, ℕ, suc, ◌+◌, ◌-◌, ◌<◌, ◌≤◌, ◌⊎◌, inl, inr, ℤ, pos, negsuc, ◌≤ℤ◌, List, length, map, get_or, slice_index, Some, All, refl, sym, ap, ◌∙◌, subst}
+use Rattle.connections.proofs.Common.{arith, AllPairs, unsigned_abs, ints, get_or_default, length-map, All-weaker, All-get_or, All-map, Contains-get_or, AllPairs-map, end_of_arrivals, end_of_steps}
+use Rattle.connections.proofs.Common.{most_connections, Connection, NameLists, IsTrimmed, NamesFit, IsValid, connection, no_connection, change_of, row_of, NetworkModel, plain_network, DelayLists}
+use Rattle.connections.proofs.Common.{StopRow, FeedParts, AreIds, rows_of, kept_at, AreTimed, IsTimed, Origin, Window, Run, join_below, IsWindow, departs, steps_of, run_at, run_steps, AreRunsOf}
+use Rattle.connections.proofs.Common.{HaveConnections, AreChanges, AreRunNames, arrives, connection_from, run_connections, connections_below, class_of_trip, route_of}
 use Rattle.plan_model.proofs.Links.{AreLinks-none}
 use Rattle.plan_model.specs.declared.model.Outcome.{Outcome}
 use Rattle.delay_table.proofs.ClassBounds.{class_for-inside}
@@ -37,21 +37,7 @@ module _ (w : Window) (v : IsWindow w) (rows : List StopRow) (places : ℕ) (t :
   steps = steps_of w rows o
 
   good_connection : (k : ℕ) → IsStep w rows o (length rows - 1) k → IsGood places classes runs (connection_from rows o number class k)
-  good_connection k s =
-      let here : k < length rows = omega (arith, s.inside) in
-      let next : k + 1 < length rows = omega (arith, s.inside) in
-      let held = holds_parts w (departs rows o k) s.holding in
-      let dep = not_before (departs rows o k) (omega (arith, ints, held.0)) in
-      let arr = not_before (arrives rows o k) (omega (arith, ints, held.0, t.onward k next)) in
-      record {
-        forward = omega (arith, ints, dep, arr, t.onward k next);
-        early = omega (arith, ints, arr, held.1, v.late, v.short, t.early (k + 1) next, t.forward (k + 1) next);
-        from_in = t.place k here;
-        to_in = t.place (k + 1) next;
-        class_in = few (unsigned_abs (arrives rows o k));
-        step_in = omega (arith, t.few, next);
-        run_in = inside;
-      }
+  good_connection k s = grind (arith, holds_parts, not_before, ints, unsigned_abs)
 
   pub good_connections : All (IsGood places classes runs) (map (connection_from rows o number class) steps)
   good_connections = All-map (IsGood places classes runs) (connection_from rows o number class) steps
@@ -129,38 +115,10 @@ module _ (f : FeedParts) (d : DelayLists) (delays : AreDelays d) (w : Window) (v
 
   valid_here : IsValid (plain_network cs change d.classes)
   unfolding connection change_of row_of
-  valid_here =
-      let g = good in
-      record {
-        rising = λ i j l h. ⊎_elim (λ x. inl x) (λ x. inr (x.0, x.1)) (g.order i j no_connection l h);
-        onward = λ i j l h same. ⊎_elim (λ x. absurd (omega (arith, x, same))) (λ x. x.2) (g.order i j no_connection l h);
-        connections = λ i h.
-            let c = All-get_or (IsGood (length f.stop_ids) (length d.classes) (length rs)) cs i no_connection h g.good in
-            record {
-              forward = c.forward;
-              early = c.early;
-              from_in = omega (arith, c.from_in, size);
-              to_in = omega (arith, c.to_in, size);
-              class_in = c.class_in;
-              step_in = c.step_in;
-            };
-        runs = λ i r h l.
-            let c = All-get_or (IsGood (length f.stop_ids) (length d.classes) (length rs)) cs i no_connection h g.good in
-            ∣ g.each r no_connection (omega (arith, c.run_in, l)) ∣₁;
-        changes = changes;
-        links = AreLinks-none (length change);
-        rows = λ k h. delays.rows k h;
-        few_connections = few;
-        few_places = omega (arith, size, stops);
-        few_classes = omega (arith, delays.each, delays.few);
-        class_0 = omega (arith, delays.each);
-      }
+  valid_here = grind (arith, common_steps, good, All-get_or, cs, AreLinks-none)
 
   pub valid : (connections : List Connection) (classes : List (List Outcome)) → connections ≡ cs → classes ≡ d.classes → IsValid (plain_network connections change classes)
-  valid connections classes e h =
-      let P : List Connection → Type 0 = λ x. IsValid (plain_network x change classes) in
-      let Q : List (List Outcome) → Type 0 = λ x. IsValid (plain_network cs change x) in
-      subst P (sym e) (subst Q (sym h) valid_here)
+  valid connections classes e h = grind (arith, cs, valid_here)
 
   pub fits : (n : NetworkModel) (names : NameLists) → n.connections ≡ cs → n.change ≡ change → names.places ≡ f.stop_ids → All IsTrimmed f.stop_ids → AreIds f.trip_ids
       → AreRunNames f rs (length rs) names.runs → NamesFit names n
@@ -169,10 +127,7 @@ module _ (f : FeedParts) (d : DelayLists) (delays : AreDelays d) (w : Window) (v
       let g = good in
       record {
         places = omega (arith, ap length places, ap length h, size);
-        below = λ i l.
-            let inside : i < length cs = omega (arith, ap length e) in
-            let c = All-get_or (IsGood (length f.stop_ids) (length d.classes) (length rs)) cs i no_connection inside g.good in
-            omega (arith, ap (λ (xs : List Connection). (get_or xs i no_connection).run.0) e, c.run_in, named.size);
+        below = grind (arith, cs, All-get_or);
         each = λ r l.
             let x = g.each r no_connection (omega (arith, named.size)) in
             ∣ (x.0, omega (arith, x.1, ap length e), ap (λ (xs : List Connection). (get_or xs x.0 no_connection).run.0) e ∙ x.2) ∣₁;

@@ -1,9 +1,9 @@
 -- How many connections runs have, and their connections, run by run.
-use Rattle.connections.proofs.Common.{◌≡◌, ℕ, zero, suc, ◌+◌, ◌≤◌, ◌&&◌, Bool, true, false, List, [], ◌∷◌, length, map, take, get_or, if◌then◌else◌, refl, sym, ap, ◌∙◌, arith, add-one}
-use Rattle.connections.proofs.Common.{length-append, sum_by, nat_lt, lt-ltb, fun_ext, length-map, sum_by-append, sum_by-cons, sum_by_more, DelayLists, FrequencyRow, FeedParts, repeat_at, rows_of}
-use Rattle.connections.proofs.Common.{ServiceParts, ServiceDay, Window, Repeat, Run, join_below, only_if, sum_below, origin_of_day, day_at, is_active_trip, steps_of, origin_at, row_repeats}
-use Rattle.connections.proofs.Common.{rows_repeats, in_order, frequencies_of, own_run, repeat_run, runs_of_trip, trip_runs, day_runs, runs_below, window_runs, run_at, no_run, run_steps, steps_sum}
-use Rattle.connections.proofs.Common.{rows_sum, runs_sum, day_sum, days_sum, count_in, connection_from, run_connections, connections_below, class_of_trip}
+use Rattle.connections.proofs.Common.{◌≡◌, ℕ, zero, suc, ◌+◌, ◌≤◌, ◌&&◌, Bool, true, false, List, [], ◌∷◌, length, map, take, get_or, if◌then◌else◌, refl, sym, ap, ◌∙◌, arith, add-one, length-append}
+use Rattle.connections.proofs.Common.{sum_by, nat_lt, lt-ltb, fun_ext, length-map, sum_by-append, sum_by-cons, sum_by_more, DelayLists, FrequencyRow, FeedParts, repeat_at, rows_of, ServiceParts}
+use Rattle.connections.proofs.Common.{ServiceDay, Window, Repeat, Run, join_below, only_if, sum_below, origin_of_day, steps_of, origin_at, row_repeats, rows_repeats, in_order, own_run, repeat_run}
+use Rattle.connections.proofs.Common.{runs_of_trip, day_runs, runs_below, window_runs, run_at, no_run, run_steps, steps_sum, rows_sum, runs_sum, day_sum, days_sum, count_in, connection_from}
+use Rattle.connections.proofs.Common.{run_connections, connections_below, class_of_trip}
 use Rattle.std.proofs.Common.{take_all}
 use Rattle.connections.proofs.JoinLemmas.{join-zero, join-suc}
 use Rattle.connections.proofs.OrderLemmas.{in_order_sum}
@@ -29,14 +29,7 @@ sum_by-ones {A} (x ∷ xs) = omega (arith, sum_by-cons (λ (y : A). 1) x xs, sum
 
 pub sum_by-join : {A : Type 0} (g : A → ℕ) (f : ℕ → List A) (n : ℕ) → sum_by g (join_below f n) ≡ sum_below (λ i. sum_by g (f i)) n
 sum_by-join g f zero = ap (sum_by g) (join-zero f) ∙ sym (sum-zero (λ i. sum_by g (f i)))
-sum_by-join g f (suc n) = omega (
-  arith,
-  ap (sum_by g) (join-suc f n),
-  sum_by-append g (join_below f n) (f n),
-  sum_by-join g f n,
-  sum-suc (λ i. sum_by g
-      (f i)) n,
-)
+sum_by-join g f (suc n) = grind (arith, join-suc, sum_by-append, sum-suc, sum_by-join g f n)
 
 pub length-join : {A : Type 0} (f : ℕ → List A) (n : ℕ) → length (join_below f n) ≡ sum_below (λ i. length (f i)) n
 length-join f zero = omega (arith, ap length (join-zero f), sum-zero (λ i. length (f i)))
@@ -56,10 +49,7 @@ sum_by-at g d xs = ap (sum_by g) (sym (take_all (length xs) xs (omega arith))) �
 pub sum-connections : {A : Type 0} (is : Bool) (each : ℕ → ℕ) (steps : List ℕ) (g : A → ℕ) (x : A) → g x ≡ sum_by each steps
     → sum_by g (only_if (is && nat_lt 0 (length steps)) x) ≡ (if is then sum_by each steps else 0)
 sum-connections true each [] g x e = refl
-sum-connections true each (k ∷ steps) g x e =
-    let some : nat_lt 0 (length (k ∷ steps)) ≡ true = lt-ltb 0 (length (k ∷ steps)) (omega arith) in
-    let one : sum_by g (x ∷ []) ≡ g x = omega arith in
-    ap (λ b. sum_by g (only_if (true && b) x)) some ∙ one ∙ e
+sum-connections true each (k ∷ steps) g x e = grind (arith, lt-ltb)
 sum-connections false each steps g x e = refl
 
 sum_by-map : {A B : Type 0} (g : B → ℕ) (f : A → B) (xs : List A) → sum_by g (map f xs) ≡ sum_by (λ x. g (f x)) xs
@@ -91,15 +81,11 @@ module _ (f : FeedParts) (s : ServiceParts) (d : DelayLists) (w : Window) where
 
   by_day : (day : ServiceDay) (n : ℕ) → sum_by own (day_runs f s w day n) ≡ day_sum (λ place. 1) f s w day n
   unfolding day_runs day_sum
-  by_day day n =
-      sum_by-join own (trip_runs f s w day) n
-      ∙ ap (λ (g : ℕ → ℕ). sum_below g n) (fun_ext (λ trip. sum-where (is_active_trip f s day trip) own _ _ (of_runs day trip (frequencies_of f trip))))
+  by_day day n = grind (arith, sum_by-join, own, fun_ext, sum-where, of_runs)
 
   by_days : (n : ℕ) → sum_by own (runs_below f s w n) ≡ days_sum (λ place. 1) f s w n
   unfolding runs_below days_sum
-  by_days n =
-      sum_by-join own (λ d. day_runs f s w (day_at w d) (length f.trip_ids)) n
-      ∙ ap (λ (g : ℕ → ℕ). sum_below g n) (fun_ext (λ d. by_day (day_at w d) (length f.trip_ids)))
+  by_days n = grind (arith, sum_by-join, own, fun_ext, by_day)
 
   -- the connections of all runs are as many as the sum
   pub connections_counted : (rs : List Run) → rs ≡ window_runs f s w → length (connections_below f d w rs (length rs)) ≡ count_in f s w

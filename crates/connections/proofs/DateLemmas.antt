@@ -1,9 +1,8 @@
 -- The text of a date is eight digits, and the names of runs.
-use Rattle.connections.proofs.Common.{◌≡◌, ℕ, zero, suc, ◌<◌, ◌&&◌, nat_eq, true, List, [], ◌∷◌, ◌++◌, length, take, drop, Some, ℤ, pos, negsuc, ◌+ℤ◌, ◌≤ℤ◌, refl, sym, ◌∙◌, subst, arith, IsAscii}
-use Rattle.connections.proofs.Common.{list_all, is_ascii_digit, nat_tests, ints, and_parts, eqb-true, and_from, date_at, day_of, HasDate, ServiceDay, IsDay}
+use Rattle.connections.proofs.Common.{◌≡◌, ℕ, zero, suc, ◌<◌, true, List, [], ◌∷◌, ◌++◌, length, take, drop, Some, ℤ, pos, negsuc, ◌+ℤ◌, ◌≤ℤ◌, refl, arith, IsAscii, list_all, is_ascii_digit}
+use Rattle.connections.proofs.Common.{nat_tests, ints, and_parts, eqb-true, and_from, date_at, HasDate, ServiceDay, IsDay}
 use Rattle.std.proofs.lemmas.List.Folds.{list_all-append}
 use Rattle.jiff_core.specs.Calendar.{days_from_civil, day_count, days_of_years, days_of_months}
-use Rattle.clock_text.specs.Digits.{value_of}
 use Rattle.clock_text.specs.Civil.{parts_of_day}
 use Rattle.clock_text.proofs.OneText.{if_cases}
 use Rattle.clock_text.proofs.Walk.{found}
@@ -36,21 +35,7 @@ pub record IsDateText (t : List ℕ) : Type 0 where
   pub digits : list_all is_ascii_digit t ≡ true
 
 pub date_text : (t : List ℕ) (day : ℤ) → date_at t ≡ Some day → IsDateText t
-date_text t day h =
-    let year = take 4 t in let month = take 2 (drop 4 t) in let day' = take 2 (drop 6 t) in
-    let rest = list_all is_ascii_digit month && list_all is_ascii_digit day' in
-    let all = list_all is_ascii_digit year && rest in
-    let p = and_parts (nat_eq (length t) 8) all (if_cases (nat_eq (length t) 8 && all) (day_of (value_of year) (value_of month) (value_of day')) day h).0 in
-    let q = and_parts (list_all is_ascii_digit year) rest p.1 in
-    let r = and_parts (list_all is_ascii_digit month) (list_all is_ascii_digit day') q.1 in
-    let size = eqb-true (length t) 8 p.0 in
-    record {
-      size = size;
-      digits = subst (λ (s : List ℕ). list_all is_ascii_digit s ≡ true) (sym (eight t size))
-          (list_all-append is_ascii_digit year (month ++ day')
-          ∙ and_from (list_all is_ascii_digit year) (list_all is_ascii_digit (month ++ day')) q.0
-          (list_all-append is_ascii_digit month day' ∙ and_from (list_all is_ascii_digit month) (list_all is_ascii_digit day') r.0 r.1));
-    }
+date_text t day h = grind (arith, list_all, is_ascii_digit, and_parts, if_cases, eqb-true, eight, list_all-append, and_from)
 
 digit_few : (c : ℕ) → is_ascii_digit c ≡ true → c < 128
 digit_few c h = grind (arith, nat_tests)

@@ -42,10 +42,7 @@ join-rest f a (suc j) h =
 -- the same lists before a place, then none, and from another place on one element each
 pub join-on : {A : Type 0} (f g : ℕ → List A) (x : ℕ → A) (a c j : ℕ) → a ≤ c → ((i : ℕ) → i < a → g i ≡ f i) → ((i : ℕ) → a ≤ i → i < c → g i ≡ [])
     → ((i : ℕ) → c ≤ i → i < a + j → g i ≡ x i ∷ []) → join_below g (a + j) ≡ join_below f a ++ list_below (λ i. x (c + i)) (a + j - c)
-join-on f g x a c zero le same none one =
-    let e : a + zero ≡ a = omega arith in
-    let no : a + zero - c ≡ 0 = omega arith in
-    cc (join-same g f a same, append-nil (join_below f a), list_below-zero (λ i. x (c + i)))
+join-on f g x a c zero le same none one = grind (arith, join-same, append-nil, list_below-zero)
 join-on f g x a c (suc j) le same none one =
     let e : a + suc j ≡ a + j + 1 = omega arith in
     let before = join-on f g x a c j le same none (λ i l h. one i l (omega arith)) in

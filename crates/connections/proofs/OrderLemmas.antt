@@ -5,8 +5,8 @@ use Rattle.connections.proofs.Common.{AllPairs-tail, Repeat, repeat_precedes, wi
 use Rattle.std.specs.Ordering.{ordering_then}
 use Rattle.std.specs.Cmp.{IsStrictWeakOrder}
 use Rattle.std.proofs.lemmas.List.Kept.{AllPairs-cons}
-use Rattle.std.proofs.lemmas.List.Sorted.{sorted_far, sum_by-IsPermutation, All-permutation, IsPermutation-refl, IsPermutation-cons}
-use Rattle.std.proofs.lemmas.List.Sorted.{IsPermutation-trans, IsPermutation-append_left, IsPermutation-append_comm}
+use Rattle.std.proofs.lemmas.List.Sorted.{sorted_far, sum_by-IsPermutation, All-permutation, IsPermutation-refl, IsPermutation-cons, IsPermutation-trans, IsPermutation-append_left}
+use Rattle.std.proofs.lemmas.List.Sorted.{IsPermutation-append_comm}
 
 -- the order of the program is that of the definition
 abbrev pub repeat_cmp : Repeat → Repeat → Ordering
@@ -16,10 +16,7 @@ same_order : (a b : Repeat) → is_lt (repeat_cmp a b) ≡ repeat_precedes a b
 same_order a b = grind (arith, nat_tests)
 
 order : IsStrictWeakOrder repeat_precedes
-order = record {
-  one_way = λ x y h. grind (arith, nat_tests);
-  chain = λ x y z h k. grind (arith, nat_tests);
-}
+order = grind arith
 
 same_departure : (x y : Repeat) → repeat_precedes x y ≡ false → repeat_precedes y x ≡ false → x.departure ≡ y.departure
 same_departure x y h k = grind (arith, nat_tests)
@@ -110,8 +107,7 @@ in_order_in_order (r ∷ rs) = placed_in_order r (in_order rs) (in_order_in_orde
 
 -- what a sort makes of a list is its order
 pub in_order_is : (rs ys : List Repeat) → IsPermutation rs ys → IsSorted repeat_cmp ys → ys ≡ in_order rs
-in_order_is rs ys moved up = one_order ys (in_order rs) (sorted ys up) (in_order_in_order rs) (λ g. sum_by-IsPermutation g rs ys moved
-    ∙ sym (in_order_sum g rs))
+in_order_is rs ys moved up = grind (arith, one_order, sorted, in_order_in_order, sum_by-IsPermutation, in_order_sum)
 
 -- two that differ
 abbrev pub Differ : Repeat → Repeat → Type 0

@@ -1,26 +1,14 @@
 -- Trips that do not depart in a window, by their first and their last departure.
-use Rattle.connections.proofs.Common.{◌≡◌, ℕ, zero, suc, ◌+◌, ◌-◌, ◌<◌, ◌≤◌, Bool, true, false, List, [], ◌∷◌, length, arith, ap, refl, sym, subst, inl, inr, ℤ, pos, ◌<ℤ◌, nat_lt, if◌then◌else◌}
-use Rattle.connections.proofs.Common.{cases_eq, nat_tests, ints, end_of_times, StopRow, FrequencyRow, FeedParts, AreTimed, rows_of, kept_at, ServiceParts, Origin, Window, ServiceDay, only_if}
-use Rattle.connections.proofs.Common.{moment_of, origin_of_day, holds, DepartInOrder, DepartOnDay, departs, has_connection, steps_of, is_active_trip, frequencies_of, own_run, runs_of_trip}
-use Rattle.connections.proofs.Common.{trip_runs, day_runs, AreOverBy, NoneRuns}
+use Rattle.connections.proofs.Common.{◌≡◌, ℕ, zero, suc, ◌+◌, ◌-◌, ◌<◌, ◌≤◌, Bool, true, false, List, [], ◌∷◌, length, arith, ap, refl, inl, inr, ℤ, pos, ◌<ℤ◌, nat_lt, if◌then◌else◌, cases_eq}
+use Rattle.connections.proofs.Common.{nat_tests, ints, end_of_times, StopRow, FrequencyRow, FeedParts, AreTimed, rows_of, kept_at, ServiceParts, Origin, Window, ServiceDay, only_if, moment_of}
+use Rattle.connections.proofs.Common.{origin_of_day, holds, DepartInOrder, DepartOnDay, departs, has_connection, steps_of, frequencies_of, own_run, runs_of_trip, day_runs, AreOverBy, NoneRuns}
 use Rattle.connections.proofs.JoinLemmas.{join-none}
 use Rattle.connections.proofs.StepLemmas.{some_step, steps_none}
 
 -- times do not go back over several rows
 pub onward_to : (rows : List StopRow) (places : ℕ) → AreTimed rows places → (p m : ℕ) → p + suc m < length rows → (kept_at rows (p + 1)).arrival ≤ (kept_at rows (p + suc m)).departure
-onward_to rows places t p zero h =
-    let e : p + 1 ≡ p + suc zero = omega arith in
-    omega (arith, ap (λ k. (kept_at rows k).departure) e, t.forward (p + 1) (omega arith))
-onward_to rows places t p (suc m) h =
-    let e : p + suc m + 1 ≡ p + suc (suc m) = omega arith in
-    omega (
-      arith,
-      onward_to rows places t p m (omega arith),
-      t.onward (p + suc m) (omega arith),
-      t.forward (p + suc m + 1) (omega arith),
-      ap (λ k.
-          (kept_at rows k).departure) e,
-    )
+onward_to rows places t p zero h = grind arith
+onward_to rows places t p (suc m) h = grind (arith, onward_to rows places t p m (omega arith))
 
 -- the departures of a trip
 pub departures_are : (rows : List StopRow) (places : ℕ) → AreTimed rows places → DepartOnDay rows
@@ -70,13 +58,7 @@ module _ (w : Window) (rows : List StopRow) (o : Origin) where
   -- where even the end of times is early
   pub none_early_all : ((k : ℕ) → k < length rows → (kept_at rows k).departure < end_of_times) → moment_of o end_of_times <ℤ pos w.start
       → steps_of w rows o ≡ []
-  none_early_all few early = steps_none w rows o (length rows - 1) (λ k less. holds_early w (departs rows o k) (omega (
-    arith,
-    ints,
-    early,
-    few k
-        (omega arith),
-  )))
+  none_early_all few early = grind (arith, steps_none, holds_early, ints)
 
   -- where the service day begins late
   pub none_late_all : pos w.end <ℤ moment_of o 0 → steps_of w rows o ≡ []
@@ -85,13 +67,7 @@ module _ (w : Window) (rows : List StopRow) (o : Origin) where
   -- where even a second after which no kept row is left is early
   pub none_after : (latest : ℕ) → ((k : ℕ) → k < length rows → (kept_at rows k).departure ≤ latest) → moment_of o latest <ℤ pos w.start
       → steps_of w rows o ≡ []
-  none_after latest over early = steps_none w rows o (length rows - 1) (λ k less. holds_early w (departs rows o k) (omega (
-    arith,
-    ints,
-    early,
-    over k
-        (omega arith),
-  )))
+  none_after latest over early = grind (arith, steps_none, holds_early, ints)
 
   pub has_connection_true : (k : ℕ) → k < length rows - 1 → holds w (departs rows o k) ≡ true → true ≡ has_connection w rows o
   has_connection_true k h t = let some = some_step w rows o (length rows - 1) k h t in grind (arith, nat_tests)
@@ -111,35 +87,16 @@ where_none false xs h = refl
 -- on a day on which no trip departs there is no run
 pub day_runs-none : (f : FeedParts) (s : ServiceParts) (w : Window) (day : ServiceDay) → NoneRuns f w day → day_runs f s w day (length f.trip_ids) ≡ []
 unfolding day_runs
-day_runs-none f s w day none = join-none (trip_runs f s w day) (length f.trip_ids) (λ trip inside.
-    where_none (is_active_trip f s day trip) (runs_of_trip w (rows_of f trip) (frequencies_of f trip) day trip)
-    (runs_none w (rows_of f trip) day trip (frequencies_of f trip) (none.once trip inside) (none.none trip inside)))
+day_runs-none f s w day none = grind (arith, join-none, where_none, runs_none)
 
 -- one more trip that does not repeat
 pub over-next : (f : FeedParts) (n latest last most : ℕ) → AreOverBy f n latest → frequencies_of f n ≡ []
     → ((k : ℕ) → k < length (rows_of f n) → (kept_at (rows_of f n) k).departure ≤ last) → latest ≤ most → last ≤ most → AreOverBy f (n + 1) most
-over-next f n latest last most before once here low high = record {
-  once = λ trip inside. elim (cases_eq trip n) [
-    | inl same ↦ subst (λ t. frequencies_of f t ≡ []) (sym same) once
-    | inr other ↦ before.once trip (omega arith)
-  ];
-  over = λ trip k inside row. elim (cases_eq trip n) [
-    | inl same ↦
-        let size = ap (λ t. length (rows_of f t)) same in
-        omega (arith, ap (λ t. (kept_at (rows_of f t) k).departure) same, here k (omega (arith, row, size)), high)
-    | inr other ↦ omega (arith, before.over trip k (omega arith) row, low)
-  ];
-}
+over-next f n latest last most before once here low high = grind (arith, cases_eq)
 
 module _ (f : FeedParts) (w : Window) (day : ServiceDay) (latest : ℕ) (over : AreOverBy f (length f.trip_ids) latest) where
   pub none_run_late : pos w.end <ℤ moment_of (origin_of_day day) 0 → NoneRuns f w day
-  none_run_late late = record {
-    once = over.once;
-    none = λ trip inside. none_late_all w (rows_of f trip) (origin_of_day day) late;
-  }
+  none_run_late late = grind (arith, none_late_all)
 
   pub none_run_early : moment_of (origin_of_day day) latest <ℤ pos w.start → NoneRuns f w day
-  none_run_early early = record {
-    once = over.once;
-    none = λ trip inside. none_after w (rows_of f trip) (origin_of_day day) latest (λ k row. over.over trip k inside row) early;
-  }
+  none_run_early early = grind (arith, none_after)

@@ -1,9 +1,8 @@
 -- The runs of a row of frequencies that depart in a window, gathered from the last kept row to the first.
-use Rattle.connections.proofs.Common.{◌≡◌, ℕ, ℤ, pos, suc, ◌+◌, ◌-◌, ◌*◌, ◌<◌, ◌≤◌, ◌<ℤ◌, ◌≤ℤ◌, max, nat_lt, nat_le, Bool, true, false, List, ◌++◌, length, All, refl, sym, ap, ◌∙◌, arith, ⊎_elim}
+use Rattle.connections.proofs.Common.{◌≡◌, ℕ, ℤ, pos, ◌+◌, ◌-◌, ◌*◌, ◌<◌, ◌≤◌, ◌<ℤ◌, ◌≤ℤ◌, max, nat_lt, nat_le, Bool, true, false, List, ◌++◌, length, All, refl, sym, ap, ◌∙◌, arith, ⊎_elim}
 use Rattle.connections.proofs.Common.{if◌then◌else◌, AllPairs, le-ltb, leb-true, ltb-true, le-leb, lt-ltb, le-mul_of_pos_right, mul-le-mul_right, suc-mul, cases_lt, false_from_ne_true, and_parts}
-use Rattle.connections.proofs.Common.{and_from, lt-leb, ints, by_lt_z, list_below, FrequencyRow, StopRow, end_of_times, IsFrequency, AreRepeats, repeat_at, AreBelow, IsRunOf, departure}
-use Rattle.connections.proofs.Common.{ServiceDay, Repeat, Window, join_below, only_if, holds, DepartOnDay, departs, has_connection, repeat_of, origin_at, is_repeat, row_repeats, rows_repeats}
-use Rattle.connections.proofs.Common.{in_order}
+use Rattle.connections.proofs.Common.{and_from, lt-leb, ints, by_lt_z, list_below, FrequencyRow, StopRow, end_of_times, IsFrequency, AreRepeats, repeat_at, AreBelow, IsRunOf, departure, ServiceDay}
+use Rattle.connections.proofs.Common.{Repeat, Window, join_below, only_if, holds, DepartOnDay, departs, has_connection, repeat_of, origin_at, is_repeat, row_repeats, rows_repeats, in_order}
 use Rattle.trip_frequencies.specs.Frequencies.{no_frequency}
 use Rattle.connections.proofs.JoinLemmas.{join-same, join-rest, join-on, All-join, AllPairs-join, All-only_if, AllPairs-only_if}
 use Rattle.connections.proofs.OrderLemmas.{Differ, All-in_order}
@@ -14,9 +13,6 @@ same_bool : (a b : Bool) → (a ≡ true → b ≡ true) → (b ≡ true → a �
 same_bool true b h k = sym (h refl)
 same_bool false true h k = k refl
 same_bool false false h k = refl
-
-pub holds_in : (w : Window) (moment : ℤ) → pos w.start ≤ℤ moment → moment ≤ℤ pos w.end → holds w moment ≡ true
-holds_in w moment h k = grind (arith, ints)
 
 -- the first runs of a row that are taken
 abbrev pub taken_runs : FrequencyRow → (ℕ → Bool) → ℕ → List Repeat
@@ -50,12 +46,7 @@ module _ (w : Window) (rows : List StopRow) (day : ServiceDay) (row : FrequencyR
     pub late : (m : ℕ) → m < next → pos w.start ≤ℤ departs rows (origin_at rows day (departure row m)) k → taken m ≡ true
 
   pub none_taken : AreTaken (length rows - 1) 0 (λ m. false)
-  none_taken = record {
-    few = omega arith;
-    sound = λ m h t. absurd (omega arith);
-    all = λ m j ge h run t. absurd (omega arith);
-    late = λ m h t. absurd (omega arith);
-  }
+  none_taken = grind arith
 
   module _ (deps : DepartOnDay rows) (is : IsFrequency row) where
     run_few : (m : ℕ) → IsRunOf row m → m < end_of_times
@@ -66,17 +57,11 @@ module _ (w : Window) (rows : List StopRow) (day : ServiceDay) (row : FrequencyR
 
     -- those between leave it in the window
     pub between : (k from to m : ℕ) → AreLeaving k from to → from ≤ m → m < to → (IsRunOf row m) × (holds w (at m k) ≡ true)
-    between k from to m l low high =
-        let p = l.up_to.hold m high in
-        (p.0, by_lt_z (at m k) (pos w.start) (λ early. absurd (omega (arith, l.before.all m (p.0, early), low))) (λ late. holds_in w (at m k) late p.1))
+    between k from to m l low high = grind (arith, by_lt_z, pos, ints)
 
     -- and no others
     pub inside : (k from to m : ℕ) → AreLeaving k from to → IsRunOf row m → holds w (at m k) ≡ true → (from ≤ m) × (m < to)
-    inside k from to m l run h =
-        let p = holds_parts w (at m k) h in (
-          ⊎_elim (λ (less : m < from). absurd (omega (arith, ints, (l.before.hold m less).1, p.0))) (λ ge. ge) (cases_lt m from),
-          l.up_to.all m (run, p.1),
-        )
+    inside k from to m l run h = grind (arith, holds_parts, ints, cases_lt)
 
     module _ (k next from to : ℕ) (taken : ℕ → Bool) (step : k < length rows - 1) (l : AreLeaving k from to) (t : AreTaken (k + 1) next taken) where
       later : (m : ℕ) → at m k ≤ℤ at m (k + 1)
@@ -95,22 +80,7 @@ module _ (w : Window) (rows : List StopRow) (day : ServiceDay) (row : FrequencyR
           and_from _ _ (lt-ltb (departure row m) row.end p.0) (sym (has_connection_true w rows (origin_at rows day (departure row m)) k step p.1))
 
       pub step_taken : AreTaken k (max next to) (more next from taken)
-      step_taken = record {
-        few = omega (arith, t.few, to_few k from to l);
-        sound = λ m h is_taken.
-            ⊎_elim (λ (less : m < next). t.sound m less (sym (kept next from m taken less) ∙ is_taken))
-            (λ (ge : next ≤ m). new_run m ge h (leb-true from m (sym (fresh next from m taken ge) ∙ is_taken))) (cases_lt m next);
-        all = λ m j ge h run hold.
-            ⊎_elim (λ (after : k < j). let x = t.all m j (omega arith) h run hold in (omega (arith, x.0), kept next from m taken x.0 ∙ x.1))
-            (λ (here : j ≤ k).
-            let e : j ≡ k = omega arith in
-            let hold' : holds w (at m k) ≡ true = ap (λ i. holds w (at m i)) (sym e) ∙ hold in
-            let x = inside k from to m l run hold' in
-            let p = holds_parts w (at m k) hold' in
-            let few : m < max next to = omega (arith, x.1) in
-            (few, starts m few p.0)) (cases_lt k j);
-        late = starts;
-      }
+      step_taken = grind (arith, to_few, kept, new_run, leb-true, fresh, cases_lt, inside, holds_parts, starts)
 
       pub step_list : taken_runs row (more next from taken) (max next to) ≡ taken_runs row taken next ++ list_below (λ i. repeat_of row (max from next + i)) (to - max from next)
       step_list =
@@ -127,10 +97,7 @@ module _ (w : Window) (rows : List StopRow) (day : ServiceDay) (row : FrequencyR
     -- when each was looked at, the runs with a connection are taken
     module _ (next : ℕ) (taken : ℕ → Bool) (t : AreTaken 0 next taken) where
       found : (m : ℕ) → is_repeat w rows day row m ≡ true → (m < next) × (taken m ≡ true)
-      found m h =
-          let p = and_parts (nat_lt (departure row m) row.end) (has_connection w rows (origin_at rows day (departure row m))) h in
-          let x = leaves_some w rows (origin_at rows day (departure row m)) (length rows - 1) (ltb-true 0 _ p.1) in
-          t.all m x.0 (omega arith) x.1.inside (ltb-true (departure row m) row.end p.0) x.1.holding
+      found m h = grind (arith, and_parts, leaves_some, ltb-true)
 
       pub all_taken : taken_runs row taken next ≡ row_repeats w rows day row
       unfolding row_repeats
@@ -171,8 +138,7 @@ module _ (w : Window) (rows : List StopRow) (day : ServiceDay) where
       all 0 (record { departure = 0; line = 0 }) some
 
   rising : (row : FrequencyRow) → 1 ≤ row.headway → (m n : ℕ) → m < n → departure row m < departure row n
-  rising row some m n h =
-      let a : suc m * row.headway ≤ n * row.headway = mul-le-mul_right row.headway (omega (arith, h)) in omega (arith, a, suc-mul m row.headway, some)
+  rising row some m n h = grind (arith, mul-le-mul_right, suc-mul)
 
   pub row_repeats_pairs : (row : FrequencyRow) → IsFrequency row → AllPairs Differ (row_repeats w rows day row)
   unfolding row_repeats

@@ -1,6 +1,6 @@
 -- The class of a connection by the number of its route among those that the delays name.
-use Rattle.connections.proofs.Common.{◌≡◌, ℕ, ◌<◌, List, length, Option, Some, None, IfSome, IfNone, Contains, sym, ap, ◌∙◌, number_in, number-here, number-contained, DelayLists, class_for}
-use Rattle.connections.proofs.Common.{routes_of, numbered_route}
+use Rattle.connections.proofs.Common.{common_steps, arith, ◌≡◌, ℕ, ◌<◌, List, length, Option, Some, None, IfSome, IfNone, Contains, sym, number_in, number-here, number-contained, DelayLists}
+use Rattle.connections.proofs.Common.{class_for, routes_of, numbered_route}
 
 -- a route that has a number is one of them
 pub route_inside : (route : List ℕ) (routes : List (List ℕ)) (o : Option ℕ) → o ≡ number_in route routes → IfSome o (λ n. n < length routes)
@@ -13,5 +13,4 @@ pub class_is : (d : DelayLists) (class : Option ℕ) (route : List ℕ) (arr : �
     → IfNone o ((id : List ℕ) → ¬ Contains (routes_of d.others) id → found ≡ class_for d class (Some id) arr)
     → found ≡ class_for d class (Some route) arr
 class_is d class route arr None found e is other = other route (λ there. number-contained route (routes_of d.others) there (sym e))
-class_is d class route arr (Some n) found e is other =
-    is ∙ ap (λ (id : List ℕ). class_for d class (Some id) arr) (number-here route (routes_of d.others) n (sym e)).1
+class_is d class route arr (Some n) found e is other = grind (arith, common_steps, number-here)

@@ -1,9 +1,9 @@
 -- The runs that depart in a window, by service day, position of the trip, and how they start.
 use Rattle.connections.proofs.Common.{◌≡◌, ℕ, ◌<ℤ◌, ◌<◌, ◌⊎◌, inl, inr, Bool, true, false, List, [], ◌∷◌, length, map, All, refl, sym, ◌∙◌, subst, arith, ⊎_elim, if◌then◌else◌, AllPairs, ltb-true}
-use Rattle.connections.proofs.Common.{ints, All-weaker, All-nil, All-get_or, All-map, same_Some, FrequencyRow, StopRow, FeedParts, AreRepeats, AreRepeating, rows_of, ServiceParts, ServiceDay}
-use Rattle.connections.proofs.Common.{Repeat, Run, Window, join_below, only_if, origin_of_day, day_at, IsWindow, is_active_trip, has_connection, steps_of, rows_repeats, in_order, frequencies_of}
-use Rattle.connections.proofs.Common.{own_run, repeat_run, runs_of_trip, trip_runs, day_runs, runs_below, window_runs, no_run, run_steps, days, IsRunOfFeed, AreRunsOf, HaveConnections}
-use Rattle.connections.proofs.Common.{AllPairs-map, AllPairs-nil}
+use Rattle.connections.proofs.Common.{ints, All-weaker, All-nil, All-get_or, All-map, same_Some, FrequencyRow, StopRow, FeedParts, AreRepeats, AreRepeating, rows_of, ServiceParts, ServiceDay, Repeat}
+use Rattle.connections.proofs.Common.{Run, Window, join_below, only_if, origin_of_day, day_at, IsWindow, is_active_trip, has_connection, steps_of, rows_repeats, in_order, frequencies_of, own_run}
+use Rattle.connections.proofs.Common.{repeat_run, runs_of_trip, trip_runs, day_runs, runs_below, window_runs, no_run, run_steps, days, IsRunOfFeed, AreRunsOf, HaveConnections, AllPairs-map}
+use Rattle.connections.proofs.Common.{AllPairs-nil}
 use Rattle.connections.proofs.JoinLemmas.{All-join, AllPairs-join, All-only_if, AllPairs-only_if}
 use Rattle.connections.proofs.OrderLemmas.{All-in_order, pairs_in_order}
 use Rattle.connections.proofs.RepeatLemmas.{row_repeats_all, rows_repeats_all, rows_repeats_pairs}
@@ -24,11 +24,7 @@ module _ (w : Window) (rows : List StopRow) (day : ServiceDay) (trip : ℕ) wher
     pub order : AllPairs Precedes rs
 
   own_run_is : AreTripRuns (only_if (has_connection w rows (origin_of_day day)) (own_run day trip))
-  own_run_is = record {
-    each = All-only_if (IsTripRun w rows day trip) (has_connection w rows (origin_of_day day)) (own_run day trip)
-        (λ h. record { same = refl; trip_is = refl; some = ltb-true 0 _ h });
-    order = AllPairs-only_if Precedes (has_connection w rows (origin_of_day day)) (own_run day trip);
-  }
+  own_run_is = grind (arith, All-only_if, ltb-true, AllPairs-only_if)
 
   repeat_runs_are : (fs : List FrequencyRow) → AreRepeats fs → AreTripRuns (map (repeat_run rows day trip) (in_order (rows_repeats w rows day fs)))
   repeat_runs_are fs are =

@@ -3,14 +3,9 @@ use Rattle.connections.proofs.Common.{◌≡◌, ℕ, ◌+◌, ◌<◌, ◌≤�
 use Rattle.connections.proofs.Common.{map-append, nil_from_length, All-get_or, and_parts, cases_lt, StopRow, Origin, Window, only_if, holds, steps_below, departs}
 use Rattle.connections.proofs.JoinLemmas.{join-zero, join-next, All-join, AllPairs-join, Contains-join, All-only_if, AllPairs-only_if}
 
-le_is : (a b : ℤ) → int_le a b ≡ true → a ≤ℤ b
-le_is a b h = grind (arith, ints)
-
 -- a moment in the window
 pub holds_parts : (w : Window) (moment : ℤ) → holds w moment ≡ true → (pos w.start ≤ℤ moment) × (moment ≤ℤ pos w.end)
-holds_parts w moment h =
-    let p = and_parts (int_le (pos w.start) moment) (int_le moment (pos w.end)) h in
-    (le_is (pos w.start) moment p.0, le_is moment (pos w.end) p.1)
+holds_parts w moment h = grind (arith, and_parts, int_le, pos, ints)
 
 abbrev pub Less : ℕ → ℕ → Type 0
 Less a b = a < b

@@ -1,12 +1,11 @@
 -- Sums over the steps, the trips and the days of a window.
-use Rattle.connections.proofs.Common.{◌≡◌, ℕ, zero, suc, ◌+◌, ◌-◌, ◌*◌, ◌^◌, ◌<◌, ◌≤◌, min, Bool, true, false, List, [], ◌∷◌, length, get_or, if◌then◌else◌, refl, sym, ap, ◌∙◌, arith, ⊎_elim}
-use Rattle.connections.proofs.Common.{sum_by, nat_lt, ◌&&◌, pos, ◌≤ℤ◌, le-mul_of_pos_right, suc-mul, add-mul, zero-mul, fun_ext, cases_lt, cases_Bool, cond_both, and_parts, ints, get_or_past}
+use Rattle.connections.proofs.Common.{common_steps, ◌≡◌, ℕ, zero, suc, ◌+◌, ◌-◌, ◌*◌, ◌^◌, ◌<◌, ◌≤◌, min, Bool, true, false, List, [], ◌∷◌, length, get_or, if◌then◌else◌, refl, sym, ap, ◌∙◌, arith}
+use Rattle.connections.proofs.Common.{⊎_elim, sum_by, nat_lt, ◌&&◌, pos, ◌≤ℤ◌, le-mul_of_pos_right, suc-mul, add-mul, zero-mul, fun_ext, cases_lt, cases_Bool, cond_both, and_parts, ints, get_or_past}
 use Rattle.connections.proofs.Common.{sum_by-cons, All-get_or, PlaceId, Way, ChangeParts, links_of, AreLinksInto, FrequencyRow, StopRow, FeedParts, end_of_times, IsFrequency, AreRepeats}
-use Rattle.connections.proofs.Common.{AreRepeating, IsSmall, repeat_at, rows_of, kept_at, AreTimed, IsTimed, departure, ServiceParts, ServiceDay, Origin, Repeat, Window, only_if, sum_below}
-use Rattle.connections.proofs.Common.{origin_of_day, holds, day_at, IsWindow, departs, is_active_trip, steps_below, steps_of, origin_at, repeat_of, is_repeat, row_repeats, frequencies_of, days}
-use Rattle.connections.proofs.Common.{each_of, steps_sum, row_sum, rows_sum, runs_sum, leaving_sum, trip_sum, day_sum, days_sum, window_sum, count_in, entries_in, HaveWays, NoneRuns}
+use Rattle.connections.proofs.Common.{AreRepeating, IsSmall, repeat_at, rows_of, kept_at, IsTimed, departure, ServiceParts, ServiceDay, Origin, Repeat, Window, only_if, sum_below, origin_of_day}
+use Rattle.connections.proofs.Common.{holds, day_at, IsWindow, departs, is_active_trip, steps_below, steps_of, origin_at, repeat_of, is_repeat, row_repeats, frequencies_of, days, each_of, steps_sum}
+use Rattle.connections.proofs.Common.{row_sum, rows_sum, runs_sum, leaving_sum, trip_sum, day_sum, days_sum, window_sum, count_in, entries_in, HaveWays, NoneRuns}
 use Rattle.connections.specs.declared.counts.Counted.TheVariants.{Entries}
-use Rattle.stop_times.specs.Visits.{no_visit}
 use Rattle.connections.proofs.CountLemmas.{sum-zero, sum-suc, sum_by-ones, sum_by-join, length-join, sum_by-at, sum-connections}
 use Rattle.connections.proofs.StepLemmas.{holds_parts}
 
@@ -39,10 +38,7 @@ only-sum f false k = refl
 pub steps-sum : (f : ℕ → ℕ) (w : Window) (rows : List StopRow) (o : Origin) (n : ℕ) → sum_by f (steps_below w rows o n) ≡ sum_below (λ k. if holds w
     (departs rows o k) then f k else 0) n
 unfolding steps_below
-steps-sum f w rows o n =
-    sum_by-join f (λ k. only_if (holds w (departs rows o k)) k) n
-    ∙ sum-same (λ k. sum_by f (only_if (holds w (departs rows o k)) k)) (λ k. if holds w (departs rows o k) then f k else 0) n (λ k. only-sum f (holds w
-    (departs rows o k)) k)
+steps-sum f w rows o n = grind (arith, sum_by-join, sum-same, only-sum)
 
 where-sum : (is : Bool) (holds' : ℕ → Bool) (f : ℕ → ℕ) (n : ℕ) → (if is then sum_below (λ k. if holds' k then f k else 0) n else 0) ≡ sum_below (λ k. if is && holds' k then f k else 0) n
 where-sum true holds' f n = refl
@@ -69,23 +65,13 @@ one_if b = if b then 1 else 0
 
 sum-times : (p : ℕ → Bool) (x n : ℕ) → sum_below (λ m. if p m then x else 0) n ≡ sum_below (λ m. one_if (p m)) n * x
 sum-times p x zero = rw (sum-zero (λ m. if p m then x else 0), sum-zero (λ m. one_if (p m)), zero-mul) refl
-sum-times p x (suc n) =
-    let here : (if p n then x else 0) ≡ one_if (p n) * x = cond_both (p n) 1 0 (λ k. (if p n then x else 0) ≡ k * x) (λ is. rw is (omega arith))
-    (λ not. rw not (omega arith)) in
-    let all = ap (λ k. k * x) (sum-suc (λ m. one_if (p m)) n) ∙ add-mul (sum_below (λ m. one_if (p m)) n) (one_if (p n)) x in
-    omega (arith, sum-suc (λ m. if p m then x else 0) n, sum-times p x n, here, all)
+sum-times p x (suc n) = grind (arith, one_if, cond_both, sum-suc, add-mul, sum-times p x n)
 
 -- what holds from one number on to another holds so often
 between-count : (p : ℕ → Bool) (a c n : ℕ) → ((m : ℕ) → p m ≡ true → (a ≤ m) × (m < c)) → ((m : ℕ) → a ≤ m → m < c → p m ≡ true)
     → sum_below (λ m. one_if (p m)) n ≡ min c n - a
 between-count p a c zero inside out = omega (arith, sum-zero (λ m. one_if (p m)))
-between-count p a c (suc n) inside out =
-    let in' : a ≤ n → n < c → one_if (p n) ≡ 1 = λ low high. ap one_if (out n low high) in
-    let more = sum-suc (λ m. one_if (p m)) n in
-    let before = between-count p a c n inside out in
-    ⊎_elim (λ (is : p n ≡ true). let h = inside n is in omega (arith, ap one_if is, h.0, h.1))
-    (λ (not : p n ≡ false). let none = ap one_if not in ⊎_elim (λ (less : n < a). omega arith)
-    (λ (ge : a ≤ n). ⊎_elim (λ (below : n < c). omega (arith, in' ge below)) (λ (past : c ≤ n). omega arith) (cases_lt n c)) (cases_lt n a)) (cases_Bool (p n))
+between-count p a c (suc n) inside out = grind (arith, one_if, sum-suc, cases_lt, cases_Bool, between-count p a c n inside out)
 
 -- and adds up to this many times as much
 pub between-sum : (p : ℕ → Bool) (a c x n : ℕ) → ((m : ℕ) → p m ≡ true → (a ≤ m) × (m < c)) → ((m : ℕ) → a ≤ m → m < c → p m ≡ true) → sum_below (λ m. if p m then x else 0) n ≡ (min c n - a) * x
@@ -112,10 +98,8 @@ unfolding leaving_sum
 leaving-few w v rows day row some k =
     near-few (λ m. nat_lt (departure row m) row.end && holds w (departs rows (origin_at rows day (departure row m)) k)) 259200 end_of_times (λ m n p q.
     let o : ℕ → Origin = λ i. origin_at rows day (departure row i) in
-    let first : (pos w.start ≤ℤ departs rows (o m) k) × (departs rows (o m) k ≤ℤ pos w.end) =
-    holds_parts w (departs rows (o m) k) (and_parts (nat_lt (departure row m) row.end) (holds w (departs rows (o m) k)) p).1 in
-    let last : (pos w.start ≤ℤ departs rows (o n) k) × (departs rows (o n) k ≤ℤ pos w.end) =
-    holds_parts w (departs rows (o n) k) (and_parts (nat_lt (departure row n) row.end) (holds w (departs rows (o n) k)) q).1 in
+    let first : (pos w.start ≤ℤ departs rows (o m) k) × (departs rows (o m) k ≤ℤ pos w.end) = grind (arith, holds_parts, and_parts) in
+    let last : (pos w.start ≤ℤ departs rows (o n) k) × (departs rows (o n) k ≤ℤ pos w.end) = grind (arith, holds_parts, and_parts) in
     ⊎_elim (λ (less : m < n).
     let d = n - m in
     let far : d ≤ d * row.headway = le-mul_of_pos_right {m = row.headway} d (omega (arith, some)) in
@@ -141,9 +125,7 @@ module _ (most : ℕ) (w : Window) (each : PlaceId → ℕ) where
 
   sum_by-scale : {A : Type 0} (f g : A → ℕ) (xs : List A) → ((x : A) → f x ≤ g x * most) → sum_by f xs ≤ sum_by g xs * most
   sum_by-scale f g [] h = omega arith
-  sum_by-scale f g (x ∷ xs) h =
-      let whole = ap (λ n. n * most) (sum_by-cons g x xs) ∙ add-mul (g x) (sum_by g xs) most in
-      omega (arith, sum_by-cons f x xs, whole, sum_by-scale f g xs h, h x)
+  sum_by-scale f g (x ∷ xs) h = grind (arith, sum_by-cons, add-mul, sum_by-scale f g xs h)
 
   if_scale : (active : Bool) (x y : ℕ) → x ≤ y * most → (if active then x else 0) ≤ (if active then y else 0) * most
   if_scale true x y h = h
@@ -236,19 +218,10 @@ entries-few f s c w are =
     let place = (kept_at (rows_of f trip) k).place.0 in omega (arith, links_few 4294967296 place (links_of c place) (are place))) in
     omega (arith, all)
 
--- the ways into the place of a kept row, or of none
-kept_ways : (rows : List StopRow) (places : ℕ) → AreTimed rows places → (c : ChangeParts) (most : ℕ) → HaveWays c places most → (k : ℕ)
-    → length (links_of c (kept_at rows k).place.0) + 1 ≤ most
-kept_ways rows places timed c most ways k =
-    ⊎_elim (λ (less : k < length rows). ways.each (kept_at rows k).place.0 (timed.place k less))
-    (λ (past : length rows ≤ k). let none = ap (λ (row : StopRow). length (links_of c row.place.0)) (get_or_past rows k no_visit past) in omega (arith, none, ways.first))
-    (cases_lt k (length rows))
-
 -- the entries of a window by its connections and the most ways into a place
 pub entries-most : (f : FeedParts) (s : ServiceParts) (c : ChangeParts) (w : Window) (most : ℕ) → IsTimed f → HaveWays c (length f.stop_ids) most
     → entries_in f s c w ≤ count_in f s w * most
-entries-most f s c w most timed ways =
-    window-scale most w (each_of c Entries) f s (λ trip k inside. kept_ways (rows_of f trip) (length f.stop_ids) (timed trip inside) c most ways k)
+entries-most f s c w most timed ways = grind (arith, common_steps, window-scale, get_or_past, cases_lt)
 
 -- nothing is added where each part is nothing
 pub sum-nothing : (f : ℕ → ℕ) (n : ℕ) → ((k : ℕ) → k < n → f k ≡ 0) → sum_below f n ≡ 0
@@ -266,6 +239,4 @@ runs_nothing each w rows day (row ∷ more) once none = absurd (cc)
 -- a day on which no trip departs adds nothing
 pub day_sum-none : (each : PlaceId → ℕ) (f : FeedParts) (s : ServiceParts) (w : Window) (day : ServiceDay) → NoneRuns f w day → day_sum each f s w day (length f.trip_ids) ≡ 0
 unfolding day_sum
-day_sum-none each f s w day none = sum-nothing (trip_sum each f s w day) (length f.trip_ids) (λ trip inside.
-    if_nothing (is_active_trip f s day trip) (runs_sum each w (rows_of f trip) (frequencies_of f trip) day)
-    (runs_nothing each w (rows_of f trip) day (frequencies_of f trip) (none.once trip inside) (none.none trip inside)))
+day_sum-none each f s w day none = grind (arith, sum-nothing, if_nothing, runs_nothing)
