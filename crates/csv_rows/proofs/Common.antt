@@ -1,14 +1,13 @@
 -- The names that most proofs of this crate cite, passed on from one place. Declares nothing.
-pub use Rattle.std.proofs.Common.{All, AllPairs, Bool, Bor, Contains, Decides, Err, IfErr, IfNone, IfOk, IfSome, IsErr, IsErrAnd, IsPermutation, IsSorted, IsUtf8, List, None, Ok, OnErr, Option}
-pub use Rattle.std.proofs.Common.{Ordering, Result, Some, [], add-one, ap, append_assoc, ap₂, arith, below_more, bytes_eq, drop, drop-drop, eq-eqb, eq-or-lt_of_le, eqb, eqb-true, false, get_or}
-pub use Rattle.std.proofs.Common.{get_or-drop, if◌then◌else◌, inl, inr, is_lt, length, length-append, length-drop, lt-ltb, map, nat_cmp, nat_lt, ne_eqb, not, option_map, refl, reverse, rules}
-pub use Rattle.std.proofs.Common.{slice_get, slice_index_or, subst, suc, sym, take, take_all, true, true≢false, zero, ℕ, ⊎_elim, ◌&&◌, ◌++◌, ◌+◌, ◌-◌, ◌<◌, ◌==◌, ◌^◌, ◌||◌, ◌∙◌, ◌∷◌, ◌≡◌, ◌≢◌}
-pub use Rattle.std.proofs.Common.{◌≤◌, ◌⊎◌}
+pub use Rattle.std.proofs.Common.{All, AllPairs, Bool, Bor, Contains, Decides, Err, IfErr, IfNone, IfSome, IsErr, IsErrAnd, IsPermutation, IsSorted, IsUtf8, List, None, Ok, Option, Ordering, Result}
+pub use Rattle.std.proofs.Common.{Some, [], add-one, ap, append_assoc, ap₂, arith, below_more, bytes_eq, drop, drop-drop, eq-eqb, eq-or-lt_of_le, eqb, eqb-true, false, get_or, get_or-drop}
+pub use Rattle.std.proofs.Common.{if◌then◌else◌, inl, inr, is_lt, length, length-append, length-drop, lt-ltb, map, nat_cmp, nat_lt, ne_eqb, not, option_map, refl, reverse, rules, slice_get}
+pub use Rattle.std.proofs.Common.{slice_index_or, subst, suc, sym, take, true, true≢false, zero, ℕ, ⊎_elim, ◌&&◌, ◌++◌, ◌+◌, ◌-◌, ◌<◌, ◌==◌, ◌^◌, ◌||◌, ◌∙◌, ◌∷◌, ◌≡◌, ◌≢◌, ◌≤◌, ◌⊎◌}
 pub use Rattle.std.proofs.lemmas.Bool.{and_from, and_parts, both_ways, cases_Bool, cases_lt, eqb-false, false_from_ne_true, false≢true, ltb-false, ltb-true, not-true, not_from_false}
 pub use Rattle.std.proofs.lemmas.Bool.Decides.{Decides-below_or, nat_tests}
 pub use Rattle.std.proofs.lemmas.Grind.{common_steps}
-pub use Rattle.std.proofs.lemmas.List.{drop-append-le, get_or-map, get_or_append_left, get_or_default, get_or_push, length-map, map-append, reverse-append, reverse-reverse, take-append-le}
-pub use Rattle.std.proofs.lemmas.List.{take_more, take_rest}
+pub use Rattle.std.proofs.lemmas.List.{drop-append-le, get_or-map, get_or_append_left, get_or_default, get_or_push, length-map, map-append, reverse-append, reverse-reverse, take-append-le, take_more}
+pub use Rattle.std.proofs.lemmas.List.{take_rest}
 pub use Rattle.std.proofs.lemmas.List.Elements.{All-push, All-weaker, Contains-append_left, Contains-push}
 pub use Rattle.std.proofs.lemmas.List.Quantifiers.{all_pairs_push, position-Some}
 pub use Rattle.std.proofs.lemmas.Option.{cond_some, none-some, same_Some, slice_get-get_or, slice_get_cases}
@@ -22,6 +21,7 @@ pub use Rattle.csv.specs.Reading.{ReadRecord, Ready, default_config, reader_conf
 unfoldable pub use Rattle.csv.specs.Reading.{Reached, records_from}
 pub use Rattle.csv.specs.Records.{fields_of}
 unfoldable pub use Rattle.csv.specs.Records.{Rising, last_end, prev}
+pub use Rattle.plan_model.specs.NameLists.{Adds, AreDistinct, IsTrimmed}
 unfoldable pub use Rattle.csv_rows.specs.First.{any_below, first_below}
 pub use Rattle.csv_rows.specs.Keys.{AreSorted, IsAtMost, IsBefore, IsRising, has_twin, just_precedes, key_at, no_key, precedes, repeated, sooner}
 unfoldable pub use Rattle.csv_rows.specs.Keys.{twin_at}
@@ -38,4 +38,3 @@ pub use Rattle.csv_rows.specs.declared.feed_tables.FeedFault.{FeedFault}
 pub use Rattle.csv_rows.specs.declared.feed_tables.FeedFault.TheVariants.{DuplicateKey}
 pub use Rattle.csv_rows.specs.declared.feed_tables.Table.{Table}
 pub use Rattle.csv_rows.specs.declared.keys.Key.{Key}
-pub use Rattle.plan_model.specs.NameLists.{Adds, AreDistinct, IsTrimmed}

@@ -111,11 +111,7 @@ reported-if fault b i (Some k) = refl
 pub first-reported : {F : Type 0} (fault : ℕ → F) (p : ℕ → Bool) (n : ℕ)
     → first_below (λ i. if p i then Some (fault i) else None) n ≡ option_map fault (first_below (λ i. if p i then Some i else None) n)
 first-reported fault p zero = first-zero (λ i. if p i then Some (fault i) else None) ∙ sym (ap (option_map fault) (first-zero (λ i. if p i then Some i else None)))
-first-reported fault p (suc n) =
-    first-suc (λ i. if p i then Some (fault i) else None) n
-    ∙ ap (λ o. option_or o (if p n then Some (fault n) else None)) (first-reported fault p n)
-    ∙ reported-if fault (p n) n (first_below (λ i. if p i then Some i else None) n)
-    ∙ sym (ap (option_map fault) (first-suc (λ i. if p i then Some i else None) n))
+first-reported fault p (suc n) = grind (arith, first-suc, reported-if, first-reported fault p n)
 
 -- the first index at which a test holds
 abbrev pub index_by : (ℕ → Bool) → ℕ → Option ℕ

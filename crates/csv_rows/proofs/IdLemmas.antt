@@ -1,13 +1,10 @@
 -- Ids by their numbers, and ids that come twice.
-use Rattle.csv_rows.proofs.Common.{◌≡◌, ℕ, ◌+◌, ◌<◌, ◌≤◌, ◌==◌, ◌&&◌, Bool, true, false, List, [], ◌∷◌, ◌++◌, length, slice_index_or, Option, Some, None, IfSome, IfNone, Contains, refl, sym, ap}
-use Rattle.csv_rows.proofs.Common.{ap₂, ◌∙◌, subst, arith, ⊎_elim, bytes_eq, if◌then◌else◌, add-one, length-append, slice_get, Result, Ok, Err, IfOk, OnErr, ◌-◌, ◌^◌, eq-eqb, ne_eqb, common_steps}
-use Rattle.csv_rows.proofs.Common.{both_ways, cases_lt, cases_Bool, get_or_default, get_or_append_left, get_or_push, slice_get_cases, none-some, bytes_eq-Decides, option_or, Table, FeedFault}
-use Rattle.csv_rows.proofs.Common.{DuplicateKey, first_below, any_below, number_in, All-push, Contains-push, Adds, AreDistinct, IsTrimmed, repeated_id, list_below}
+use Rattle.csv_rows.proofs.Common.{◌≡◌, ℕ, ◌+◌, ◌<◌, ◌≤◌, ◌==◌, ◌&&◌, Bool, true, false, List, [], ◌∷◌, ◌++◌, length, slice_index_or, Option, Some, None, IfSome, IfNone, Contains, refl, sym, ap, ap₂}
+use Rattle.csv_rows.proofs.Common.{◌∙◌, subst, arith, ⊎_elim, bytes_eq, if◌then◌else◌, add-one, length-append, slice_get, eq-eqb, ne_eqb, common_steps, both_ways, cases_lt, cases_Bool}
+use Rattle.csv_rows.proofs.Common.{get_or_default, get_or_append_left, get_or_push, slice_get_cases, none-some, bytes_eq-Decides, option_or, Table, FeedFault, DuplicateKey, first_below, any_below}
+use Rattle.csv_rows.proofs.Common.{number_in, AreDistinct, repeated_id, list_below}
 use Rattle.csv_rows.proofs.FirstLemmas.{any-true, any-false, any-one, any-none, first-suc, index_by-some, index_by-none, first-same, none-each}
 use Rattle.csv_rows.proofs.HeaderLemmas.{index_is}
-use Rattle.plan_model.specs.declared.list.NoMemory.{NoMemory}
-use Rattle.plan_model.proofs.Texts.{IsNameList-adds}
-use Rattle.csv_rows.specs.Ids.{AreIds}
 use Rattle.csv_rows.proofs.ListLemmas.{length-list_below, get-list_below}
 
 -- what is at an index where something is
@@ -25,20 +22,6 @@ number_is (Some i) name names distinct found absent =
 
 pub found : (keys names : List (List ℕ)) (name : List ℕ) (i : ℕ) → AreDistinct keys → keys ≡ names → slice_get keys i ≡ Some name → Some i ≡ number_in name names
 found keys names name i distinct same here = number_is (Some i) name keys distinct here tt ∙ ap (number_in name) same
-
--- ids stay ids where one is added, and where there was no memory for it
-pub AreIds-push : (old new : List (List ℕ)) (id : List ℕ) → AreIds old → IsTrimmed id → length old < 2 ^ 32 - 1 → ¬ Contains old id → new ≡ old ++ id ∷ [] → AreIds new
-AreIds-push old new id h trimmed room absent last =
-    subst AreIds (sym last) (record {
-      names = IsNameList-adds old (old ++ id ∷ []) id true h.names room (refl, absent);
-      trimmed = All-push IsTrimmed old id h.trimmed trimmed;
-    })
-
-pub AreIds-add : (old new : List (List ℕ)) (id : List ℕ) (added : Result Bool NoMemory) → AreIds old → IsTrimmed id → length old < 2 ^ 32 - 1
-    → IfOk added (Adds old new id) → OnErr added (new ≡ old) → AreIds new
-AreIds-add old new id (Ok true) h trimmed room adds same = AreIds-push old new id h trimmed room adds.1 adds.0
-AreIds-add old new id (Ok false) h trimmed room adds same = subst AreIds (sym adds.0) h
-AreIds-add old new id (Err fault) h trimmed room adds same = subst AreIds (sym same) h
 
 dup : Table → ℕ → Bool → Option FeedFault
 dup table i b = if b then Some (DuplicateKey table (i + 2)) else None
@@ -94,14 +77,6 @@ number-none name names h = index_by-none (λ k. bytes_eq (slice_index_or names k
 pub number-contained : (name : List ℕ) (names : List (List ℕ)) → Contains names name → number_in name names ≡ None → ⊥
 number-contained name names c none =
     both_ways _ (number-none name names none c.0 c.1) ((bytes_eq-Decides (slice_index_or names c.0 []) name).1 (get_or_default names c.0 [] name c.1 ∙ c.2))
-
--- a name that was added is there
-pub adds_there : (old new : List (List ℕ)) (name : List ℕ) (added : Bool) → Adds old new name added → Contains new name
-adds_there old new name true h = subst (λ (names : List (List ℕ)). Contains names name) (sym h.0) (Contains-push old name)
-adds_there old new name false h = subst (λ (names : List (List ℕ)). Contains names name) (sym h.0) h.1
-
-pub number-adds : (old new : List (List ℕ)) (name : List ℕ) (added : Bool) → Adds old new name added → number_in name new ≡ None → ⊥
-number-adds old new name added a = number-contained name new (adds_there old new name added a)
 
 -- one more name
 pub number-push : (name : List ℕ) (names : List (List ℕ)) (x : List ℕ) → number_in name (names ++ x ∷ []) ≡ option_or (number_in name names) (if bytes_eq x name then Some (length names) else None)

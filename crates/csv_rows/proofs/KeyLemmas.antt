@@ -151,8 +151,7 @@ module _ (group order : ℕ → ℕ) (n : ℕ) (keys : List Key) (s : AreSorted 
 
   pub twin_is : (k : ℕ) → k < length keys → (o : Option Key) → IsBefore keys k o → twin_at group order (key_at keys k).row ≡ repeated o (key_at keys k)
   unfolding twin_at twin reported
-  twin_is k h None b =
-      ap (λ t. reported t (key_at keys k).row) (any-false (twin group order (key_at keys k).row) (key_at keys k).row (λ j less t. let w = twin_before k j h less t in b w.0 w.1))
+  twin_is k h None b = grind (arith, reported, any-false, twin, twin_before)
   twin_is k h (Some x) b =
       let i = (key_at keys k).row in let j = (key_at keys (k - 1)).row in
       let e : x.order ≡ (key_at keys (k - 1)).order = ap (λ (y : Key). y.order) b.1 in

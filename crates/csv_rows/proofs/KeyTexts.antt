@@ -1,6 +1,6 @@
 -- The keys of a set of borrowed texts.
-use Rattle.csv_rows.proofs.Common.{Bor, ◌≡◌, ℕ, ◌<◌, Bool, true, false, Some, List, [], ◌∷◌, ◌++◌, length, map, get_or, refl, sym, ap, ◌∙◌, arith, Contains, bytes_eq, slice_get, position}
-use Rattle.csv_rows.proofs.Common.{list_any, Adds, false≢true, bytes_eq-Decides, get_or-map, length-map, map-append, position-Some, slice_get-get_or}
+use Rattle.csv_rows.proofs.Common.{Bor, ◌≡◌, ℕ, ◌<◌, Bool, true, false, Some, List, [], ◌∷◌, ◌++◌, length, map, get_or, refl, sym, ap, ◌∙◌, arith, Contains, bytes_eq, slice_get, position, list_any}
+use Rattle.csv_rows.proofs.Common.{Adds, false≢true, bytes_eq-Decides, get_or-map, length-map, map-append, position-Some, slice_get-get_or}
 use Rattle.std.specs.Prelude.{if◌then◌else◌}
 use Rattle.indexmap.specs.IndexSet.{insert_key}
 use Rattle.std.proofs.lemmas.List.Folds.{Any-from_list_any, list_any_at}
@@ -19,10 +19,7 @@ has_key bs ks = list_any (λ k. bytes_eq bs k.now) ks
 -- a text that is found is there
 pub key_there : (bs : List ℕ) (ks : List (Bor (List ℕ))) → has_key bs ks ≡ true → Contains (key_texts ks) bs
 unfolding bytes
-key_there bs ks h =
-    let w = Any-from_list_any (λ (k : Bor (List ℕ)). bytes_eq bs (bytes k)) ks h in
-    let e : bs ≡ bytes w.1 = (bytes_eq-Decides bs (bytes w.1)).0 w.4 in
-    (w.0, omega (arith, w.2, length-map ks bytes), get_or-map bytes ks w.0 w.1 bs w.2 ∙ ap bytes w.3 ∙ sym e)
+key_there bs ks h = grind (arith, Any-from_list_any, bytes, bytes_eq-Decides, length-map, get_or-map)
 
 -- and one that is not found is not
 pub key_absent : (bs : List ℕ) (ks : List (Bor (List ℕ))) → has_key bs ks ≡ false → ¬ Contains (key_texts ks) bs
@@ -48,8 +45,7 @@ key_position bs (x ∷ xs) i h =
 pub key_last : (old new : List (Bor (List ℕ))) (k : Bor (List ℕ)) → has_key k.now old ≡ false
     → new ≡ insert_key (λ (a b : Bor (List ℕ)). bytes_eq a.now b.now) old k → key_texts new ≡ key_texts old ++ k.now ∷ []
 unfolding bytes
-key_last old new k absent inserted =
-    ap key_texts (inserted ∙ ap (λ (b : Bool). if b then old else old ++ k ∷ []) absent) ∙ map-append bytes old (k ∷ [])
+key_last old new k absent inserted = grind (arith, key_texts, map-append, bytes)
 
 -- one key is added, unless its text is there
 pub key_adds : (old new : List (Bor (List ℕ))) (k : Bor (List ℕ)) → new ≡ insert_key (λ (a b : Bor (List ℕ)). bytes_eq a.now b.now) old k

@@ -1,6 +1,6 @@
 -- The list of a function's values.
-use Rattle.csv_rows.proofs.Common.{◌≡◌, ℕ, zero, suc, ◌+◌, ◌-◌, ◌<◌, ◌≤◌, take, drop, length-drop, get_or-drop, List, [], ◌∷◌, ◌++◌, length, slice_index_or, refl, sym, ap, ◌∙◌, subst, arith}
-use Rattle.csv_rows.proofs.Common.{⊎_elim, add-one, length-append, eq-or-lt_of_le, take_all, drop-drop, get_or_append_left, get_or_push, take_more, list_below}
+use Rattle.csv_rows.proofs.Common.{◌≡◌, ℕ, zero, suc, ◌+◌, ◌<◌, ◌≤◌, drop, length-drop, get_or-drop, List, [], ◌∷◌, ◌++◌, length, slice_index_or, refl, sym, ap, ◌∙◌, subst, arith, ⊎_elim, add-one}
+use Rattle.csv_rows.proofs.Common.{length-append, eq-or-lt_of_le, drop-drop, get_or_append_left, get_or_push, list_below}
 
 pub list_below-zero : {A : Type 0} (f : ℕ → A) → list_below f 0 ≡ []
 unfolding list_below
@@ -12,9 +12,7 @@ list_below-suc f n = refl
 
 pub length-list_below : {A : Type 0} (f : ℕ → A) (n : ℕ) → length (list_below f n) ≡ n
 length-list_below f zero = ap length (list_below-zero f)
-length-list_below f (suc n) =
-    let more = ap length (list_below-suc f n) ∙ length-append (list_below f n) (f n ∷ []) in
-    omega (arith, more, length-list_below f n)
+length-list_below f (suc n) = grind (arith, list_below-suc, length-append, length-list_below f n)
 
 -- one more value
 pub list_below-next : {A : Type 0} (f : ℕ → A) (n : ℕ) (old new : List A) (x : A) → old ≡ list_below f n → new ≡ old ++ x ∷ [] → x ≡ f n → new ≡ list_below f (n + 1)
@@ -33,18 +31,6 @@ get-list_below f (suc n) i d h =
 -- two such lists are as long as each other
 pub same_length : {A B : Type 0} (f : ℕ → A) (g : ℕ → B) (n : ℕ) (xs : List A) (ys : List B) → xs ≡ list_below f n → ys ≡ list_below g n → length xs ≡ length ys
 same_length f g n xs ys e h = ap length e ∙ length-list_below f n ∙ sym (ap length h ∙ length-list_below g n)
-
--- all that comes after an index
-pub take-rest : {A : Type 0} (n : ℕ) (xs : List A) → take (length xs - n) (drop n xs) ≡ drop n xs
-take-rest n xs = take_all (length xs - n) (drop n xs) (omega (arith, length-drop n xs))
-
--- one more of a list, if it comes next
-pub take-next : (xs : List ℕ) (n x : ℕ) (rest : List ℕ) → drop n xs ≡ x ∷ rest → take (n + 1) xs ≡ take n xs ++ x ∷ []
-take-next xs n x rest e =
-    let inside : n < length xs = omega (arith, length-drop n xs, ap length e) in
-    let same : n ≡ n + 0 = omega arith in
-    take_more xs n 0 inside
-    ∙ ap (λ v. take n xs ++ v ∷ []) (ap (λ k. slice_index_or xs k 0) same ∙ sym (get_or-drop n xs 0 0) ∙ ap (λ l. slice_index_or l 0 0) e)
 
 -- what comes next in a list, and what remains after it
 pub drop-next : {A : Type 0} (xs : List A) (n : ℕ) (x : A) (rest : List A) (d : A) → drop n xs ≡ x ∷ rest

@@ -1,5 +1,5 @@
 -- Names that are not empty, and texts.
-use Rattle.csv_rows.proofs.Common.{◌≡◌, ℕ, Bool, true, false, ◌==◌, List, length, Option, Some, None, if◌then◌else◌, IsUtf8, sym, ap, ◌∙◌, is_utf8, false_from_ne_true, name_in, text_in}
+use Rattle.csv_rows.proofs.Common.{arith, ◌≡◌, ℕ, Bool, true, false, ◌==◌, List, length, Option, Some, None, if◌then◌else◌, IsUtf8, sym, ap, ◌∙◌, is_utf8, false_from_ne_true, name_in, text_in}
 use Rattle.std.proofs.lemmas.Str.{IsUtf8-from_is_utf8, is_utf8-from_IsUtf8}
 
 abbrev name_if : Bool → Bool → List ℕ → Option (List ℕ)
@@ -9,14 +9,11 @@ pub name_some : (text x : List ℕ) → false ≡ (length text == 0) → x ≡ t
 name_some text x some e u = ap Some e ∙ ap (λ a. name_if a true text) some ∙ ap (λ b. name_if (length text == 0) b text) (sym (is_utf8-from_IsUtf8 text u))
 
 pub name_none : (text : List ℕ) → false ≡ (length text == 0) → (IsUtf8 text → ⊥) → None ≡ name_in text
-name_none text some u =
-    let f : is_utf8 text ≡ false = false_from_ne_true (is_utf8 text) (λ t. u (IsUtf8-from_is_utf8 text t)) in
-    ap (λ a. name_if a false text) some ∙ ap (λ b. name_if (length text == 0) b text) (sym f)
+name_none text some u = grind (arith, is_utf8, false_from_ne_true, IsUtf8-from_is_utf8, name_if)
 
 -- a text that is UTF-8, and one that is not
 pub text_some : (text x : List ℕ) → x ≡ text → IsUtf8 text → Some x ≡ text_in text
 text_some text x e u = ap Some e ∙ ap (λ b. if b then Some text else None) (sym (is_utf8-from_IsUtf8 text u))
 
 pub text_none : (text : List ℕ) → (IsUtf8 text → ⊥) → None ≡ text_in text
-text_none text u =
-    ap (λ b. if b then Some text else None) (sym (false_from_ne_true (is_utf8 text) (λ t. u (IsUtf8-from_is_utf8 text t))))
+text_none text u = grind (arith, false_from_ne_true, is_utf8, IsUtf8-from_is_utf8)

@@ -1,6 +1,6 @@
 -- Fields, and the rows that they make.
-use Rattle.csv_rows.proofs.Common.{◌≡◌, ℕ, ◌<◌, ◌==◌, Bool, List, [], length, slice_index_or, Option, Some, None, if◌then◌else◌, refl, sym, ap, ◌∙◌, arith, bytes_eq, IfSome, option_map, subst}
-use Rattle.csv_rows.proofs.Common.{cases_Bool, same_Some, is_utf8, option_or, name_in, number_in}
+use Rattle.csv_rows.proofs.Common.{◌≡◌, ℕ, ◌<◌, Bool, List, [], length, slice_index_or, Option, Some, None, if◌then◌else◌, refl, sym, ap, ◌∙◌, arith, bytes_eq, IfSome, option_map, subst, cases_Bool}
+use Rattle.csv_rows.proofs.Common.{same_Some, is_utf8, option_or, name_in, number_in}
 use Rattle.csv_rows.proofs.FirstLemmas.{index_by-some}
 
 -- the first of two faults
@@ -12,10 +12,7 @@ or_then a b o none h = ap (λ x. option_or x b) none ∙ h
 
 -- a name is its text
 pub name_is : (text x : List ℕ) → name_in text ≡ Some x → name_in text ≡ Some text
-name_is text x h = by (length text == 0) (is_utf8 text) h
-  where
-    by : (a b : Bool) → (if a then None else if b then Some text else None) ≡ Some x → (if a then None else if b then Some text else None) ≡ Some text
-    by a b e = grind arith
+name_is text x h = grind (arith, is_utf8)
 
 pub name_text : (text x : List ℕ) → name_in text ≡ Some x → x ≡ text
 name_text text x h = let e : Some x ≡ Some text = sym h ∙ name_is text x h in cc

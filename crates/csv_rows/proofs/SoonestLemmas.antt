@@ -33,9 +33,7 @@ module _ {F : Type 0} (f : ℕ → Option F) (n : ℕ) (keys : List Key) where
   -- where each row that has a fault has a key, the soonest is the first
   pub soonest-first : (test : ℕ → Bool) (group order : ℕ → ℕ) → AreSorted test group order n keys → ((i : ℕ) → test i ≡ false → f i ≡ None)
       → (m : ℕ) → length keys ≤ m → (first : Option (ℕ × F)) → IsSoonest f n keys m first → first_below f n ≡ option_map (λ x. x.1) first
-  soonest-first test group order s quiet m long None h = first-none f n (λ i l.
-      ⊎_elim (λ (t : test i ≡ true). let w = s.all i l t in let P : ℕ → Type 0 = λ j. f j ≡ None in subst P w.2 (h w.0 (omega (arith, w.1))))
-      (λ (p : test i ≡ false). quiet i p) (cases_Bool (test i)))
+  soonest-first test group order s quiet m long None h = grind (arith, first-none, cases_Bool)
   soonest-first test group order s quiet m long (Some x) h =
       first-at f x.0 n x.1 h.1
       (first-none f x.0 (λ i l.

@@ -1,7 +1,7 @@
 -- Sorted keys.
-use Rattle.csv_rows.proofs.Common.{◌≡◌, ℕ, ◌+◌, ◌<◌, ◌≤◌, arith, ⊎_elim, Bool, true, false, eqb, List, length, refl, ap, ◌∙◌, subst, ◌++◌, ◌∷◌, [], All, AllPairs, Contains, Ordering, is_lt}
-use Rattle.csv_rows.proofs.Common.{nat_cmp, IsPermutation, IsSorted, ne_eqb, IsDistinct, All-push, All-weaker, Contains-append_left, Contains-push, all_pairs_push, get_or_default, cases_lt}
-use Rattle.csv_rows.proofs.Common.{eqb-false, nat_tests, Key, no_key, IsAtMost, IsRising, AreSorted}
+use Rattle.csv_rows.proofs.Common.{◌≡◌, ℕ, ◌+◌, ◌<◌, ◌≤◌, arith, ⊎_elim, Bool, true, false, eqb, List, refl, ap, ◌∙◌, subst, ◌++◌, ◌∷◌, [], All, AllPairs, Contains, Ordering, is_lt, nat_cmp}
+use Rattle.csv_rows.proofs.Common.{IsPermutation, IsSorted, ne_eqb, IsDistinct, All-push, All-weaker, Contains-append_left, Contains-push, all_pairs_push, get_or_default, cases_lt, eqb-false}
+use Rattle.csv_rows.proofs.Common.{nat_tests, Key, no_key, IsAtMost, IsRising, AreSorted}
 use Rattle.std.specs.Cmp.{IsTotalOrder}
 use Rattle.std.specs.Ordering.{ordering_then}
 use Rattle.std.proofs.lemmas.Cmp.{nat_cmp_total, on_total, then_total}
@@ -38,9 +38,7 @@ module _ (test : ℕ → Bool) (group order : ℕ → ℕ) where
     pub rising : AllPairs (λ a b. a.row < b.row) xs
 
   pub keys-none : (xs : List Key) → xs ≡ [] → AreKeys 0 xs
-  keys-none xs e =
-      let size : length xs ≡ 0 = ap length e in
-      record { own = λ k d h. absurd (omega arith); all = λ i h t. absurd (omega arith); rising = λ k l d less h. absurd (omega arith) }
+  keys-none xs e = grind (arith, rising)
 
   -- a row that is taken
   pub keys-taken : (i : ℕ) (old new : List Key) (key : Key) → AreKeys i old → test i ≡ true → new ≡ old ++ key ∷ [] → key ≡ key_of i → AreKeys (i + 1) new

@@ -2,11 +2,8 @@
 use Rattle.csv_rows.proofs.Common.{◌≡◌, ℕ, zero, suc, Option, Some, None, ◌+◌, Bool, true, false, ◌==◌, List, [], ◌∷◌, ◌++◌, map, reverse, slice_index_or, if◌then◌else◌, refl, sym, ap, ◌∙◌, arith}
 use Rattle.csv_rows.proofs.Common.{cases_Bool, common_steps, nat_tests, reverse-append, reverse-reverse, IsTrimmed, drop_spaces, trimmed_text, AreTrimmed, field_at}
 
-not_space : (b : ℕ) → (b == 32) ≡ false → b ≡ 32 → ⊥
-not_space b h e = grind (arith, nat_tests)
-
 start_if : (t : Bool) (b : ℕ) (bs dropped rest : List ℕ) → (b == 32) ≡ t → (dropped ≡ 32 ∷ rest → ⊥) → (if t then dropped else b ∷ bs) ≡ 32 ∷ rest → ⊥
-start_if t b bs dropped rest e h k = grind (arith, cases_Bool t, not_space)
+start_if t b bs dropped rest e h k = grind (arith, cases_Bool t, nat_tests)
 
 -- with its spaces dropped it begins with none
 pub drop_spaces-start : (field rest : List ℕ) → drop_spaces field ≡ 32 ∷ rest → ⊥
@@ -45,10 +42,7 @@ IsTrimmed-nil = IsTrimmed-trimmed_text []
 
 drop_none : (field : List ℕ) → ((rest : List ℕ) → field ≡ 32 ∷ rest → ⊥) → drop_spaces field ≡ field
 drop_none [] h = refl
-drop_none (b ∷ bs) h = keep_if (b == 32) refl where
-  keep_if : (t : Bool) → (b == 32) ≡ t → (if t then drop_spaces bs else b ∷ bs) ≡ b ∷ bs
-  keep_if true e = absurd (h bs (ap (λ x. x ∷ bs) (let s : b ≡ 32 = grind (arith, nat_tests) in s)))
-  keep_if false e = refl
+drop_none (b ∷ bs) h = grind arith
 
 -- nothing is trimmed from it
 pub trimmed_text-IsTrimmed : (field : List ℕ) → IsTrimmed field → trimmed_text field ≡ field

@@ -1,5 +1,5 @@
-use Rattle.csv_rows.proofs.Common.{Bor, ◌≡◌, ◌++◌, ◌∷◌, [], List, ℕ, Contains, false, None, Some, refl, sym, ap, ◌∙◌, arith, length, subst, true, not, Bool, DuplicateKey, row_count, field}
-use Rattle.csv_rows.proofs.Common.{field_at, repeated_id}
+use Rattle.csv_rows.proofs.Common.{Bor, ◌≡◌, ◌++◌, ◌∷◌, [], List, ℕ, Contains, false, None, Some, refl, sym, ap, ◌∙◌, arith, length, subst, true, not, Bool, DuplicateKey, row_count, field, field_at}
+use Rattle.csv_rows.proofs.Common.{repeated_id}
 use Rattle.csv_rows.proofs.FirstLemmas.{first-zero, first-next, first-at}
 use Rattle.csv_rows.proofs.ListLemmas.{list_below-zero, list_below-next, length-list_below}
 use Rattle.csv_rows.proofs.IdLemmas.{not_repeated, repeated}
