@@ -1,13 +1,8 @@
 -- The first fault of a table, by the step that finds it.
-use Rattle.cut_file.proofs.Common.{◌≡◌, ℕ, ◌<◌, ◌≤◌, List, length, Option, Some, None, slice_index_or, if◌then◌else◌, refl, sym, ap, ◌∙◌, subst, lt-ltb, le-ltb, option_or, first_below, Run, Step}
-use Rattle.cut_file.proofs.Common.{From, To, Dep, Arr, row_count, CutRow, Key, CutFault, TooManyRows, missing_column, too_many_rows, bad_field, repeated_step, run_fault, first_cut_fault, row}
-use Rattle.cut_file.proofs.Common.{AreCutColumns, missing_in, index_fault, run_names, place_names, IsNumbered, AreCutKeys, no_row, IsCutRead}
+use Rattle.cut_file.proofs.Common.{arith, ◌≡◌, ℕ, ◌<◌, ◌≤◌, List, length, Option, Some, None, slice_index_or, refl, sym, ap, ◌∙◌, subst, lt-ltb, le-ltb, option_or, first_below, row_count, CutRow}
+use Rattle.cut_file.proofs.Common.{Key, CutFault, TooManyRows, missing_column, too_many_rows, bad_field, repeated_step, run_fault, first_cut_fault, row, AreCutColumns, missing_in, run_names}
+use Rattle.cut_file.proofs.Common.{place_names, IsNumbered, AreCutKeys, IsCutRead}
 use Rattle.cut_file.specs.declared.rows.Columns.{Columns}
-
-pub missing_is : (t : List (List (List ℕ))) (c : Columns) → AreCutColumns t c → missing_column t ≡ missing_in c
-missing_is t c h =
-    sym (λ m. option_or (index_fault (h.run m) Run) (option_or (index_fault (h.step m) Step) (option_or (index_fault (h.from m) From)
-    (option_or (index_fault (h.to m) To) (option_or (index_fault (h.dep m) Dep) (index_fault (h.arr m) Arr))))))
 
 abbrev all_faults : Option CutFault → Option CutFault → Option CutFault → Option CutFault → Option CutFault
 all_faults a b c d = option_or a (option_or b (option_or c d))
@@ -20,20 +15,15 @@ unfolding first_cut_fault
 first_is t limit = refl
 
 pub column_first : (t : List (List (List ℕ))) (limit : ℕ) (c : Columns) (f : CutFault) → AreCutColumns t c → Some f ≡ missing_in c → first_cut_fault t limit ≡ Some f
-column_first t limit c f h e =
-    first_is t limit ∙ ap (λ a. all_faults a (too_many_rows t limit) (first_below (bad_field t) (row_count t)) (runs_of t)) (missing_is t c h ∙ sym e)
+column_first t limit c f h e = grind (arith, first_is, all_faults, runs_of)
 
 pub count_first : (t : List (List (List ℕ))) (limit : ℕ) (c : Columns) → AreCutColumns t c → None ≡ missing_in c → limit < row_count t → first_cut_fault t limit ≡ Some (TooManyRows (row_count t))
-count_first t limit c h e l =
-    first_is t limit ∙ ap (λ a. all_faults a (too_many_rows t limit) (first_below (bad_field t) (row_count t)) (runs_of t)) (missing_is t c h ∙ sym e)
-    ∙ ap (λ b. option_or (if b then Some (TooManyRows (row_count t)) else None) (option_or (first_below (bad_field t) (row_count t)) (runs_of t))) (lt-ltb limit (row_count t) l)
+count_first t limit c h e l = grind (arith, first_is, all_faults, runs_of, lt-ltb)
 
 -- with its columns, and few enough rows
 pub rows_first : (t : List (List (List ℕ))) (limit : ℕ) (c : Columns) → AreCutColumns t c → None ≡ missing_in c → row_count t ≤ limit
     → first_cut_fault t limit ≡ option_or (first_below (bad_field t) (row_count t)) (runs_of t)
-rows_first t limit c h e l =
-    first_is t limit ∙ ap (λ a. all_faults a (too_many_rows t limit) (first_below (bad_field t) (row_count t)) (runs_of t)) (missing_is t c h ∙ sym e)
-    ∙ ap (λ b. option_or (if b then Some (TooManyRows (row_count t)) else None) (option_or (first_below (bad_field t) (row_count t)) (runs_of t))) (le-ltb limit (row_count t) l)
+rows_first t limit c h e l = grind (arith, first_is, all_faults, runs_of, le-ltb)
 
 pub field_first : (t : List (List (List ℕ))) (o : Option CutFault) (f : CutFault) → first_below (bad_field t) (row_count t) ≡ Some f → option_or (first_below (bad_field t) (row_count t)) o ≡ Some f
 field_first t o f h = ap (λ a. option_or a o) h
@@ -51,12 +41,4 @@ pub read_here : (t : List (List (List ℕ))) (runs places : List (List ℕ)) (ro
     → length rows ≡ row_count t → ((k : ℕ) (d : CutRow) → k < row_count t → IsNumbered runs places (row t k) (slice_index_or rows k d)) → rows' ≡ rows
     → length keys ≡ length rows' → AreCutKeys rows' keys
     → IsCutRead t runs places rows keys
-read_here t runs places rows rows' keys a b size each e count s =
-    record {
-      run_names = a;
-      place_names = b;
-      size = size;
-      each = λ k l. each k no_row l;
-      key_count = count ∙ ap length e;
-      sorted = subst (λ (x : List CutRow). AreCutKeys x keys) e s;
-    }
+read_here t runs places rows rows' keys a b size each e count s = grind arith

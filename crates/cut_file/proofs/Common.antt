@@ -21,25 +21,25 @@ unfoldable pub use Rattle.csv_rows.specs.Tables.{number_in}
 pub use Rattle.csv_rows.specs.declared.columns.Column.{Column}
 pub use Rattle.csv_rows.specs.declared.columns.Column.TheVariants.{Arr, Board, Change, Class, Dep, Exit, From, Run, Step, To}
 pub use Rattle.csv_rows.specs.declared.keys.Key.{Key}
-pub use Rattle.cut_file.specs.CutKeys.{AreCutKeys, beside, cut_row, misfit, no_row, run_of, step_of}
+pub use Rattle.delay_table.specs.DelayLists.{DelayLists}
+pub use Rattle.delay_table.specs.Slots.{AreDelays}
+pub use Rattle.plan_model.specs.NameLists.{Adds, AreDistinct, IsTrimmed, NameLists, NamesFit}
+pub use Rattle.plan_model.specs.Network.{AreLinks, IsValid, IsValidConnection, count}
+unfoldable pub use Rattle.plan_model.specs.Network.{change_of, connection}
+pub use Rattle.plan_model.specs.NetworkModel.{NetworkModel, plain_network}
+pub use Rattle.cut_file.specs.CutKeys.{AreCutKeys, beside, cut_row, run_of, step_of}
 pub use Rattle.cut_file.specs.CutNetwork.{IsCutNetwork, IsRide}
 unfoldable pub use Rattle.cut_file.specs.CutNetwork.{largest}
 pub use Rattle.cut_file.specs.CutNetworks.{AreConnections, IsConnection, IsNetwork, change_by, change_from, change_seconds_of}
 unfoldable pub use Rattle.cut_file.specs.CutNetworks.{longest}
 pub use Rattle.cut_file.specs.CutRows.{Row, named, row_from}
 unfoldable pub use Rattle.cut_file.specs.CutRows.{row_at}
-pub use Rattle.cut_file.specs.Faults.{bad_of, cut_just_precedes, cut_precedes, goes_back, is_broken, missing_column, same_run, too_many_rows}
+pub use Rattle.cut_file.specs.Faults.{bad_of, cut_just_precedes, cut_precedes, missing_column, same_run, too_many_rows}
 unfoldable pub use Rattle.cut_file.specs.Faults.{bad_field, first_cut_fault, repeated_step, row, row_of, run_fault}
-pub use Rattle.cut_file.specs.NumberedRows.{AreCutColumns, IsNumbered, index_fault, missing_in}
+pub use Rattle.cut_file.specs.NumberedRows.{AreCutColumns, IsNumbered, missing_in}
 unfoldable pub use Rattle.cut_file.specs.NumberedRows.{add_new, place_names, run_names}
 pub use Rattle.cut_file.specs.Read.{Cut, IsCutRead}
 pub use Rattle.cut_file.specs.Sound.{IsFaultless}
 pub use Rattle.cut_file.specs.declared.faults.CutFault.{CutFault}
 pub use Rattle.cut_file.specs.declared.faults.CutFault.TheVariants.{Backward, BadField, Broken, DuplicateStep, TooManyRows}
 pub use Rattle.cut_file.specs.declared.rows.CutRow.{CutRow}
-pub use Rattle.delay_table.specs.DelayLists.{DelayLists, class_for}
-pub use Rattle.delay_table.specs.Slots.{AreDelays}
-pub use Rattle.plan_model.specs.NameLists.{Adds, AreDistinct, IsTrimmed, NameLists, NamesFit}
-pub use Rattle.plan_model.specs.Network.{AreLinks, IsValid, IsValidConnection, count, no_connection}
-unfoldable pub use Rattle.plan_model.specs.Network.{change_of, connection}
-pub use Rattle.plan_model.specs.NetworkModel.{NetworkModel, plain_network}

@@ -1,7 +1,6 @@
 -- Numbers of names: one for each name.
-use Rattle.cut_file.proofs.Common.{◌≡◌, ℕ, zero, suc, ◌==◌, Bool, true, false, List, [], ◌∷◌, ◌++◌, slice_get, Some, is_some, if◌then◌else◌, refl, sym, ap, ◌∙◌, subst, arith, ⊎_elim, Contains}
-use Rattle.cut_file.proofs.Common.{bytes_eq, eq-eqb, ne_eqb, cases_Bool, bytes_eq-Decides, slice_get_within, get_or_from_slice_get, same_Some, AreDistinct, number_in, row, add_new, run_names}
-use Rattle.cut_file.proofs.Common.{place_names}
+use Rattle.cut_file.proofs.Common.{◌≡◌, ℕ, zero, suc, ◌==◌, Bool, true, false, List, [], ◌∷◌, ◌++◌, slice_get, Some, is_some, if◌then◌else◌, refl, arith, Contains, bytes_eq, eq-eqb, ne_eqb}
+use Rattle.cut_file.proofs.Common.{cases_Bool, bytes_eq-Decides, slice_get_within, get_or_from_slice_get, same_Some, AreDistinct, number_in, row, add_new, run_names, place_names}
 use Rattle.plan_model.proofs.Texts.{AreDistinct-push}
 use Rattle.delay_table.proofs.NumberedFacts.{one_index}
 use Rattle.cut_file.proofs.NumberFacts.{there_place}
@@ -29,18 +28,8 @@ places_distinct t (suc n) = add_distinct (add_new (place_names t n) (row t n).fr
 
 -- one name has one number
 pub one_number : (names : List (List ℕ)) → AreDistinct names → (a b : ℕ) (x : List ℕ) → slice_get names a ≡ Some x → slice_get names b ≡ Some x → a ≡ b
-one_number names d a b x h k =
-    one_index names d a b (slice_get_within names a x h) (slice_get_within names b x k) (get_or_from_slice_get names a x [] h ∙ sym (get_or_from_slice_get names b x [] k))
+one_number names d a b x h k = grind (arith, one_index, slice_get_within, get_or_from_slice_get)
 
 -- so names are compared by their numbers
 pub same_name : (names : List (List ℕ)) → AreDistinct names → (a b : ℕ) (x y : List ℕ) → slice_get names a ≡ Some x → slice_get names b ≡ Some y → bytes_eq x y ≡ (a == b)
-same_name names d a b x y h k =
-    ⊎_elim (λ (t : bytes_eq x y ≡ true).
-    let e : x ≡ y = (bytes_eq-Decides x y).0 t in
-    t ∙ sym (eq-eqb a b (one_number names d a b y (h ∙ ap Some e) k)))
-    (λ (f : bytes_eq x y ≡ false).
-    f ∙ sym (ne_eqb a b (λ e.
-    let P : ℕ → Type 0 = λ i. slice_get names i ≡ Some y in
-    let s : x ≡ y = same_Some x y (sym h ∙ subst P (sym e) k) in
-    let t = (bytes_eq-Decides x y).1 s in absurd (cc))))
-    (cases_Bool (bytes_eq x y))
+same_name names d a b x y h k = grind (arith, bytes_eq-Decides, eq-eqb, one_number, ne_eqb, same_Some, cases_Bool)

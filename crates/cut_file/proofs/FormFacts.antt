@@ -1,6 +1,6 @@
 -- What the forms of the fields bound.
-use Rattle.cut_file.proofs.Common.{◌≡◌, ℕ, ◌+◌, ◌<◌, ◌≤◌, Bool, true, ◌==◌, nat_lt, List, length, Option, Some, None, Result, Ok, Err, IfSome, if◌then◌else◌, refl, subst, arith, ltb-true}
-use Rattle.cut_file.proofs.Common.{cases_Bool, Column, Class, Run, Step, From, To, Dep, Arr, Board, Exit, Change, same_Some, Row, row_from, row_at, bad_of, bad_field, row_of, row, field}
+use Rattle.cut_file.proofs.Common.{◌≡◌, ℕ, ◌+◌, ◌<◌, ◌≤◌, Bool, true, ◌==◌, nat_lt, List, length, Option, Some, None, Result, Ok, Err, IfSome, if◌then◌else◌, refl, subst, arith, ltb-true, cases_Bool}
+use Rattle.cut_file.proofs.Common.{Column, Class, Run, Step, From, To, Dep, Arr, Board, Exit, Change, same_Some, Row, row_from, row_at, bad_of, bad_field, row_of, row, field}
 use Rattle.clock_text.proofs.DigitLemmas.{whole_bound}
 use Rattle.csv_rows.proofs.RowLemmas.{name_text, optional-each}
 use Rattle.clock_text.specs.Digits.{optional_seconds_of, whole_of}

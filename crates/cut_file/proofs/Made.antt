@@ -1,6 +1,5 @@
 -- The network that is made.
-use Rattle.cut_file.proofs.Common.{◌≡◌, ℕ, ◌<◌, List, length, get_or, ap, ◌∙◌, refl, subst, arith, plain_network, change_of, DelayLists, CutRow, Key, Cut, AreConnections, IsNetwork, longest}
-use Rattle.cut_file.proofs.Common.{change_from}
+use Rattle.cut_file.proofs.Common.{◌≡◌, ℕ, ◌<◌, List, length, get_or, arith, plain_network, change_of, DelayLists, CutRow, Key, Cut, AreConnections, IsNetwork, longest, change_from}
 use Rattle.plan_model.specs.declared.model.Connection.{Connection}
 use Rattle.plan_model.specs.declared.model.Outcome.{Outcome}
 
@@ -9,11 +8,4 @@ pub make_network : (cut : Cut) (delays : DelayLists) (r : List CutRow) (k : List
     → ((p : ℕ) → p < places → get_or change p 0 ≡ change_from (longest r (length r) p)) → AreConnections delays r k (length k) connections → classes ≡ delays.classes
     → IsNetwork cut delays (plain_network connections change classes)
 unfolding change_of
-make_network cut delays r k places connections change classes e f count size each made same =
-    record {
-      connections = subst (λ (x : List Key). AreConnections delays cut.rows x (length x) connections) f (subst (λ (x : List CutRow). AreConnections delays x k (length k) connections) e made);
-      places = size ∙ count;
-      change = λ p l. each p (omega (arith, count)) ∙ ap (λ (x : List CutRow). change_from (longest x (length x) p)) e;
-      classes = same;
-      links = refl;
-    }
+make_network cut delays r k places connections change classes e f count size each made same = grind arith

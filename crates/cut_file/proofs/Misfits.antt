@@ -29,9 +29,7 @@ module _ (t : List (List (List ℕ))) (runs places : List (List ℕ)) (rows : Li
 
   just_is : (j i : ℕ) → j < row_count t → i < row_count t → cut_just_precedes t j i ≡ just (row_count t) j i
   unfolding just
-  just_is j i l h =
-      ap₂ (λ x y. x && not y) (ahead_is j i l h)
-      (any-same (λ k. cut_precedes t j k && cut_precedes t k i) (λ k. ahead j k && ahead k i) (row_count t) (λ k m. ap₂ (λ x y. x && y) (ahead_is j k l m) (ahead_is k i m h)))
+  just_is j i l h = grind (arith, not, ahead_is, any-same, ahead)
 
   inside : (k : ℕ) → k < length keys → (key_at keys k).row < row_count t
   inside k h = omega (arith, r.sorted.inside k h, r.size)

@@ -1,7 +1,6 @@
 -- The network of a cut file by the rows of its table.
-use Rattle.cut_file.proofs.Common.{◌≡◌, ℕ, zero, suc, ◌<◌, ◌≤◌, max, List, length, slice_get, Option, Some, None, if◌then◌else◌, bytes_eq, refl, sym, ap, ap₂, ◌∙◌, subst, arith, slice_get_within}
-use Rattle.cut_file.proofs.Common.{NetworkModel, count, connection, no_connection, row_count, DelayLists, class_for, row, key_at, cut_row, Cut, IsCutRead, IsNetwork, longest, change_seconds_of}
-use Rattle.cut_file.proofs.Common.{change_from, IsRide, largest, IsCutNetwork}
+use Rattle.cut_file.proofs.Common.{◌≡◌, ℕ, zero, suc, ◌<◌, ◌≤◌, max, List, slice_get, Some, if◌then◌else◌, bytes_eq, refl, sym, ap, ap₂, ◌∙◌, subst, arith, slice_get_within, NetworkModel, count}
+use Rattle.cut_file.proofs.Common.{connection, row_count, DelayLists, row, key_at, cut_row, Cut, IsCutRead, IsNetwork, longest, change_seconds_of, change_from, IsRide, largest, IsCutNetwork}
 use Rattle.cut_file.proofs.ChangeFacts.{longest-zero, longest-suc}
 use Rattle.cut_file.proofs.Repeats.{one_place_name}
 use Rattle.cut_file.proofs.Distinct.{same_name}
@@ -10,21 +9,7 @@ use Rattle.cut_file.proofs.Fit.{name_lists}
 module _ (t : List (List (List ℕ))) (cut : Cut) (delays : DelayLists) (n : NetworkModel) (read : IsCutRead t cut.runs cut.places cut.rows cut.keys) (net : IsNetwork cut delays n) where
   ride : (i : ℕ) → i < count n → IsRide (name_lists cut) delays (row t (key_at cut.keys i).row) (connection n i)
   unfolding connection
-  ride i l =
-      let key : i < length cut.keys = omega (arith, net.connections.size, l) in
-      let c = net.connections.each i no_connection key in
-      let a = read.each (key_at cut.keys i).row (omega (arith, read.sorted.inside i key, read.size)) in
-      record {
-        run = ap (slice_get cut.runs) c.run ∙ a.run;
-        from = ap (slice_get cut.places) c.from ∙ a.from;
-        to = ap (slice_get cut.places) c.to ∙ a.to;
-        dep = c.dep ∙ a.dep;
-        arr = c.arr ∙ a.arr;
-        step = c.step ∙ a.step;
-        class = c.class ∙ ap₂ (λ (x : Option ℕ) m. class_for delays x None m) a.class a.arr;
-        board = c.board ∙ a.board;
-        exit = c.exit ∙ a.exit;
-      }
+  ride i l = grind arith
 
   -- numbers are those of names
   largest_is : (p : ℕ) (place : List ℕ) → slice_get cut.places p ≡ Some place → (m : ℕ) → m ≤ row_count t → longest cut.rows m p ≡ largest t place m

@@ -1,7 +1,7 @@
 -- Names that are numbered as they come.
 use Rattle.cut_file.proofs.Common.{◌≡◌, ℕ, zero, suc, ◌+◌, ◌≤◌, Bool, true, false, List, [], ◌∷◌, ◌++◌, length, get_or, slice_get, Option, Some, None, is_some, if◌then◌else◌, refl, sym, ap, ◌∙◌}
-use Rattle.cut_file.proofs.Common.{subst, take, arith, Contains, length-append, bytes_eq, cases_Bool, get_or_default, take_more, none-some, slice_get_within, get_or_from_slice_get, Adds}
-use Rattle.cut_file.proofs.Common.{AreDistinct, number_in, absent_by, CutRow, Row, add_new, IsNumbered}
+use Rattle.cut_file.proofs.Common.{subst, take, arith, Contains, length-append, bytes_eq, cases_Bool, get_or_default, take_more, none-some, slice_get_within, get_or_from_slice_get, Adds, AreDistinct}
+use Rattle.cut_file.proofs.Common.{number_in, absent_by, CutRow, Row, add_new, IsNumbered}
 use Rattle.text_index.proofs.KeyLemmas.{new_after_those_before}
 use Rattle.csv_rows.proofs.IdLemmas.{got, number-contained}
 use Rattle.csv_rows.proofs.HeaderLemmas.{bytes_ne}
@@ -65,15 +65,4 @@ unfolding add_new
 get_add names name k y h = get_if (is_some (number_in name names)) names name k y h
 
 pub numbered_grows : (runs places : List (List ℕ)) (x y z : List ℕ) (r : Row) (c : CutRow) → IsNumbered runs places r c → IsNumbered (add_new runs x) (add_new (add_new places y) z) r c
-numbered_grows runs places x y z r c h = record {
-  run = get_add runs x c.run r.run h.run;
-  from = get_add (add_new places y) z c.from r.from (get_add places y c.from r.from h.from);
-  to = get_add (add_new places y) z c.to r.to (get_add places y c.to r.to h.to);
-  step = h.step;
-  dep = h.dep;
-  arr = h.arr;
-  class = h.class;
-  board = h.board;
-  exit = h.exit;
-  change = h.change;
-}
+numbered_grows runs places x y z r c h = grind (arith, get_add)

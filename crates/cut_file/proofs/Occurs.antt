@@ -1,6 +1,6 @@
 -- Each number is that of some row.
-use Rattle.cut_file.proofs.Common.{◌≡◌, ℕ, zero, suc, ◌*◌, ◌<◌, ◌≤◌, ◌⊎◌, inl, inr, Bool, true, false, List, [], ◌∷◌, ◌++◌, length, slice_get, Some, is_some, if◌then◌else◌, refl, sym, subst}
-use Rattle.cut_file.proofs.Common.{arith, ⊎_elim, length-append, eq-or-lt_of_le, number_in, row, add_new, run_names, place_names}
+use Rattle.cut_file.proofs.Common.{◌≡◌, ℕ, zero, suc, ◌*◌, ◌<◌, ◌≤◌, ◌⊎◌, inl, inr, Bool, true, false, List, [], ◌∷◌, ◌++◌, length, slice_get, Some, is_some, if◌then◌else◌, refl, sym, subst, arith}
+use Rattle.cut_file.proofs.Common.{⊎_elim, length-append, eq-or-lt_of_le, number_in, row, add_new, run_names, place_names}
 use Rattle.cut_file.proofs.NumberFacts.{get_add, length_add}
 
 get_last : (names : List (List ℕ)) (x : List ℕ) → slice_get (names ++ x ∷ []) (length names) ≡ Some x
@@ -64,5 +64,4 @@ place_occurs t (suc n) p l =
 pub few_places : (t : List (List (List ℕ))) (n : ℕ) → length (place_names t n) ≤ 2 * n
 unfolding place_names
 few_places t zero = omega arith
-few_places t (suc n) =
-    omega (arith, few_places t n, length_add (place_names t n) (row t n).from, length_add (add_new (place_names t n) (row t n).from) (row t n).to)
+few_places t (suc n) = grind (arith, length_add, few_places t n)

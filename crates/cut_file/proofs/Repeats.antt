@@ -1,7 +1,7 @@
 -- The rows of a table by the keys of their runs and steps, and the first step that is repeated.
-use Rattle.cut_file.proofs.Common.{◌≡◌, ℕ, ◌+◌, ◌<◌, ◌==◌, Bool, true, ◌&&◌, List, length, Option, Some, None, option_map, if◌then◌else◌, sym, ap, ap₂, ◌∙◌, subst, arith, AreDistinct, first_below}
-use Rattle.cut_file.proofs.Common.{row_count, Key, key_at, AreSorted, has_twin, twin_at, any-same, first-same, first-reported, AreApart, no_twins, rises, CutRow, CutFault, DuplicateStep, row}
-use Rattle.cut_file.proofs.Common.{same_run, repeated_step, run_of, step_of, IsCutRead}
+use Rattle.cut_file.proofs.Common.{◌≡◌, ℕ, ◌+◌, ◌<◌, ◌==◌, Bool, true, List, length, Option, Some, None, option_map, if◌then◌else◌, sym, ap, ◌∙◌, subst, arith, AreDistinct, first_below, row_count}
+use Rattle.cut_file.proofs.Common.{Key, key_at, AreSorted, has_twin, twin_at, any-same, first-same, first-reported, AreApart, no_twins, rises, CutRow, CutFault, DuplicateStep, row, same_run}
+use Rattle.cut_file.proofs.Common.{repeated_step, run_of, step_of, IsCutRead}
 use Rattle.cut_file.proofs.Distinct.{runs_distinct, places_distinct, same_name}
 
 module _ (t : List (List (List ℕ))) (runs places : List (List ℕ)) (rows : List CutRow) (keys : List Key) (r : IsCutRead t runs places rows keys) where
@@ -26,11 +26,7 @@ module _ (t : List (List (List ℕ))) (runs places : List (List ℕ)) (rows : Li
 
   repeat_is : first_below (repeated_step t) (row_count t) ≡ first_below twins (row_count t)
   unfolding repeated_step reported twins
-  repeat_is =
-      first-same (repeated_step t) twins (row_count t) (λ i h.
-      ap (λ b. reported b i)
-      (any-same (λ j. same_run t j i && ((row t j).step == (row t i).step)) (λ j. (run_of rows j == run_of rows i) && (step_of rows j == step_of rows i)) i
-      (λ j l. ap₂ (λ x y. x && y) (run_is j i (omega arith) h) (ap₂ (λ (x y : ℕ). x == y) (step_is j (omega arith)) (step_is i h)))))
+  repeat_is = grind (arith, first-same, twins, reported, any-same, run_is, step_is)
 
   pub apart : first_below (repeated_step t) (row_count t) ≡ None → AreApart (run_of rows) (step_of rows) (length rows)
   unfolding twins

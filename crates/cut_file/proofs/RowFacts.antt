@@ -1,6 +1,6 @@
 -- The rows, one more at a time.
-use Rattle.cut_file.proofs.Common.{◌≡◌, ℕ, ◌+◌, ◌<◌, List, [], ◌∷◌, ◌++◌, length, get_or, Some, None, Ok, Err, refl, sym, ap, ◌∙◌, subst, arith, add-one, below_more, get_or_append_left}
-use Rattle.cut_file.proofs.Common.{get_or_push, Column, CutRow, BadField, Row, row_at, bad_of, bad_field, row_of, row, add_new, run_names, place_names, IsNumbered}
+use Rattle.cut_file.proofs.Common.{◌≡◌, ℕ, ◌+◌, ◌<◌, List, [], ◌∷◌, ◌++◌, length, get_or, Some, None, Ok, Err, refl, sym, ap, ◌∙◌, subst, arith, add-one, below_more, get_or_append_left, get_or_push}
+use Rattle.cut_file.proofs.Common.{Column, CutRow, BadField, Row, row_at, bad_of, bad_field, row_of, row, add_new, run_names, place_names, IsNumbered}
 use Rattle.cut_file.proofs.NumberFacts.{numbered_grows}
 
 pub bad_here : (t : List (List (List ℕ))) (i : ℕ) (column : Column) → row_at t i ≡ Err column → bad_field t i ≡ Some (BadField (i + 2) column)
@@ -30,8 +30,7 @@ run_names-next t i r old new h e f = rw add-one (f ∙ ap (λ x. add_new x r.run
 pub place_names-next : (t : List (List (List ℕ))) (i : ℕ) (r : Row) (old new : List (List ℕ)) → row_at t i ≡ Ok r → old ≡ place_names t i
     → new ≡ add_new (add_new old r.from) r.to → new ≡ place_names t (i + 1)
 unfolding place_names
-place_names-next t i r old new h e f =
-    rw add-one (f ∙ ap (λ x. add_new (add_new x r.from) r.to) e ∙ ap (λ (x : Row). add_new (add_new (place_names t i) x.from) x.to) (sym (row_is t i r h)))
+place_names-next t i r old new h e f = grind (arith, add-one, row_is)
 
 -- each row has its numbers, after one more
 pub each_next : (t : List (List (List ℕ))) (i : ℕ) (r : Row) (runs places runs' places' : List (List ℕ)) (old new : List CutRow) (c : CutRow)

@@ -1,9 +1,8 @@
 -- The network of a cut file with no fault is valid.
-use Rattle.cut_file.proofs.Common.{◌≡◌, ℕ, zero, suc, ◌+◌, ◌-◌, ◌<◌, ◌≤◌, ◌==◌, inl, inr, nat_lt, Bool, false, ◌&&◌, List, [], length, slice_get, slice_index_or, Option, Some, None, IfSome}
-use Rattle.cut_file.proofs.Common.{if◌then◌else◌, refl, sym, ap, ◌∙◌, subst, arith, ⊎_elim, ltb-false, cases_Bool, cases_lt, or_parts, slice_get_within, NetworkModel, IsValid, IsValidConnection}
-use Rattle.cut_file.proofs.Common.{AreLinks, count, connection, no_connection, first_below, any_below, DelayLists, AreDelays, row_count, none-both, none-each, CutRow, Key, key_at, IsBefore}
-use Rattle.cut_file.proofs.Common.{less_group, CutFault, TooManyRows, Backward, Broken, row, cut_just_precedes, goes_back, is_broken, missing_column, too_many_rows, bad_field, repeated_step}
-use Rattle.cut_file.proofs.Common.{run_fault, first_cut_fault, cut_row, misfit, beside, Cut, IsFaultless, IsConnection, IsNetwork, longest, change_by, change_from, change_seconds_of}
+use Rattle.cut_file.proofs.Common.{◌≡◌, ℕ, zero, suc, ◌+◌, ◌-◌, ◌<◌, ◌≤◌, ◌==◌, inl, inr, Bool, false, List, [], length, slice_get, slice_index_or, Option, Some, None, IfSome, if◌then◌else◌, refl}
+use Rattle.cut_file.proofs.Common.{sym, ap, ◌∙◌, subst, arith, ⊎_elim, ltb-false, cases_Bool, cases_lt, or_parts, slice_get_within, NetworkModel, IsValid, IsValidConnection, AreLinks, count}
+use Rattle.cut_file.proofs.Common.{connection, first_below, DelayLists, AreDelays, row_count, none-both, none-each, CutRow, Key, key_at, IsBefore, less_group, CutFault, row, bad_field, repeated_step}
+use Rattle.cut_file.proofs.Common.{run_fault, first_cut_fault, cut_row, beside, Cut, IsFaultless, IsConnection, IsNetwork, longest, change_by, change_from, change_seconds_of}
 use Rattle.std.proofs.lemmas.Bool.Decides.{nat_tests}
 use Rattle.plan_model.proofs.Links.{AreLinks-none}
 use Rattle.plan_model.specs.DelayRows.{IsValidRow}
@@ -28,25 +27,15 @@ pub record HasNone (t : List (List (List ℕ))) (limit : ℕ) : Type 0 where
 
 has_none : (t : List (List (List ℕ))) (limit : ℕ) → first_cut_fault t limit ≡ None → HasNone t limit
 unfolding first_cut_fault
-has_none t limit h =
-    let a = none-both (missing_column t) _ h in
-    let b = none-both (too_many_rows t limit) _ a.1 in
-    let c = none-both (first_below (bad_field t) (row_count t)) _ b.1 in
-    let d = none-both (first_below (repeated_step t) (row_count t)) _ c.1 in
-    record { few = ltb-false limit (row_count t) (if_none (nat_lt limit (row_count t)) (TooManyRows (row_count t)) None b.0).0; fields = c.0; steps = d.0; runs = d.1 }
+has_none t limit h = grind (arith, none-both, ltb-false, if_none)
 
 -- what a row without a fault beside the row before it gives
 forward_own : (t : List (List (List ℕ))) (i : ℕ) → run_fault t i ≡ None → (row t i).dep ≤ (row t i).arr
 unfolding run_fault
-forward_own t i h =
-    ltb-false (row t i).arr (row t i).dep (or_parts (nat_lt (row t i).arr (row t i).dep) (any_below (λ j. cut_just_precedes t j i && nat_lt (row t i).dep (row t j).arr) (row_count t))
-    (if_none (goes_back t i) (Backward (i + 2)) (if is_broken t i then Some (Broken (i + 2)) else None) h).0).0
+forward_own t i h = grind (arith, ltb-false, or_parts, if_none)
 
 after_last : (rows : List CutRow) (b : Key) (i : ℕ) → beside rows (Some b) i ≡ None → (cut_row rows b.row).arr ≤ (cut_row rows i).dep
-after_last rows b i h =
-    let a = if_none (nat_lt (cut_row rows i).arr (cut_row rows i).dep) (Backward (i + 2)) (misfit (cut_row rows i) (cut_row rows b.row) (i + 2)) h in
-    let c = if_none (nat_lt (cut_row rows i).dep (cut_row rows b.row).arr) (Backward (i + 2)) (if (cut_row rows i).from == (cut_row rows b.row).to then None else Some (Broken (i + 2))) a.1 in
-    ltb-false (cut_row rows i).dep (cut_row rows b.row).arr c.0
+after_last rows b i h = grind (arith, if_none, ltb-false)
 
 seconds_few : (o : Option ℕ) → IfSome o (λ s. s ≤ 86400) → change_seconds_of o ≤ 86400
 seconds_few None h = omega arith
@@ -86,16 +75,7 @@ module _ (cut : Cut) (delays : DelayLists) (n : NetworkModel) (s : IsFaultless c
 
   pub is_at : (i : ℕ) → i < count n → IsAt i
   unfolding connection
-  is_at i l =
-      let key : i < length cut.keys = omega (arith, net.connections.size) in
-      let c = net.connections.each i no_connection key in
-      record {
-        run = c.run ∙ sym (s.read.sorted.groups i key);
-        step = c.step ∙ sym (s.read.sorted.orders i key);
-        made = c;
-        inside = omega (arith, s.read.sorted.inside i key, s.read.size);
-        key = key;
-      }
+  is_at i l = grind arith
 
   fits : (k : ℕ) → k < length cut.keys → run_fault s.table (key_at cut.keys k).row ≡ None
   fits k h = none-each (run_fault s.table) (row_count s.table) none_of.runs (key_at cut.keys k).row (omega (arith, s.read.sorted.inside k h, s.read.size))
@@ -122,9 +102,7 @@ module _ (cut : Cut) (delays : DelayLists) (n : NetworkModel) (s : IsFaultless c
       record { index = k.0; inside = k.1; run = s.read.sorted.groups k.0 k.1 ∙ ap (λ i. (cut_row cut.rows i).run) k.2 ∙ same }
 
   pub run_inside : (i : ℕ) → i < length cut.keys → (key_at cut.keys i).group < length cut.runs
-  run_inside i h =
-      let a = s.read.each (key_at cut.keys i).row (omega (arith, s.read.sorted.inside i h, s.read.size)) in
-      omega (arith, s.read.sorted.groups i h, slice_get_within cut.runs (own i).run (row s.table (key_at cut.keys i).row).run a.run)
+  run_inside i h = grind (arith, slice_get_within, own)
 
   next : (i : ℕ) → i + 1 < count n → FitsNext n i
   next i l =
