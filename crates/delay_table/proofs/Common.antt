@@ -15,29 +15,29 @@ pub use Rattle.std.proofs.lemmas.Result.{IfErr-weaker, on_ok_weaker}
 pub use Rattle.std.specs.List.{IsDistinct, fold, list_any, position_from, position_or_len}
 pub use Rattle.std.specs.Option.{option_or}
 pub use Rattle.csv_rows.proofs.FaultLemmas.{if_raised}
-pub use Rattle.csv_rows.proofs.FirstLemmas.{absent_by, first-at, first-is, first-next, first-same, first-suc, first-zero, found_by, index_by-none, index_by-some, none-both, none-each}
+pub use Rattle.csv_rows.proofs.FirstLemmas.{absent_by, first-at, first-is, first-next, first-same, first-zero, found_by, index_by-none, index_by-some, none-both, none-each}
 pub use Rattle.csv_rows.proofs.IdLemmas.{got, number-contained, number-here}
 pub use Rattle.csv_rows.specs.First.{first_below}
 pub use Rattle.csv_rows.specs.Tables.{field, field_at, index_of, number_in, row_count}
 pub use Rattle.csv_rows.specs.declared.columns.Column.TheVariants.{Class, Delay, Hour, RouteId, Weight}
-pub use Rattle.delay_table.specs.DelayBounds.{end_of_types, last_type, most_groups, most_rows, whole_weight}
-pub use Rattle.delay_table.specs.DelayLists.{DelayLists, class_at, hour_class, hour_of, other_class, route_class, type_class}
-unfoldable pub use Rattle.delay_table.specs.DelayLists.{class_for, type_index}
-pub use Rattle.delay_table.specs.Delays.{Line, begins, class_name, class_rows, class_sum, class_type, column_fault, delay_class_in, delay_rises, fault_after, fault_of, given, group_of, group_sum}
-pub use Rattle.delay_table.specs.Delays.{group_sum_at, groups_fault, hour_in, if_begins, if_other, if_some, line_from, line_with, missing_column, no_default_of, not_zero, of_group, other_sum}
-pub use Rattle.delay_table.specs.Delays.{route_in, too_many, too_many_classes, type_rows, type_sum_at}
-unfoldable pub use Rattle.delay_table.specs.Delays.{delays_in, delays_of, first_delay_fault, first_line, firsts, group_outcomes, groups_at, groups_of, line_fault, others, route_types_below}
-pub use Rattle.delay_table.specs.Groups.{Group, group_in, is_plain, listed, numbered_route, of_class, plain_type, same_if, same_number, with_group, with_route}
-unfoldable pub use Rattle.delay_table.specs.Groups.{group_index, plain_types, routes_of, same_group}
-pub use Rattle.delay_table.specs.Numbered.{AreNumbers, IsNumber, IsNumbering, line_group, named_group, no_group, same_line, same_numbered, same_text}
-pub use Rattle.delay_table.specs.Read.{AddsRow, AreApart, AreGroupsRead, IsPushed, IsReadTo, group_rows_at, no_rows, outcomes_at}
-unfoldable pub use Rattle.delay_table.specs.Read.{line_at, read_outcomes}
-pub use Rattle.delay_table.specs.Slots.{AreDelays, IsClassOf, IsGroupStart}
-pub use Rattle.delay_table.specs.declared.faults.DelayFault.{DelayFault}
-pub use Rattle.delay_table.specs.declared.faults.DelayFault.TheVariants.{BadField, GroupSum, MissingColumn, NoMemory, NotRising, TooManyClasses, TooManyRows, WeightSum}
-pub use Rattle.delay_table.specs.declared.numbered.NumberedGroup.{NumberedGroup}
-pub use Rattle.delay_table.specs.declared.reading.GroupRows.{GroupRows}
 pub use Rattle.plan_model.specs.Bounds.{seconds_per_day}
 pub use Rattle.plan_model.specs.DelayRows.{IsValidRow}
 pub use Rattle.plan_model.specs.NameLists.{Adds, AreDistinct}
 pub use Rattle.plan_model.specs.declared.model.Outcome.{Outcome}
+pub use Rattle.delay_table.specs.DelayBounds.{end_of_types, last_type, most_groups, whole_weight}
+pub use Rattle.delay_table.specs.DelayLists.{DelayLists, class_at, hour_class, hour_of, other_class, route_class, type_class}
+unfoldable pub use Rattle.delay_table.specs.DelayLists.{class_for, type_index}
+pub use Rattle.delay_table.specs.Delays.{Line, begins, class_name, class_rows, class_sum, class_type, delay_class_in, delay_rises, fault_after, fault_of, given, group_of, group_sum, group_sum_at}
+pub use Rattle.delay_table.specs.Delays.{groups_fault, hour_in, if_begins, if_other, if_some, line_from, line_with, missing_column, no_default_of, not_zero, of_group, other_sum, route_in, too_many}
+pub use Rattle.delay_table.specs.Delays.{too_many_classes, type_rows, type_sum_at}
+unfoldable pub use Rattle.delay_table.specs.Delays.{delays_in, delays_of, first_delay_fault, first_line, firsts, group_outcomes, groups_at, groups_of, line_fault, others, route_types_below}
+pub use Rattle.delay_table.specs.Groups.{Group, group_in, is_plain, listed, numbered_route, of_class, plain_type, same_if, same_number, with_group, with_route}
+unfoldable pub use Rattle.delay_table.specs.Groups.{group_index, plain_types, routes_of, same_group}
+pub use Rattle.delay_table.specs.Numbered.{AreNumbers, IsNumber, IsNumbering, line_group, named_group, no_group, same_line, same_numbered, same_text}
+pub use Rattle.delay_table.specs.Read.{AddsRow, AreApart, AreGroupsRead, IsPushed, IsReadTo, group_rows_at, outcomes_at}
+unfoldable pub use Rattle.delay_table.specs.Read.{line_at, read_outcomes}
+pub use Rattle.delay_table.specs.Slots.{AreDelays, IsClassOf, IsGroupStart}
+pub use Rattle.delay_table.specs.declared.faults.DelayFault.{DelayFault}
+pub use Rattle.delay_table.specs.declared.faults.DelayFault.TheVariants.{BadField, GroupSum, MissingColumn, NoMemory, NotRising, TooManyClasses, WeightSum}
+pub use Rattle.delay_table.specs.declared.numbered.NumberedGroup.{NumberedGroup}
+pub use Rattle.delay_table.specs.declared.reading.GroupRows.{GroupRows}

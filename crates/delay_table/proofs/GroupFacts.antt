@@ -1,8 +1,7 @@
 -- Groups that are the same, and where a group is among others.
-use Rattle.delay_table.proofs.Common.{◌≡◌, ℕ, ◌+◌, ◌<◌, Bool, true, false, ◌&&◌, List, [], ◌∷◌, ◌++◌, length, Option, Some, None, if◌then◌else◌, refl, sym, ap, ap₂, ◌∙◌, subst, arith, inl, inr}
-use Rattle.delay_table.proofs.Common.{add-one, length-append, bytes_eq, eqb-true, eq-eqb, cases_order, and_from, and_parts, false_from_ne_true, get_or_append_left, get_or_push, option_or}
-use Rattle.delay_table.proofs.Common.{first_below, absent_by, first-same, first-suc, found_by, index_by-none, index_by-some, Group, same_if, same_number, same_group, of_class, group_in}
-use Rattle.delay_table.proofs.Common.{group_index, AreApart}
+use Rattle.delay_table.proofs.Common.{◌≡◌, ℕ, ◌+◌, ◌<◌, Bool, true, false, List, [], ◌∷◌, ◌++◌, length, Option, Some, None, refl, sym, ap, ◌∙◌, subst, arith, inl, inr, length-append, eqb-true}
+use Rattle.delay_table.proofs.Common.{eq-eqb, cases_order, and_from, and_parts, false_from_ne_true, get_or_append_left, get_or_push, absent_by, found_by, index_by-none, index_by-some, Group, same_if}
+use Rattle.delay_table.proofs.Common.{same_group, of_class, group_in, group_index, AreApart}
 use Rattle.std.proofs.lemmas.Slice.Eq.{bytes_eq-Decides}
 
 pub same_if-equal : {A : Type 0} (same : A → A → Bool) → ((a b : A) → same a b ≡ true → a ≡ b) → (x y : Option A) → same_if same x y ≡ true → x ≡ y
@@ -17,21 +16,11 @@ same_if-self same self (Some a) = self a
 
 pub same-equal : (a b : Group) → same_group a b ≡ true → a ≡ b
 unfolding same_group
-same-equal a b h =
-    let p = and_parts (same_if same_number a.class b.class) (same_if bytes_eq a.route b.route && same_if same_number a.hour b.hour) h in
-    let q = and_parts (same_if bytes_eq a.route b.route) (same_if same_number a.hour b.hour) p.1 in
-    let class : a.class ≡ b.class = same_if-equal same_number eqb-true a.class b.class p.0 in
-    let route : a.route ≡ b.route = same_if-equal bytes_eq (λ x y. (bytes_eq-Decides x y).0) a.route b.route q.0 in
-    let hour : a.hour ≡ b.hour = same_if-equal same_number eqb-true a.hour b.hour q.1 in
-    λ i. record { class = class i; route = route i; hour = hour i }
+same-equal a b h = grind (arith, and_parts, same_if-equal, eqb-true, bytes_eq-Decides)
 
 pub same-self : (a : Group) → same_group a a ≡ true
 unfolding same_group
-same-self a =
-    let number : (n : ℕ) → same_number n n ≡ true = λ n. eq-eqb n n refl in
-    and_from (same_if same_number a.class a.class) (same_if bytes_eq a.route a.route && same_if same_number a.hour a.hour) (same_if-self same_number number a.class)
-    (and_from (same_if bytes_eq a.route a.route) (same_if same_number a.hour a.hour) (same_if-self bytes_eq (λ x. (bytes_eq-Decides x x).1 refl) a.route)
-    (same_if-self same_number number a.hour))
+same-self a = grind (arith, eq-eqb, and_from, same_if-self, bytes_eq-Decides)
 
 pub same-true : (a b : Group) → a ≡ b → same_group a b ≡ true
 same-true a b e = subst (λ (x : Group). same_group a x ≡ true) e (same-self a)
@@ -76,21 +65,6 @@ apart-ne groups apart j k inside within ne e = elim (cases_order j k) [
 pub index-at : (groups : List Group) → AreApart groups → (k : ℕ) → k < length groups → group_index (group_in groups k) groups ≡ Some k
 index-at groups apart k l =
     index-first (group_in groups k) groups k l refl (λ j less. false-same (group_in groups j) (group_in groups k) (apart j k less l))
-
--- one more group
-pub group_index-push : (group : Group) (groups : List Group) (x : Group) → group_index group (groups ++ x ∷ []) ≡ option_or (group_index group groups)
-    (if same_group x group then Some (length groups) else None)
-unfolding group_index
-group_index-push group groups x =
-    let n = length groups in
-    let size : length (groups ++ x ∷ []) ≡ n + 1 = length-append groups (x ∷ []) in
-    let f : ℕ → Option ℕ = λ k. if same_group (group_in (groups ++ x ∷ []) k) group then Some k else None in
-    ap (first_below f) size
-    ∙ rw add-one (first-suc f n)
-    ∙ ap₂ option_or
-    (first-same f (λ k. if same_group (group_in groups k) group then Some k else None) n (λ k l. ap (λ
-    (y : Group). if same_group y group then Some k else None) (get_or_append_left groups (x ∷ []) (of_class None) k l)))
-    (ap (λ (y : Group). if same_group y group then Some n else None) (get_or_push groups x (of_class None) n refl))
 
 pub push-none : (group : Group) (groups : List Group) (x : Group) → group_index group (groups ++ x ∷ []) ≡ None → (group_index group groups ≡ None) × (x ≡ group → ⊥)
 push-none group groups x h =

@@ -7,8 +7,7 @@ use Rattle.delay_table.proofs.NumberedFacts.{numbered-equal, numbered-true}
 module _ {X : Type 0} (test : X → Bool) where
   any-from : (i : ℕ) (xs : List X) → is_some (position_from test i xs) ≡ list_any test xs
   any-from i [] = refl
-  any-from i (x ∷ xs) =
-      ⊎_elim (λ (t : test x ≡ true). rw t refl) (λ (f : test x ≡ false). rw f (any-from (i + 1) xs)) (cases_Bool (test x))
+  any-from i (x ∷ xs) = grind (arith, cases_Bool, any-from (i + 1) xs)
 
   -- it has a index where one passes
   pub any-position : (xs : List X) → is_some (position test xs) ≡ list_any test xs
@@ -16,15 +15,11 @@ module _ {X : Type 0} (test : X → Bool) where
 
   push-from : (i : ℕ) (xs : List X) (y : X) (n : ℕ) → n ≡ i + length xs → position_from test i (xs ++ y ∷ []) ≡ option_or (position_from test i xs) (cond (test y) (Some n) None)
   push-from i [] y n e = ap (λ k. cond (test y) (Some k) None) (omega arith)
-  push-from i (x ∷ xs) y n e =
-      ⊎_elim (λ (t : test x ≡ true). rw t refl) (λ (f : test x ≡ false). rw f (push-from (i + 1) xs y n (omega arith))) (cases_Bool (test x))
+  push-from i (x ∷ xs) y n e = grind (arith, cases_Bool, push-from (i + 1) xs y n (omega arith))
 
   -- one more comes last
   pub position-push : (xs : List X) (y : X) → position test (xs ++ y ∷ []) ≡ option_or (position test xs) (cond (test y) (Some (length xs)) None)
-  position-push xs y =
-      position_from-zero test (xs ++ y ∷ [])
-      ∙ push-from 0 xs y (length xs) (omega arith)
-      ∙ ap (λ o. option_or o (cond (test y) (Some (length xs)) None)) (sym (position_from-zero test xs))
+  position-push xs y = grind (arith, position_from-zero, push-from)
 
 no-index : (o : Option ℕ) (b : Bool) → is_some o ≡ b → b ≡ false → o ≡ None
 no-index None b e f = refl

@@ -1,8 +1,7 @@
 -- The groups of lines, as they are numbered.
-use Rattle.delay_table.proofs.Common.{◌≡◌, Bor, ℕ, ◌<◌, ◌&&◌, Bool, true, false, not, cond, List, [], ◌∷◌, ◌++◌, length, map, slice_index_or, Option, Some, None, is_some, option_map}
-use Rattle.delay_table.proofs.Common.{if◌then◌else◌, refl, sym, ap, ◌∙◌, arith, position, bytes_eq, list_any, position_or_len, get_or-map, length-map, map-append, list_any_at, position-Some}
-use Rattle.delay_table.proofs.Common.{Group, same_if, same_number, same_group, of_class, group_in, group_index, with_group, line_group, same_line, same_text}
-use Rattle.std.specs.Prelude.{nat_lt}
+use Rattle.delay_table.proofs.Common.{◌≡◌, Bor, ℕ, ◌<◌, ◌&&◌, Bool, true, false, not, cond, List, [], ◌∷◌, ◌++◌, length, map, slice_index_or, Option, Some, None, is_some, option_map, if◌then◌else◌}
+use Rattle.delay_table.proofs.Common.{refl, sym, ap, ◌∙◌, arith, position, bytes_eq, list_any, position_or_len, get_or-map, length-map, map-append, list_any_at, position-Some, Group, same_if}
+use Rattle.delay_table.proofs.Common.{same_number, same_group, of_class, group_in, group_index, with_group, line_group, same_line, same_text}
 use Rattle.indexmap.specs.IndexSet.{insert_key}
 use Rattle.delay_table.specs.declared.groups.LineGroup.{LineGroup}
 use Rattle.delay_table.proofs.GroupFacts.{none-index, index-first, same-equal, same-true}
@@ -69,8 +68,7 @@ module _ (key : LineGroup) (keys : List LineGroup) where
 
   there-index : (o : Option ℕ) (index : ℕ) → position (same_line key) keys ≡ o → is_some o ≡ true → index ≡ position_or_len (same_line key) keys → Some index ≡ position (same_line key) keys
   there-index None index e h p = absurd (cc)
-  there-index (Some i) index e h p =
-      ap Some p ∙ held (nat_lt (position_or_len (same_line key) keys) (length keys)) (position_or_len (same_line key) keys) i e ∙ sym e
+  there-index (Some i) index e h p = grind (arith, held, position_or_len)
 
   no-index : (o : Option ℕ) → is_some o ≡ false → None ≡ o
   no-index None h = refl
@@ -89,10 +87,7 @@ module _ (key : LineGroup) (keys : List LineGroup) where
 
   -- the groups after it
   pub lines-next : (new : List LineGroup) → new ≡ insert_key same_line keys key → map line_group new ≡ with_group groups (line_group key)
-  lines-next new e =
-      ap (map line_group) e
-      ∙ shown-if (list_any (same_line key) keys)
-      ∙ ap (λ (b : Bool). if b then groups else groups ++ line_group key ∷ []) (sym some-index)
+  lines-next new e = grind (arith, shown-if, list_any, groups, some-index)
 
   -- what `insert_full` gives
   pub reported-new : not (list_any (same_line key) keys) ≡ true → None ≡ group_index (line_group key) groups

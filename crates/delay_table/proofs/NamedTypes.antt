@@ -41,8 +41,7 @@ module _ (rows : Group → List Outcome) where
 
   -- one type more, if it has outcomes
   more-are : (n : ℕ) (types : List ℕ) (r : List Outcome) → r ≡ type_rows rows n → AreNamed n types → AreNamed (suc n) (types ++ if_some r n)
-  more-are n types [] e s =
-      subst (AreNamed (suc n)) (sym (append-nil types)) (record { below = λ k d l. omega (arith, s.below k d l); rising = s.rising; some = s.some })
+  more-are n types [] e s = grind (arith, append-nil)
   more-are n types (o ∷ os) e s = record {
     below = All-push (λ r. r < suc n) types n (λ k d l. omega (arith, s.below k d l)) (omega arith);
     rising = all_pairs_push (λ a b. a < b) types n s.rising s.below;

@@ -1,35 +1,21 @@
 -- Groups by the numbers of their routes.
-use Rattle.delay_table.proofs.Common.{◌≡◌, ℕ, suc, ◌<◌, ◌≤◌, ◌&&◌, true, false, List, [], ◌∷◌, ◌++◌, length, map, slice_index_or, Option, Some, None, IfSome, option_map, is_some, refl, sym, ap}
-use Rattle.delay_table.proofs.Common.{ap₂, ◌∙◌, subst, arith, below_more, inl, inr, position, eqb-true, eq-eqb, list_any, cases_order, and_from, and_parts, false_from_ne_true, same_Some}
-use Rattle.delay_table.proofs.Common.{get_or_default, get_or_append_left, get_or_push, get_or-map, length-map, length_push, map-append, Any-from_list_any, list_any_at, position-Some, AreDistinct}
-use Rattle.delay_table.proofs.Common.{number_in, number-here, NumberedGroup, Group, same_if, same_number, of_class, group_in, group_index, numbered_route, routes_of, with_route, no_group}
-use Rattle.delay_table.proofs.Common.{named_group, same_numbered, AreNumbers, IsNumber, IsNumbering}
+use Rattle.delay_table.proofs.Common.{◌≡◌, ℕ, suc, ◌<◌, ◌≤◌, true, false, List, [], ◌∷◌, ◌++◌, length, map, slice_index_or, Option, Some, None, IfSome, option_map, is_some, refl, sym, ap, ap₂, ◌∙◌}
+use Rattle.delay_table.proofs.Common.{subst, arith, below_more, position, eqb-true, eq-eqb, list_any, cases_order, and_from, and_parts, false_from_ne_true, same_Some, get_or_default}
+use Rattle.delay_table.proofs.Common.{get_or_append_left, get_or_push, get_or-map, length-map, length_push, map-append, Any-from_list_any, list_any_at, position-Some, AreDistinct, number_in}
+use Rattle.delay_table.proofs.Common.{number-here, NumberedGroup, Group, of_class, group_in, group_index, numbered_route, routes_of, with_route, no_group, named_group, same_numbered, AreNumbers}
+use Rattle.delay_table.proofs.Common.{IsNumber, IsNumbering}
 use Rattle.delay_table.proofs.RouteFacts.{routes-distinct, routes-next, with_route-cases, with_route-distinct}
 use Rattle.delay_table.proofs.GroupFacts.{none-index, nowhere, index-first, same_if-equal, same_if-self}
 
 pub numbered-equal : (a b : NumberedGroup) → same_numbered a b ≡ true → a ≡ b
-numbered-equal a b h =
-    let p = and_parts (same_if same_number a.class b.class) (same_if same_number a.route b.route && same_if same_number a.hour b.hour) h in
-    let q = and_parts (same_if same_number a.route b.route) (same_if same_number a.hour b.hour) p.1 in
-    let class = same_if-equal same_number eqb-true a.class b.class p.0 in
-    let route = same_if-equal same_number eqb-true a.route b.route q.0 in
-    let hour = same_if-equal same_number eqb-true a.hour b.hour q.1 in
-    λ i. record { class = class i; route = route i; hour = hour i }
+numbered-equal a b h = grind (arith, and_parts, same_if-equal, eqb-true)
 
 pub numbered-true : (a b : NumberedGroup) → a ≡ b → same_numbered a b ≡ true
-numbered-true a b e =
-    let self : (o : Option ℕ) → same_if same_number o o ≡ true = same_if-self same_number (λ n. eq-eqb n n refl) in
-    let here : same_numbered a a ≡ true = and_from (same_if same_number a.class a.class) (same_if same_number a.route a.route && same_if same_number a.hour a.hour) (self a.class)
-    (and_from (same_if same_number a.route a.route) (same_if same_number a.hour a.hour) (self a.route) (self a.hour)) in
-    subst (λ (x : NumberedGroup). same_numbered a x ≡ true) e here
+numbered-true a b e = grind (arith, same_if-self, eq-eqb, and_from)
 
 -- a name of a list whose names differ is at one index
 pub one_index : (names : List (List ℕ)) → AreDistinct names → (m n : ℕ) → m < length names → n < length names → slice_index_or names m [] ≡ slice_index_or names n [] → m ≡ n
-one_index names distinct m n a b e = elim (cases_order m n) [
-  | inl same ↦ same
-  | inr (inl less) ↦ absurd (distinct m n less b e)
-  | inr (inr less) ↦ absurd (distinct n m less a (sym e))
-]
+one_index names distinct m n a b e = grind (arith, cases_order)
 
 one_route : (routes : List (List ℕ)) → AreDistinct routes → (a b : Option ℕ) → IfSome a (λ n. n < length routes) → IfSome b (λ n. n < length routes)
     → option_map (λ k. slice_index_or routes k []) a ≡ option_map (λ k. slice_index_or routes k []) b → a ≡ b
@@ -91,11 +77,7 @@ module _ (routes : List (List ℕ)) (keys : List NumberedGroup) (distinct : AreD
     keys-last keys' e = ap (map (named_group routes)) e ∙ map-append (named_group routes) keys (key ∷ []) ∙ ap (λ (g : Group). groups ++ g ∷ []) is
 
     pub numbers-last : (keys' : List NumberedGroup) → keys' ≡ keys ++ key ∷ [] → AreNumbers routes keys'
-    numbers-last keys' e = subst (AreNumbers routes) (sym e) (λ k l.
-        let P : NumberedGroup → Type 0 = λ x. IfSome x.route (λ m. m < length routes) in
-        below_more (λ k. P (slice_index_or (keys ++ key ∷ []) k no_group)) (length keys)
-        (λ k before. subst P (sym (get_or_append_left keys (key ∷ []) no_group k before)) (numbers k before))
-        (subst P (sym (get_or_push keys key no_group (length keys) refl)) number) k (omega (arith, l, length_push keys key)))
+    numbers-last keys' e = grind (arith, below_more, get_or_append_left, get_or_push, length_push)
 
 -- the groups stay when a route is added
 same_route : (routes : List (List ℕ)) (id : List ℕ) (a : Option ℕ) → IfSome a (λ n. n < length routes)
@@ -120,11 +102,7 @@ record StaysSo (keys : List NumberedGroup) (groups : List Group) (routes : List 
 
 stays : (routes : List (List ℕ)) (keys : List NumberedGroup) (groups : List Group) → IsNumbering routes keys groups → (route : Option (List ℕ)) → StaysSo keys groups (with_route routes route)
 stays routes keys groups h None = record { numbers = h.numbers; are = h.are }
-stays routes keys groups h (Some id) =
-    with_route-cases (StaysSo keys groups) routes id (λ c. record { numbers = h.numbers; are = h.are }) (λ n. record {
-      numbers = λ k l. wider (slice_index_or keys k no_group).route (length routes) (length (routes ++ id ∷ [])) (omega (arith, length_push routes id)) (h.numbers k l);
-      are = same_names routes id keys h.numbers ∙ h.are;
-    })
+stays routes keys groups h (Some id) = grind (arith, with_route-cases, wider, length_push, same_names)
 
 -- where a group is, by the number of its route
 pub index-is : (routes : List (List ℕ)) (keys : List NumberedGroup) (distinct : AreDistinct routes) (numbers : AreNumbers routes keys) (all : List Group)

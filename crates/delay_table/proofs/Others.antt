@@ -13,26 +13,17 @@ unfolding others
 others-next groups n = ap (others groups) (add-one n)
 
 pub others-plain : (groups : List Group) (n : ℕ) → is_plain (group_in groups n) ≡ true → others groups (n + 1) ≡ others groups n
-others-plain groups n h =
-    others-next groups n ∙ ap (λ b. others groups n ++ (if b then [] else group_in groups n ∷ [])) h ∙ append-nil (others groups n)
+others-plain groups n h = grind (arith, others-next, append-nil)
 
 pub others-other : (groups : List Group) (n : ℕ) → is_plain (group_in groups n) ≡ false → others groups (n + 1) ≡ others groups n ++ group_in groups n ∷ []
 others-other groups n h = others-next groups n ∙ ap (λ b. others groups n ++ (if b then [] else group_in groups n ∷ [])) h
-
--- a list that goes on
-pub goes-on : {A : Type 0} (init before more all old new : List A) → old ≡ init ++ before → new ≡ old ++ more → all ≡ before ++ more → new ≡ init ++ all
-goes-on init before more all old new e f g =
-    f ∙ ap (λ xs. xs ++ more) e ∙ append_assoc init before more ∙ ap (λ xs. init ++ xs) (sym g)
 
 mapped-if : (rows : Group → List Outcome) (b : Bool) (g : Group) → map rows (if b then [] else g ∷ []) ≡ (if b then [] else rows g ∷ [])
 mapped-if rows b g = grind (arith, cases_Bool b)
 
 pub other-rows-next : (rows : Group → List Outcome) (groups : List Group) (n : ℕ) (init old new : List (List Outcome)) → old ≡ init ++ map rows (others groups n)
     → new ≡ old ++ if_other (group_in groups n) (rows (group_in groups n)) → new ≡ init ++ map rows (others groups (n + 1))
-other-rows-next rows groups n init old new f g =
-    let x = group_in groups n in
-    goes-on init (map rows (others groups n)) (if_other x (rows x)) (map rows (others groups (n + 1))) old new f g
-    (ap (map rows) (others-next groups n) ∙ map-append rows (others groups n) (if_other x x) ∙ ap (λ xs. map rows (others groups n) ++ xs) (mapped-if rows (is_plain x) x))
+other-rows-next rows groups n init old new f g = grind (arith, append_assoc, others-next, map-append, mapped-if)
 
 -- each of the others is one of the groups
 pub record IsFrom (groups : List Group) (n : ℕ) (x : Group) : Type 0 where

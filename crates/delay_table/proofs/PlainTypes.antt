@@ -1,9 +1,9 @@
 -- The route types of the groups of a route type alone, in the order of the groups: sorted, they are those that are named.
-use Rattle.delay_table.proofs.Common.{◌≡◌, ◌≢◌, ℕ, zero, suc, ◌+◌, ◌<◌, ◌≤◌, Bool, ◌&&◌, eqb, List, [], ◌∷◌, ◌++◌, length, get_or, Option, Some, None, if◌then◌else◌, refl, sym, ap, ◌∙◌, subst}
-use Rattle.delay_table.proofs.Common.{arith, ⊎_elim, All, AllPairs, Contains, length-append, append-nil, add-one, nat_cmp, is_none, IsPermutation, IsSorted, cases_Bool, IsDistinct, cases_lt}
-use Rattle.delay_table.proofs.Common.{Decides-eqb, nat_tests, same_Some, All-push, Contains-append_left, Contains-push, all_pairs_push, All-permutation, Contains-permutation}
-use Rattle.delay_table.proofs.Common.{IsNonDecreasingBy-from_sort, Outcome, GroupRows, end_of_types, Group, group_in, is_plain, listed, of_class, group_index, plain_type, plain_types, if_other}
-use Rattle.delay_table.proofs.Common.{route_types_below, others, type_rows, AreApart, AreGroupsRead, outcomes_at, read_outcomes}
+use Rattle.delay_table.proofs.Common.{◌≡◌, ◌≢◌, ℕ, zero, suc, ◌+◌, ◌<◌, ◌≤◌, Bool, ◌&&◌, eqb, List, [], ◌∷◌, ◌++◌, length, get_or, Option, Some, None, if◌then◌else◌, refl, sym, ap, ◌∙◌, subst, arith}
+use Rattle.delay_table.proofs.Common.{⊎_elim, All, AllPairs, Contains, length-append, append-nil, add-one, nat_cmp, is_none, IsPermutation, IsSorted, cases_Bool, IsDistinct, cases_lt, Decides-eqb}
+use Rattle.delay_table.proofs.Common.{nat_tests, same_Some, All-push, Contains-append_left, Contains-push, all_pairs_push, All-permutation, Contains-permutation, IsNonDecreasingBy-from_sort, Outcome}
+use Rattle.delay_table.proofs.Common.{GroupRows, end_of_types, Group, group_in, is_plain, listed, of_class, group_index, plain_type, plain_types, if_other, route_types_below, others, type_rows}
+use Rattle.delay_table.proofs.Common.{AreApart, AreGroupsRead, outcomes_at, read_outcomes}
 use Rattle.std.proofs.lemmas.List.Kept.{AllPairs-from_increasing}
 use Rattle.std.proofs.lemmas.Map.Keys.{IsDistinct-IsPermutation, IsStrictlyIncreasing-from_distinct}
 use Rattle.std.proofs.lemmas.Map.Made.{IsDistinct-from_AllPairs}
@@ -102,9 +102,7 @@ module _ (groups : List Group) (apart : AreApart groups) where
 
   both-suc : (n : ℕ) → both (suc n) ≡ both n + (length (listed (plain_type (group_in groups n))) + length (if_other (group_in groups n) (group_in groups n)))
   unfolding plain_types others
-  both-suc n =
-      let g = group_in groups n in
-      omega (arith, length-append (plain_types groups n) (listed (plain_type g)), length-append (others groups n) (if_other g g))
+  both-suc n = grind (arith, length-append)
 
   both-zero : both 0 ≡ 0
   unfolding plain_types others
@@ -170,6 +168,4 @@ module _ (groups : List Group) (rows : List GroupRows) (is : AreGroupsRead group
 -- `*`, the route types that are named and the other groups are all of them
 pub groups-are : (groups : List Group) (rows : List GroupRows) → AreGroupsRead groups rows → length (route_types_below (read_outcomes groups rows) end_of_types) ≡ length (plain_types groups (length groups))
     → 0 < length (read_outcomes groups rows (of_class None)) → length (route_types_below (read_outcomes groups rows) end_of_types) + 1 + length (others groups (length groups)) ≡ length groups
-groups-are groups rows is size some =
-    let w = is-there groups rows (of_class None) some in
-    omega (arith, size, with_default groups is.apart w.0 w.2 (length groups) w.1 (omega arith))
+groups-are groups rows is size some = grind (arith, is-there, with_default)

@@ -1,9 +1,8 @@
 -- The groups of the rows that are read, one row more at a time.
-use Rattle.delay_table.proofs.Common.{◌≡◌, ℕ, ◌+◌, ◌<◌, false, List, [], ◌∷◌, ◌++◌, length, slice_index, Option, Some, None, IfSome, Result, Ok, Err, if◌then◌else◌, refl, sym, ap, ap₂, ◌∙◌, subst}
-use Rattle.delay_table.proofs.Common.{arith, ⊎_elim, add-one, append-nil, below_more, OnOk, cases_eq, get_or_append_left, get_or_push, get_or-map, length-map, length_push, map-append, Outcome}
-use Rattle.delay_table.proofs.Common.{GroupRows, DelayFault, BadField, Group, same_group, of_class, group_in, group_index, Line, of_group, group_outcomes, fault_of, fault_after, line_fault}
-use Rattle.delay_table.proofs.Common.{begins, if_begins, firsts, group_of, groups_at, no_rows, group_rows_at, outcomes_at, read_outcomes, AreApart, IsPushed, AddsRow, IsReadTo, field, RouteId}
-use Rattle.delay_table.proofs.Common.{end_of_types}
+use Rattle.delay_table.proofs.Common.{◌≡◌, ℕ, ◌+◌, ◌<◌, List, [], ◌∷◌, ◌++◌, length, slice_index, Option, Some, None, IfSome, Result, Ok, Err, if◌then◌else◌, refl, sym, ap, ◌∙◌, subst, arith, ⊎_elim}
+use Rattle.delay_table.proofs.Common.{add-one, append-nil, below_more, OnOk, cases_eq, get_or_append_left, get_or_push, get_or-map, length-map, length_push, map-append, Outcome, GroupRows}
+use Rattle.delay_table.proofs.Common.{DelayFault, BadField, Group, same_group, of_class, group_in, group_index, Line, of_group, group_outcomes, fault_of, fault_after, line_fault, begins, if_begins}
+use Rattle.delay_table.proofs.Common.{firsts, group_of, groups_at, group_rows_at, outcomes_at, read_outcomes, AreApart, IsPushed, AddsRow, IsReadTo, field, RouteId, end_of_types}
 use Rattle.delay_table.specs.Delays.{line_at}
 use Rattle.delay_table.proofs.LineFacts.{IsFormed, formed_at}
 use Rattle.delay_table.proofs.GroupFacts.{same-true, same-false, group-here, nowhere, apart-ne, index-at, push-none}
@@ -72,17 +71,7 @@ first-none (Err e) line number = tt
 
 -- before the first row
 pub read-nothing : (t : List (List (List ℕ))) (groups : List Group) (rows : List GroupRows) → groups ≡ [] → rows ≡ [] → IsReadTo t 0 groups rows
-read-nothing t groups rows e f =
-    let none : length groups ≡ 0 = ap length e in
-    record {
-      are = e ∙ sym (ap (groups_at t) (firsts-zero t) ∙ groups-nil t);
-      size = ap length f ∙ sym none;
-      apart = λ i j less l. absurd (omega arith);
-      lines = λ k l. absurd (omega arith);
-      each = λ k l. absurd (omega arith);
-      some = λ k l. absurd (omega arith);
-      absent = λ group h. outcomes-zero t group;
-    }
+read-nothing t groups rows e f = grind (arith, firsts-zero, groups-nil, outcomes-zero)
 
 module _ (t : List (List (List ℕ))) (i : ℕ) (line : Line) (here : Some line ≡ line_at t i) where
   -- the outcomes of a group after this row
@@ -96,19 +85,10 @@ module _ (t : List (List (List ℕ))) (i : ℕ) (line : Line) (here : Some line 
   next-own group e = next group ∙ ap (λ b. group_outcomes t i group ++ (if b then line.outcome ∷ [] else [])) (same-true line.group group e)
 
   next-other : (group : Group) → (line.group ≡ group → ⊥) → group_outcomes t (i + 1) group ≡ group_outcomes t i group
-  next-other group h =
-      next group ∙ ap (λ b. group_outcomes t i group ++ (if b then line.outcome ∷ [] else [])) (same-false line.group group h)
-      ∙ append-nil (group_outcomes t i group)
+  next-other group h = grind (arith, next, same-false, append-nil)
 
   firsts-same : 0 < length (group_outcomes t i line.group) → firsts t (i + 1) ≡ firsts t i
-  firsts-same some =
-      firsts-next t i ∙ ap (λ o. firsts t i ++ begins (group_outcomes t i) o i) (sym here)
-      ∙ ap (λ xs. firsts t i ++ xs) (begins-some (group_outcomes t i line.group) i some) ∙ append-nil (firsts t i)
-
-  firsts-more : group_outcomes t i line.group ≡ [] → firsts t (i + 1) ≡ firsts t i ++ i ∷ []
-  firsts-more none =
-      firsts-next t i ∙ ap (λ o. firsts t i ++ begins (group_outcomes t i) o i) (sym here)
-      ∙ ap (λ (r : List Outcome). firsts t i ++ if_begins r i) none
+  firsts-same some = grind (arith, firsts-next, begins-some, append-nil)
 
   module _ (groups : List Group) (rows new : List GroupRows) (r : IsReadTo t i groups rows) where
     -- a row of a group that is there
@@ -138,48 +118,7 @@ module _ (t : List (List (List ℕ))) (i : ℕ) (line : Line) (here : Some line 
     -- the first row of a group
     fresh_next : (more : List Group) → group_index line.group groups ≡ None → more ≡ groups ++ line.group ∷ []
         → new ≡ rows ++ (record { line = i + 2; outcomes = line.outcome ∷ [] }) ∷ [] → IsReadTo t (i + 1) more new
-    fresh_next more e g f =
-        let n = length groups in
-        let x : GroupRows = record { line = i + 2; outcomes = line.outcome ∷ [] } in
-        let none : group_outcomes t i line.group ≡ [] = r.absent line.group e in
-        let first : firsts t (i + 1) ≡ firsts t i ++ i ∷ [] = firsts-more none in
-        let count : length (firsts t i) ≡ n = sym (ap length r.are ∙ length-groups t (firsts t i)) in
-        let size : length (groups ++ line.group ∷ []) ≡ n + 1 = length_push groups line.group in
-        let old_group : (j : ℕ) → j < n → group_in (groups ++ line.group ∷ []) j ≡ group_in groups j = λ j l. get_or_append_left groups (line.group ∷ []) (of_class None) j l in
-        let new_group : group_in (groups ++ line.group ∷ []) n ≡ line.group = get_or_push groups line.group (of_class None) n refl in
-        let old_rows : (j : ℕ) → j < n → group_rows_at (rows ++ x ∷ []) j ≡ group_rows_at rows j = λ j l. get_or_append_left rows (x ∷ []) no_rows j (omega (arith, r.size)) in
-        let new_rows : group_rows_at (rows ++ x ∷ []) n ≡ x = get_or_push rows x no_rows n r.size in
-        let old_first : (j : ℕ) → j < n → slice_index (firsts t (i + 1)) j ≡ slice_index (firsts t i) j =
-        λ j l. ap (λ xs. slice_index xs j) first ∙ get_or_append_left (firsts t i) (i ∷ []) 0 j (omega (arith, count)) in
-        let new_first : slice_index (firsts t (i + 1)) n ≡ i = ap (λ xs. slice_index xs n) first ∙ get_or_push (firsts t i) i 0 n count in
-        let ne : (j : ℕ) → j < n → line.group ≡ group_in groups j → ⊥ = λ j l z. nowhere line.group groups e j l (sym z) in
-        let goal : IsReadTo t (i + 1) (groups ++ line.group ∷ []) (rows ++ x ∷ []) = record {
-          are = ap (λ gs. gs ++ line.group ∷ []) r.are ∙ ap (λ o. groups_at t (firsts t i) ++ group_of o ∷ []) here
-              ∙ sym (groups-push t (firsts t i) i) ∙ ap (groups_at t) (sym first);
-          size = length_push rows x ∙ ap (λ m. m + 1) r.size ∙ sym size;
-          apart = λ a b less l.
-              below_more (λ b. a < b → same_group (group_in (groups ++ line.group ∷ []) a) (group_in (groups ++ line.group ∷ []) b) ≡ false) n
-              (λ b before less. ap₂ same_group (old_group a (omega arith)) (old_group b before) ∙ r.apart a b less before)
-              (λ less. ap₂ same_group (old_group a less) new_group ∙ same-false (group_in groups a) line.group (nowhere line.group groups e a less))
-              b (omega (arith, size)) less;
-          lines = λ j l.
-              below_more (λ m. (group_rows_at (rows ++ x ∷ []) m).line ≡ slice_index (firsts t (i + 1)) m + 2) n
-              (λ j before. ap (λ (y : GroupRows). y.line) (old_rows j before) ∙ r.lines j before ∙ ap (λ m. m + 2) (sym (old_first j before)))
-              (ap (λ (y : GroupRows). y.line) new_rows ∙ ap (λ m. m + 2) (sym new_first)) j (omega (arith, size));
-          each = λ j l.
-              below_more (λ m. (group_rows_at (rows ++ x ∷ []) m).outcomes ≡ group_outcomes t (i + 1) (group_in (groups ++ line.group ∷ []) m)) n
-              (λ j before. ap (λ (y : GroupRows). y.outcomes) (old_rows j before) ∙ r.each j before
-              ∙ sym (next-other (group_in groups j) (ne j before)) ∙ ap (group_outcomes t (i + 1)) (sym (old_group j before)))
-              (ap (λ (y : GroupRows). y.outcomes) new_rows ∙ ap (λ xs. xs ++ line.outcome ∷ []) (sym none)
-              ∙ sym (next-own line.group refl) ∙ ap (group_outcomes t (i + 1)) (sym new_group)) j (omega (arith, size));
-          some = λ j l.
-              below_more (λ m. 0 < length (group_rows_at (rows ++ x ∷ []) m).outcomes) n
-              (λ j before. subst (λ (y : GroupRows). 0 < length y.outcomes) (sym (old_rows j before)) (r.some j before))
-              (subst (λ (y : GroupRows). 0 < length y.outcomes) (sym new_rows) (omega arith)) j (omega (arith, size));
-          absent = λ group h.
-              let w = push-none group groups line.group h in next-other group w.1 ∙ r.absent group w.0;
-        } in
-        subst (λ (gs : List Group). IsReadTo t (i + 1) gs new) (sym g) (subst (IsReadTo t (i + 1) (groups ++ line.group ∷ [])) (sym f) goal)
+    fresh_next more e g f = grind (arith, firsts-next, length-groups, length_push, get_or_append_left, get_or_push, nowhere, groups-push, below_more, same-false, next-other, next-own, push-none)
 
     by_index : (more : List Group) (o : Option ℕ) → group_index line.group groups ≡ o → AddsRow groups rows line (i + 2) more new → IsReadTo t (i + 1) more new
     by_index more None e a = let w = a.fresh e in fresh_next more e w.0 w.1
@@ -193,8 +132,7 @@ module _ (t : List (List (List ℕ))) (i : ℕ) (line : Line) (here : Some line 
 pub fault_here : (t : List (List (List ℕ))) (i : ℕ) (r : List Outcome) (line : Line) (number : ℕ) (o : Option DelayFault)
     → Some line ≡ line_at t i → r ≡ group_outcomes t i line.group → number ≡ i + 2 → fault_after r line number ≡ o → line_fault t i ≡ o
 unfolding line_fault
-fault_here t i r line number o e same n h =
-    sym (λ j. fault_of (group_outcomes t i) (e j) (n j)) ∙ ap (λ x. fault_after x line number) (sym same) ∙ h
+fault_here t i r line number o e same n h = grind arith
 
 pub bad_here : (t : List (List (List ℕ))) (i : ℕ) (number : ℕ) → None ≡ line_at t i → number ≡ i + 2 → line_fault t i ≡ Some (BadField number)
 unfolding line_fault

@@ -1,9 +1,7 @@
 -- The routes that groups name.
-use Rattle.delay_table.proofs.Common.{◌≡◌, ℕ, zero, suc, ◌+◌, ◌<◌, Bool, true, false, List, [], ◌∷◌, ◌++◌, length, Option, Some, None, IfSome, IfNone, slice_get, is_some, option_map}
-use Rattle.delay_table.proofs.Common.{if◌then◌else◌, Contains, sym, ap, ◌∙◌, subst, arith, fold, option_or, get_or_default, Contains-push, Contains-append_left, Adds, AreDistinct, number_in, got}
-use Rattle.delay_table.proofs.Common.{number-contained, number-here, DelayLists, class_at, class_for, hour_class, hour_of, route_class, type_class, Group, group_in, group_index, numbered_route}
-use Rattle.delay_table.proofs.Common.{routes_of, with_route}
-use Rattle.std.specs.Prelude.{unwrap_or}
+use Rattle.delay_table.proofs.Common.{◌≡◌, ℕ, zero, suc, ◌<◌, Bool, true, false, List, [], ◌∷◌, ◌++◌, length, Option, Some, None, IfSome, IfNone, slice_get, is_some, if◌then◌else◌, Contains, sym, ap}
+use Rattle.delay_table.proofs.Common.{◌∙◌, subst, arith, fold, get_or_default, Contains-push, Contains-append_left, Adds, AreDistinct, number_in, got, number-contained, number-here, DelayLists}
+use Rattle.delay_table.proofs.Common.{class_at, class_for, hour_of, Group, group_in, group_index, numbered_route, routes_of, with_route}
 use Rattle.std.proofs.lemmas.List.Sums.{fold-append}
 use Rattle.plan_model.proofs.Texts.{AreDistinct-push}
 use Rattle.delay_table.proofs.GroupFacts.{none-index}
@@ -77,12 +75,7 @@ unnamed-index groups id absent class hour =
 -- so a connection of such a route has the class of one without a route
 pub unnamed-class : (d : DelayLists) (id : List ℕ) → (Contains (routes_of d.others) id → ⊥) → (class : Option ℕ) (arr : ℕ) → class_for d class (Some id) arr ≡ class_for d class None arr
 unfolding class_for
-unnamed-class d id absent class arr =
-    let n = length d.types + 1 in
-    let none : (hour : Option ℕ) → route_class d (Some id) hour ≡ None = λ hour. ap (option_map (λ k. n + k)) (unnamed-index d.others id absent None hour) in
-    let rest = option_or (hour_class d class (hour_of arr)) (option_or (type_class d class) (hour_class d None (hour_of arr))) in
-    ap (λ o. unwrap_or (option_or o (option_or (route_class d (Some id) None) rest)) 0) (none (Some (hour_of arr)))
-    ∙ ap (λ o. unwrap_or (option_or o rest) 0) (none None)
+unnamed-class d id absent class arr = grind (arith, unnamed-index)
 
 pub unnumbered-class : (d : DelayLists) (number : Option ℕ) (class : Option ℕ) (arr found : ℕ) → found ≡ class_for d class (numbered_route (routes_of d.others) number) arr
     → IfNone number ((id : List ℕ) → (Contains (routes_of d.others) id → ⊥) → found ≡ class_for d class (Some id) arr)

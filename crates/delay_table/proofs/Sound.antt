@@ -1,18 +1,16 @@
 -- The classes of a table without a fault are valid.
-use Rattle.delay_table.proofs.Common.{◌≡◌, ℕ, ◌+◌, ◌<◌, ◌≤◌, ◌==◌, nat_lt, Bool, true, false, List, [], ◌∷◌, ◌++◌, length, map, get_or, sum_by, Option, Some, None, IfSome, option_map}
-use Rattle.delay_table.proofs.Common.{if◌then◌else◌, refl, sym, ap, ◌∙◌, subst, arith, All, length-append, eqb-true, ltb-false, cases_Bool, get_or_default, length-map, All-cons, All-append}
-use Rattle.delay_table.proofs.Common.{All-map, option_or, Outcome, IsValidRow, first_below, none-both, none-each, DelayFault, TooManyClasses, WeightSum, GroupSum, GroupRows, DelayLists}
-use Rattle.delay_table.proofs.Common.{end_of_types, most_groups, whole_weight, Group, group_in, is_plain, of_class, plain_types, class_name, class_rows, class_sum, delays_in, group_sum}
-use Rattle.delay_table.proofs.Common.{group_sum_at, groups_fault, groups_of, route_types_below, no_default_of, other_sum, others, too_many_classes, type_rows, type_sum_at, AreGroupsRead, line_at}
-use Rattle.delay_table.proofs.Common.{read_outcomes, AreDelays, IsGroupStart, row_count, first-same, delays_of, first_delay_fault, first_line, firsts, groups_at, line_fault, missing_column}
-use Rattle.delay_table.proofs.Common.{group_outcomes, IsReadTo}
+use Rattle.delay_table.proofs.Common.{◌≡◌, ℕ, ◌+◌, ◌<◌, ◌≤◌, ◌==◌, nat_lt, Bool, true, false, List, [], ◌∷◌, ◌++◌, length, map, get_or, sum_by, Option, Some, None, IfSome, option_map, if◌then◌else◌}
+use Rattle.delay_table.proofs.Common.{refl, sym, ap, ◌∙◌, subst, arith, All, length-append, eqb-true, ltb-false, cases_Bool, get_or_default, length-map, All-cons, All-append, All-map, option_or}
+use Rattle.delay_table.proofs.Common.{Outcome, IsValidRow, first_below, none-both, none-each, DelayFault, TooManyClasses, WeightSum, GroupSum, GroupRows, DelayLists, end_of_types, most_groups}
+use Rattle.delay_table.proofs.Common.{whole_weight, Group, group_in, is_plain, of_class, plain_types, class_name, class_rows, class_sum, delays_in, group_sum, group_sum_at, groups_fault, groups_of}
+use Rattle.delay_table.proofs.Common.{route_types_below, no_default_of, other_sum, others, too_many_classes, type_rows, type_sum_at, AreGroupsRead, line_at, read_outcomes, AreDelays, IsGroupStart}
+use Rattle.delay_table.proofs.Common.{row_count, first-same, delays_of, first_delay_fault, first_line, firsts, groups_at, line_fault, missing_column, group_outcomes, IsReadTo}
 use mathlib.Core.Path.{fun_ext}
-use Rattle.delay_table.proofs.ReadFacts.{rows-are, rows-here}
+use Rattle.delay_table.proofs.ReadFacts.{rows-are, rows-here, types-bounded}
 use Rattle.delay_table.proofs.Starts.{starts}
 use Rattle.delay_table.proofs.Others.{others-from}
 use Rattle.delay_table.proofs.NamedTypes.{route_types_below-are}
 use Rattle.delay_table.proofs.PlainTypes.{groups-are}
-use Rattle.delay_table.proofs.ReadFacts.{types-bounded}
 
 none_mapped : (f : ℕ → DelayFault) (o : Option ℕ) → option_map f o ≡ None → o ≡ None
 none_mapped f None h = refl
@@ -58,12 +56,7 @@ module _ (groups : List Group) (read : List GroupRows) (is : AreGroupsRead group
   default_fault = no_default_of (class_rows own None)
 
   parts : (too_many_classes (length groups) ≡ None) × (class_sum own None ≡ None) × (types_fault ≡ None) × (others_fault ≡ None) × (default_fault ≡ None)
-  parts =
-      let a = none-both (too_many_classes (length groups)) (option_or (class_sum own None) (option_or types_fault (option_or others_fault default_fault))) sound in
-      let b = none-both (class_sum own None) (option_or types_fault (option_or others_fault default_fault)) a.1 in
-      let c = none-both types_fault (option_or others_fault default_fault) b.1 in
-      let d = none-both others_fault default_fault c.1 in
-      (a.0, b.0, c.0, d.0, d.1)
+  parts = grind (arith, none-both, own, types_fault, others_fault, default_fault)
 
   type_right : (k : ℕ) → k < length types → other_sum (type_rows own (get_or types k 0)) ≡ None
   type_right k l = none_mapped (WeightSum (class_name (Some (get_or types k 0)))) (other_sum (type_rows own (get_or types k 0))) (none-each (type_sum_at own types) (length types) parts.2 k l)
@@ -101,10 +94,7 @@ module _ (groups : List Group) (read : List GroupRows) (is : AreGroupsRead group
   counted = groups-are groups read is size default_there
 
   class-count : length (class_rows own None ∷ map (type_rows own) types ++ map own (others groups (length groups))) ≡ length types + 1 + length (others groups (length groups))
-  class-count =
-      let more = map (type_rows own) types in
-      let last = map own (others groups (length groups)) in
-      omega (arith, length-append more last, length-map types (type_rows own), length-map (others groups (length groups)) own)
+  class-count = grind (arith, own, types, length-append, length-map)
 
   pub delays_valid : AreDelays (delays_in own groups)
   unfolding delays_in
@@ -164,8 +154,7 @@ groups-of t = refl
 
 pub delays-same : (t : List (List (List ℕ))) (groups : List Group) (rows : List GroupRows) → IsReadTo t (row_count t) groups rows → delays_in (read_outcomes groups rows) groups ≡ delays_of t
 unfolding delays_of
-delays-same t groups rows r =
-    ap (λ rs. delays_in rs groups) (fun_ext (rows-are t (row_count t) groups rows r)) ∙ ap (delays_in (group_outcomes t (row_count t))) (r.are ∙ groups-of t)
+delays-same t groups rows r = grind (arith, fun_ext, rows-are, groups-of)
 
 abbrev last_fault : List (List (List ℕ)) → Option DelayFault
 last_fault t = groups_fault (group_outcomes t (row_count t)) (groups_of t) (first_line t (row_count t))
@@ -176,16 +165,13 @@ column-first t e h = ap (λ o. option_or o (option_or (first_below (line_fault t
 
 pub line-first : (t : List (List (List ℕ))) (e : DelayFault) → None ≡ missing_column t → first_below (line_fault t) (row_count t) ≡ Some e → first_delay_fault t ≡ Some e
 unfolding first_delay_fault
-line-first t e h k =
-    ap (λ o. option_or o (option_or (first_below (line_fault t) (row_count t)) (last_fault t))) (sym h) ∙ ap (λ o. option_or o (last_fault t)) k
+line-first t e h k = grind (arith, last_fault)
 
 pub fault-same : (t : List (List (List ℕ))) (groups : List Group) (rows : List GroupRows) → None ≡ missing_column t
     → first_below (line_fault t) (row_count t) ≡ None → IsReadTo t (row_count t) groups rows
     → groups_fault (read_outcomes groups rows) groups (line_at rows) ≡ first_delay_fault t
 unfolding first_delay_fault
-fault-same t groups rows h k r =
-    sym (ap (λ o. option_or o (option_or (first_below (line_fault t) (row_count t)) (last_fault t))) (sym h) ∙ ap (λ o. option_or o (last_fault t)) k
-    ∙ ap (λ gs. groups_fault (group_outcomes t (row_count t)) gs (first_line t (row_count t))) (sym (groups-of t)) ∙ sym (groups-same t (row_count t) groups rows r))
+fault-same t groups rows h k r = grind (arith, last_fault, groups-of, groups-same)
 
 -- there are as many groups as are read
 pub groups-count : (t : List (List (List ℕ))) (groups : List Group) (rows : List GroupRows) → IsReadTo t (row_count t) groups rows → length groups ≡ length (groups_of t)

@@ -1,8 +1,8 @@
 -- The outcomes of one group, one more at a time.
-use Rattle.delay_table.proofs.Common.{cases_Bool, ◌≡◌, ◌+◌, ◌-◌, ◌<◌, ◌≤◌, Bool, true, false, nat_le, List, [], ◌∷◌, ◌++◌, length, slice_get, slice_index_or, Option, Some, None, if◌then◌else◌}
-use Rattle.delay_table.proofs.Common.{refl, sym, subst, arith, ⊎_elim, length-append, append-nil, zero, suc, ℕ, IfSome, add-one, ap, ◌∙◌, cases_lt, leb-false, ltb-true, All-push, slice_get-get_or}
-use Rattle.delay_table.proofs.Common.{all_pairs_push, Outcome, seconds_per_day, DelayFault, NotRising, Group, same_group, Line, fault_after, fault_of, delay_rises, too_many, of_group}
-use Rattle.delay_table.proofs.Common.{group_outcomes, line_fault, IsGroupStart, first_below, field, RouteId, none-each}
+use Rattle.delay_table.proofs.Common.{cases_Bool, ◌≡◌, ◌+◌, ◌-◌, ◌<◌, ◌≤◌, Bool, true, false, nat_le, List, [], ◌∷◌, ◌++◌, length, slice_get, slice_index_or, Option, Some, None, if◌then◌else◌, refl}
+use Rattle.delay_table.proofs.Common.{sym, subst, arith, ⊎_elim, length-append, append-nil, zero, suc, ℕ, IfSome, add-one, ap, ◌∙◌, cases_lt, leb-false, ltb-true, All-push, slice_get-get_or}
+use Rattle.delay_table.proofs.Common.{all_pairs_push, Outcome, seconds_per_day, DelayFault, NotRising, Group, same_group, Line, fault_after, fault_of, delay_rises, too_many, of_group, group_outcomes}
+use Rattle.delay_table.proofs.Common.{line_fault, IsGroupStart, first_below, field, RouteId, none-each}
 use Rattle.delay_table.specs.Delays.{line_at}
 use Rattle.delay_table.proofs.GroupFacts.{same-equal}
 use Rattle.delay_table.proofs.LineFacts.{IsFormed, formed_at}
@@ -13,10 +13,7 @@ none_cases a b x y h = grind (arith, cases_Bool a, cases_Bool b)
 
 -- the last delay is below one that delay_rises
 rises_last : (r : List Outcome) (delay : ℕ) (d : Outcome) → delay_rises (slice_get r (length r - 1)) delay ≡ true → 0 < length r → (slice_index_or r (length r - 1) d).delay < delay
-rises_last r delay d h some =
-    let e = slice_get-get_or r (length r - 1) d (omega arith) in
-    let P : Option Outcome → Type 0 = λ o. delay_rises o delay ≡ true in
-    ltb-true (slice_index_or r (length r - 1) d).delay delay (subst P e h)
+rises_last r delay d h some = grind (arith, slice_get-get_or, ltb-true)
 
 -- and so is each
 rises_each : (r : List Outcome) (delay : ℕ) → IsGroupStart r → delay_rises (slice_get r (length r - 1)) delay ≡ true → (k : ℕ) (d : Outcome) → k < length r → (slice_index_or r k d).delay < delay

@@ -1,19 +1,14 @@
 -- The index of a route type among those that are named, and the greatest delay of a class.
-use Rattle.delay_table.proofs.Common.{◌≡◌, slice_get, ℕ, zero, suc, ◌+◌, ◌-◌, ◌<◌, ◌≤◌, ◌==◌, List, length, get_or, slice_index, slice_index_or, Option, Some, None, option_map, sym, ap, ◌∙◌}
-use Rattle.delay_table.proofs.Common.{subst, arith, ⊎_elim, eq-or-lt_of_le, Contains, All, eq-eqb, ne_eqb, unwrap_or, cases_lt, get_or_default, slice_get_within, get_or_from_slice_get, Outcome}
-use Rattle.delay_table.proofs.Common.{IsValidRow, absent_by, found_by, DelayLists, class_at, hour_class, route_class, type_class, type_index, option_or, AreDelays, IsClassOf}
+use Rattle.delay_table.proofs.Common.{◌≡◌, slice_get, ℕ, zero, suc, ◌+◌, ◌-◌, ◌<◌, ◌≤◌, ◌==◌, List, length, get_or, slice_index, slice_index_or, Option, Some, None, option_map, sym, ap, ◌∙◌, subst}
+use Rattle.delay_table.proofs.Common.{arith, ⊎_elim, eq-or-lt_of_le, Contains, All, eq-eqb, ne_eqb, unwrap_or, cases_lt, get_or_default, slice_get_within, get_or_from_slice_get, Outcome, IsValidRow}
+use Rattle.delay_table.proofs.Common.{absent_by, found_by, DelayLists, class_at, hour_class, route_class, type_class, type_index, option_or, AreDelays, IsClassOf}
 
 -- not found among types that rise
 pub absent_type : (types : List ℕ) (r i : ℕ) → ((k : ℕ) → k < i → get_or types k 0 < r) → ((k : ℕ) → i ≤ k → k < length types → r < get_or types k 0) → Contains types r → ⊥
-absent_type types r i low high there =
-    let e = get_or_default types there.0 0 r there.1 ∙ there.2 in
-    ⊎_elim (λ (before : there.0 < i). absurd (omega (arith, e, low there.0 before)))
-    (λ (after : i ≤ there.0). absurd (omega (arith, e, high there.0 after there.1)))
-    (cases_lt there.0 i)
+absent_type types r i low high there = grind (arith, get_or_default, cases_lt)
 
 pub never_falls : (types : List ℕ) → ((i j : ℕ) → i < j → j < length types → get_or types i 0 < get_or types j 0) → (i j : ℕ) → i ≤ j → j < length types → get_or types i 0 ≤ get_or types j 0
-never_falls types h i j l inside =
-    ⊎_elim (λ (same : i ≡ j). omega (arith, ap (λ k. get_or types k 0) same)) (λ (less : i < j). omega (arith, h i j less inside)) (eq-or-lt_of_le l)
+never_falls types h i j l inside = grind (arith, eq-or-lt_of_le)
 
 -- the last delay of a row is the greatest
 pub greatest_last : (r : List Outcome) (last : Outcome) → IsValidRow r → All (λ o. o.delay ≤ (slice_index_or r (length r - 1) last).delay) r
@@ -46,11 +41,7 @@ own_index types rising route j h =
 pub class-index : (types : List ℕ) → ((i j : ℕ) → i < j → j < length types → get_or types i 0 < get_or types j 0) → (route k : ℕ)
     → IsClassOf types route k → (k ≡ 0 → type_index types route ≡ None) × ((j : ℕ) → k ≡ j + 1 → type_index types route ≡ Some j)
 class-index types rising route zero h = (λ e. no_index types route h, λ j e. absurd (omega (arith, e)))
-class-index types rising route (suc j) h = (
-  λ e. absurd (omega (arith, e)),
-  λ i e. let same : j ≡ i =
-      omega (arith, e) in subst (λ (x : ℕ). type_index types route ≡ Some x) same (own_index types rising route j h),
-)
+class-index types rising route (suc j) h = grind (arith, own_index)
 
 pub class-none : (d : DelayLists) → AreDelays d → (route k : ℕ) → IsClassOf d.types route k → k ≡ 0 → None ≡ type_class d (Some route)
 class-none d s route k h e = sym (ap (option_map (λ n. n + 1)) ((class-index d.types s.rising route k h).0 e))
