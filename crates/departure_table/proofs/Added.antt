@@ -1,6 +1,6 @@
 -- The parts of a network with a place more.
-use Rattle.departure_table.proofs.Common.{◌≡◌, ℕ, ◌+◌, ◌<◌, List, [], ◌∷◌, ◌++◌, map, length, false, slice_index_or, length-append, refl, ap, sym, ◌∙◌, arith, ◌==◌, range_with_len, nat_tests}
-use Rattle.departure_table.proofs.Common.{Connection, NetworkModel, plain_network, IsValid, AreLinksInto, links_into, links_from_added, extended, is_valid}
+use Rattle.departure_table.proofs.Common.{◌≡◌, ℕ, ◌+◌, ◌<◌, List, [], ◌∷◌, ◌++◌, map, length, slice_index_or, length-append, ap, sym, ◌∙◌, arith, range_with_len, Connection, NetworkModel}
+use Rattle.departure_table.proofs.Common.{plain_network, IsValid, AreLinksInto, links_from_added, extended, is_valid}
 use Rattle.std.proofs.lemmas.List.{get_or_past}
 use Rattle.std.proofs.lemmas.List.FromFn.{map-range_with_len_more, length-map-range_with_len}
 use Rattle.plan_model.specs.declared.model.Outcome.{Outcome}
@@ -16,10 +16,7 @@ links_more m source place old now one before is grows =
 
 -- none lead into the place that is added
 pub none_added : (m : NetworkModel) → IsValid m → (source : ℕ) → source < length m.change → [] ≡ links_from_added m source (length m.change)
-none_added m v source there =
-    let other : (length m.change == source) ≡ false = grind (arith, nat_tests) in
-    let past : links_into m (length m.change) ≡ [] = get_or_past m.links (length m.change) [] v.links.few in
-    rw (other, past) refl
+none_added m v source there = grind (arith, get_or_past)
 
 module _ (m : NetworkModel) (v : IsValid m) (source : ℕ) (there : source < length m.change) (few : length m.change + 1 < 4294967296) where
   abbrev more : NetworkModel
@@ -33,8 +30,7 @@ module _ (m : NetworkModel) (v : IsValid m) (source : ℕ) (there : source < len
 
   -- there is a list of links for each place
   pub as_many_links : (links : List (List Way)) (change : List ℕ) → links ≡ more.links → change ≡ more.change → length links ≡ length change
-  as_many_links links change a b =
-      rw (a, b) (omega (arith, length-map-range_with_len (links_from_added m source) 0 (length m.change + 1), length-append m.change (1 ∷ [])))
+  as_many_links links change a b = grind (arith, length-map-range_with_len, length-append)
 
   pub are_links : (links : List (List Way)) (change : List ℕ) → links ≡ more.links → change ≡ more.change → (r : ℕ) → r < length change → AreLinksInto (length change) r (slice_index_or links r [])
   are_links links change a b =

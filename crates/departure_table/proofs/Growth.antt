@@ -1,6 +1,6 @@
 -- A table that grows from look to look.
-use Rattle.departure_table.proofs.Common.{◌≡◌, ℕ, zero, suc, ◌+◌, ◌<◌, ◌≤◌, arith, Some, None, List, [], ◌∷◌, ◌++◌, true, false, refl, ⊎_elim, All, AllPairs, MatchOption, nat_le, cases_lt}
-use Rattle.departure_table.proofs.Common.{nat_tests, NetworkModel, Tree, DepartureRow, IsNoneSafeFrom, IsBestFrom, IsDepartureRow, IsTable, first_row_by}
+use Rattle.departure_table.proofs.Common.{◌≡◌, ℕ, zero, suc, ◌+◌, ◌<◌, ◌≤◌, arith, Some, None, List, [], ◌∷◌, ◌++◌, true, false, refl, ⊎_elim, All, AllPairs, MatchOption, nat_le, cases_lt, nat_tests}
+use Rattle.departure_table.proofs.Common.{NetworkModel, Tree, DepartureRow, IsNoneSafeFrom, IsBestFrom, IsDepartureRow, IsTable, first_row_by}
 use Rattle.std.proofs.lemmas.List.Quantifiers.{all_pairs_push}
 use Rattle.std.proofs.lemmas.List.Elements.{All-nil, All-push}
 
@@ -36,14 +36,7 @@ pub record IsTableTo (m : NetworkModel) (Safe : ℕ → Tree → Type 0) (first 
 
 module _ (m : NetworkModel) (Safe : ℕ → Tree → Type 0) (first last : ℕ) where
   pub no_rows : IsTableTo m Safe first last first []
-  no_rows = record {
-    in_order = omega arith;
-    found = λ moment from less. absurd (omega arith);
-    departures = All-nil _;
-    from_first = All-nil _;
-    rising = λ i j d less h. absurd (omega arith);
-    before = All-nil _;
-  }
+  no_rows = grind (arith, All-nil)
 
   module _ (next : ℕ) (rows : List DepartureRow) (t : IsTableTo m Safe first last next rows) where
     module _ (row : DepartureRow) (soon : next ≤ last) (ahead : next ≤ row.by.0) (departure : IsDepartureRow m row)
@@ -85,5 +78,4 @@ module _ (m : NetworkModel) (Safe : ℕ → Tree → Type 0) (first last : ℕ) 
     ends_after over = whole (λ moment from within. is_found moment from (omega arith))
 
     pub ends_with_none : ((moment : ℕ) → next ≤ moment → IsNoneSafeFrom Safe moment) → IsTable m Safe first last rows
-    ends_with_none none = whole (λ moment from within.
-        ⊎_elim (λ (old : moment < next). is_found moment from old) (λ (new : next ≤ moment). is_past moment new (none moment new)) (cases_lt moment next))
+    ends_with_none none = grind (arith, whole, is_found, is_past, cases_lt)

@@ -1,7 +1,7 @@
 -- The greatest moment, the rows of a table, and the least worst arrival.
 use Rattle.departure_table.proofs.Common.{◌≡◌, ℕ, zero, suc, ◌<◌, ◌≤◌, ◌⊎◌, List, [], ◌∷◌, length, Option, Some, None, true, false, All, IsSome, MatchOption, arith, inl, inr, refl, subst, nat_le}
-use Rattle.departure_table.proofs.Common.{slice_index_or, cases_lt, cases_order, nat_tests, Query, Moment, NetworkModel, Tree, Done, Ride, Stuck, IsLeastWorst, DepartureRow, SafeFrom}
-use Rattle.departure_table.proofs.Common.{IsNoneSafeFrom, IsBestFrom, IsDepartureRow, IsTable, IsGreatestMoment, first_row_by}
+use Rattle.departure_table.proofs.Common.{slice_index_or, cases_lt, cases_order, nat_tests, Query, Moment, NetworkModel, Tree, Done, Ride, Stuck, IsLeastWorst, DepartureRow, SafeFrom, IsNoneSafeFrom}
+use Rattle.departure_table.proofs.Common.{IsBestFrom, IsDepartureRow, IsTable, IsGreatestMoment, first_row_by}
 use Rattle.plan_model.proofs.Laws.{reaches_from_safe, safe_exists}
 use Rattle.departure_table.specs.Latest.{IsOfLastRow, AgreesWithLeastWorst}
 
@@ -36,11 +36,7 @@ first_or_none moment (r ∷ rows) = elim (cases_lt r.by.0 moment) [
 module _ (m : NetworkModel) (source : ℕ) (q : Query) where
   -- who begins with the leg of a row can set out as late as by the row
   safe_by_row : (moment : ℕ) (row : DepartureRow) → IsDepartureRow m row → IsBestFrom m (SafeFrom m source q) moment row → (tree : Tree) × SafeFrom m source q row.by.0 tree
-  safe_by_row moment row departure best =
-      let (tree, safe, begins, covers, rounded) = best.covers_one in
-      let ride : SafeFrom m source q moment (Ride row.leg.enter.0 row.leg.exit.0 begins.0) = subst (λ (t : Tree). SafeFrom m source q moment t) begins.1 safe in
-      let departs = departure.departs in
-      (Ride row.leg.enter.0 row.leg.exit.0 begins.0, (ride.0, ride.1, (ride.2.0, omega (arith, departs)), ride.3))
+  safe_by_row moment row departure best = grind arith
 
   -- who is safe from a later moment on is so from a sooner one on
   pub safe_sooner : (moment later : ℕ) (tree : Tree) → moment ≤ later → SafeFrom m source q later tree → (other : Tree) × SafeFrom m source q moment other
@@ -103,9 +99,7 @@ module _ (m : NetworkModel) (source : ℕ) (q : Query) where
   -- ---- and the least worst arrival
 
   worst_up_to : (moment : ℕ) (w : Moment) (tree : Tree) → IsLeastWorst m source q.target.0 moment (Some w) → SafeFrom m source q moment tree → w.0 ≤ q.deadline.0
-  worst_up_to moment w tree least safe =
-      let r = reaches_from_safe m source q.target.0 moment q.deadline.0 tree safe in
-      omega (arith, least.1 tree r.0, r.1)
+  worst_up_to moment w tree least safe = grind (arith, reaches_from_safe)
 
   in_time : (first : ℕ) (w : Moment) (result : Option Moment) → IsLeastWorst m source q.target.0 first (Some w) → IsGreatestMoment (SafeFrom m source q) first result → w.0 ≤ q.deadline.0 → IsSome result
   in_time first w (Some g) least greatest early = refl

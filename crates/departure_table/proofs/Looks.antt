@@ -1,7 +1,6 @@
 -- What a choice at a moment says of all from then on.
-use Rattle.departure_table.proofs.Common.{◌≡◌, ℕ, ◌-◌, ◌<◌, ◌≤◌, arith, Some, false, refl, sym, ap, ◌∙◌, subst, ◌==◌, option_map, nat_tests, Leg, Query, NetworkModel, IsValid, count, dep_of}
-use Rattle.departure_table.proofs.Common.{arr_of, Tree, Done, Ride, Stuck, Kids, IsLeg, IsBoardable, MeanSpan, DepartureRow, IsASecondAway, SafeAfter, IsNoneSafeFrom, BeginsWith, IsBestFrom}
-use Rattle.departure_table.proofs.Common.{IsDepartureRow, end_of_arrivals}
+use Rattle.departure_table.proofs.Common.{◌≡◌, ℕ, ◌-◌, ◌<◌, ◌≤◌, arith, Some, refl, sym, ap, ◌∙◌, subst, Leg, Query, NetworkModel, IsValid, count, dep_of, arr_of, Tree, Done, Ride, Stuck, Kids}
+use Rattle.departure_table.proofs.Common.{IsLeg, MeanSpan, DepartureRow, IsASecondAway, SafeAfter, IsNoneSafeFrom, BeginsWith, IsBestFrom, IsDepartureRow, end_of_arrivals}
 use Rattle.plan_model.specs.Unfold.{by_place, unfold_after, kids_after, outcomes_of}
 use Rattle.value_laws.specs.Means.{mean_scoring}
 use Rattle.meat_scan.specs.ScanResult.{ScanResult, choice_of, leg_choice, chosen_at}
@@ -14,17 +13,12 @@ module _ (n : NetworkModel) (q : Query) (found : ScanResult MeanSpan) (solves : 
   -- who may be later may be sooner
   earlier : (tree : Tree) (x y : ℕ) → x ≤ y → IsSafeAt n q here y tree → IsSafeAt n q here x tree
   earlier (Done a) x y le h = absurd (solves.differ h.1)
-  earlier (Ride i j kids) x y le h =
-      let board : IsBoardable n here x i = record { seconds = h.2.seconds; way = h.2.way; in_time = omega (arith, h.2.in_time) } in
-      (h.0, h.1, board, h.3)
+  earlier (Ride i j kids) x y le h = grind (arith, here)
   earlier (Stuck p z) x y le h = absurd h
 
   -- a ride is as safe for who is later, up to its departure
   until : (i j : ℕ) (kids : Kids) (x y : ℕ) → y < dep_of n i → IsSafeAt n q here x (Ride i j kids) → IsSafeAt n q here y (Ride i j kids)
-  until i j kids x y less h =
-      let one = second i h.2.seconds h.1.enter h.2.way in
-      let board : IsBoardable n here y i = record { seconds = h.2.seconds; way = h.2.way; in_time = omega (arith, one) } in
-      (h.0, h.1, board, h.3)
+  until i j kids x y less h = grind (arith, here)
 
   pub none_ahead : (next : ℕ) → ((tree : Tree) → IsSafeAt n q here (next - 1) tree → ⊥) → (moment : ℕ) → next ≤ moment → IsNoneSafeFrom (SafeAfter n q) moment
   none_ahead next none moment ahead tree safe = none tree (earlier tree (next - 1) (moment - 1) (omega arith) safe)
@@ -34,11 +28,7 @@ module _ (n : NetworkModel) (q : Query) (found : ScanResult MeanSpan) (solves : 
     chosen_children = kids_after (unfold_after n q.target.0 (by_place n (leg_choice found)) (count n - 1) choice.1) (arr_of n choice.1.exit.0) (outcomes_of n choice.1)
 
     begins : chosen_at n q found here x ≡ Ride choice.1.enter.0 choice.1.exit.0 chosen_children
-    begins =
-        let differ = solves.differ in
-        let test : (here == q.target.0) ≡ false = grind (arith, nat_tests) in
-        let leg : leg_choice found here x ≡ Some choice.1 = ap (option_map (λ c. c.1)) is in
-        rw (test, leg) refl
+    begins = grind (arith, here)
 
     module _ (answer : SolvesEach mean_scoring n q found here x choice) where
       abbrev enter : ℕ

@@ -1,7 +1,7 @@
 -- What is said of an extended network is said of the network itself.
-use Rattle.departure_table.proofs.Common.{◌≡◌, ℕ, zero, ◌+◌, ◌-◌, ◌<◌, ◌≤◌, arith, Option, Some, None, List, [], ◌∷◌, length, true, refl, sym, ◌∙◌, subst, MatchOption, nat_le, ◌↔◌, nat_tests}
-use Rattle.departure_table.proofs.Common.{Query, Moment, NetworkModel, IsExtension, IsValid, count, from_of, Tree, DepartureRow, IsASecondAway, SafeAfter, SafeFrom, IsNoneSafeFrom, IsBestFrom}
-use Rattle.departure_table.proofs.Common.{IsDepartureRow, IsTable, IsGreatestMoment, IsExtendedFor, SaysOfSource, first_row_by}
+use Rattle.departure_table.proofs.Common.{◌≡◌, ℕ, zero, ◌≤◌, arith, Option, Some, None, List, [], ◌∷◌, length, true, refl, sym, subst, MatchOption, nat_le, ◌↔◌, nat_tests, Query, Moment}
+use Rattle.departure_table.proofs.Common.{NetworkModel, IsExtension, IsValid, count, Tree, DepartureRow, IsASecondAway, SafeAfter, SafeFrom, IsNoneSafeFrom, IsBestFrom, IsTable, IsGreatestMoment}
+use Rattle.departure_table.proofs.Common.{IsExtendedFor, SaysOfSource, first_row_by}
 use Rattle.plan_model.proofs.Views.{seen, leg_there}
 use Rattle.plan_model.proofs.Extensions.{added_there, added_back}
 
@@ -20,12 +20,7 @@ module _ (m : NetworkModel) (Safe : ℕ → Tree → Type 0) (first last : ℕ) 
 module _ (n m : NetworkModel) (S T : ℕ → Tree → Type 0) (many : count n ≡ count m)
     (to : (moment : ℕ) (tree : Tree) → 1 ≤ moment → S moment tree → T moment tree) (from : (moment : ℕ) (tree : Tree) → 1 ≤ moment → T moment tree → S moment tree) where
   best_reported : (moment : ℕ) (row : DepartureRow) → 1 ≤ moment → IsBestFrom n S moment row → IsBestFrom m T moment row
-  best_reported moment row some b = record {
-    below_safe = λ tree safe. b.below_safe tree (from moment tree some safe);
-    least = λ tree safe. b.least tree (from moment tree some safe);
-    covers_one = let c = b.covers_one in (c.0, to moment c.0 some c.1, c.2, c.3, c.4);
-    gap = let g = b.gap in omega arith;
-  }
+  best_reported moment row some b = grind arith
 
   pub answer_reported : (moment : ℕ) (o : Option DepartureRow) → 1 ≤ moment → MatchOption o (IsNoneSafeFrom S moment) (IsBestFrom n S moment)
       → MatchOption o (IsNoneSafeFrom T moment) (IsBestFrom m T moment)
@@ -34,45 +29,21 @@ module _ (n m : NetworkModel) (S T : ℕ → Tree → Type 0) (many : count n �
 
   pub greatest_reported : (first : ℕ) (o : Option Moment) → 1 ≤ first → IsGreatestMoment S first o → IsGreatestMoment T first o
   greatest_reported first None some none = λ moment later tree safe. none moment later tree (from moment tree (omega arith) safe)
-  greatest_reported first (Some g) some is =
-      (is.0, (is.1.0, to g.0 is.1.0 (let f = is.0 in omega arith) is.1.1), λ moment later tree safe. is.2 moment later tree (from moment tree (omega arith) safe))
+  greatest_reported first (Some g) some is = grind arith
 
 -- from the place that was added everything is a second away
 pub second_away : (n m : NetworkModel) (source : ℕ) → IsExtension n m source → IsValid m → IsASecondAway n (length m.change)
-second_away n m source extends v i seconds less way =
-    let inside : i < count m = omega (arith, extends.view.as_many) in
-    let from = (seen n m 0 0 extends.view v i inside).from in
-    let here = extends.only (from_of n i) seconds (omega (arith, from, (v.connections i inside).from_in)) way in
-    let both = sym (rw here at way) ∙ extends.link in
-    cc
+second_away n m source extends v i seconds less way = grind (arith, seen)
 
 module _ (n : NetworkModel) (q : Query) (m : NetworkModel) (source : ℕ) (e : IsExtendedFor n q m source) where
   to_source : (moment : ℕ) (tree : Tree) → 1 ≤ moment → SafeAfter n q moment tree → SafeFrom m source q moment tree
-  to_source moment tree some safe =
-      let there = added_there n m source e.extends e.valid q.target.0 (Some q.deadline.0) e.target_there e.away tree (moment - 1) (rw e.last_place at safe) in
-      let now : moment - 1 + 1 ≡ moment = omega arith in
-      rw now at there
+  to_source moment tree some safe = grind (arith, added_there)
 
   from_source : (moment : ℕ) (tree : Tree) → 1 ≤ moment → SafeFrom m source q moment tree → SafeAfter n q moment tree
-  from_source moment tree some safe =
-      let now : moment - 1 + 1 ≡ moment = omega arith in
-      let reported = rw (← now) at safe in
-      rw e.last_place (added_back n m source e.extends e.valid q.target.0 (Some q.deadline.0) e.target_there e.away tree (moment - 1) reported)
-
-  departure_reported : (row : DepartureRow) → IsDepartureRow n row → IsDepartureRow m row
-  departure_reported row d =
-      let there = leg_there n m 0 0 e.extends.view e.valid row.leg.enter.0 row.leg.exit.0 d.is_leg in
-      let same = (seen n m 0 0 e.extends.view e.valid row.leg.enter.0 there.0.enter).departs (omega arith) in
-      record { is_leg = there.0; departs = let f = d.departs in omega arith }
+  from_source moment tree some safe = grind (arith, added_back)
 
   table_reported : (first last : ℕ) (rows : List DepartureRow) → 1 ≤ first → IsTable n (SafeAfter n q) first last rows → IsTable m (SafeFrom m source q) first last rows
-  table_reported first last rows some t = record {
-    answers = λ moment later within. answer_reported n m (SafeAfter n q) (SafeFrom m source q) e.extends.view.as_many to_source from_source moment
-        (first_row_by moment rows) (omega arith) (t.answers moment later within);
-    departures = λ k d h. departure_reported _ (t.departures k d h);
-    from_first = t.from_first;
-    rising = t.rising;
-  }
+  table_reported first last rows some t = grind (arith, answer_reported, to_source, from_source, leg_there, seen)
 
   empty_reported : (first last : ℕ) (rows : List DepartureRow) → 1 ≤ first → first ≤ last → IsTable n (SafeAfter n q) first last rows → (rows ≡ []) ↔ IsNoneSafeFrom (SafeFrom m source q) first
   empty_reported first last rows some order t = empty_exactly m (SafeFrom m source q) first last order rows (table_reported first last rows some t)
