@@ -1,26 +1,13 @@
 -- The names that most proofs of this crate cite, passed on from one place. Declares nothing.
-pub use Rattle.std.proofs.Common.{All, AllPairs, Bool, Contains, IsPermutation, List, MatchOption, None, Option, Some, [], ap, append-nil, append_assoc, arith, cond, count_by, drop, false}
-pub use Rattle.std.proofs.Common.{flat_map, get_or, get_or-set_other, get_or-set_same, get_or-take, if◌then◌else◌, inl, inr, length, length-append, length-set, length-take, length-take-le, map}
-pub use Rattle.std.proofs.Common.{nat_lt, refl, rules, set, slice_index_or, subst, suc, sym, take, take-append-drop, take_all, true, zero, ℕ, ◌*◌, ◌++◌, ◌+◌, ◌-◌, ◌<◌, ◌==◌, ◌^◌, ◌∙◌, ◌∷◌, ◌≡◌}
-pub use Rattle.std.proofs.Common.{◌≢◌, ◌≤◌, ◌⊎◌}
+pub use Rattle.std.proofs.Common.{All, AllPairs, Bool, Contains, IsPermutation, List, MatchOption, None, Option, Some, [], ap, append-nil, append_assoc, arith, cond, count_by, drop, false, flat_map}
+pub use Rattle.std.proofs.Common.{get_or, get_or-set_other, get_or-set_same, get_or-take, inl, inr, length, length-append, length-set, length-take, length-take-le, map, nat_lt, refl, rules, set}
+pub use Rattle.std.proofs.Common.{slice_index_or, subst, suc, sym, take, take-append-drop, take_all, true, zero, ℕ, ◌*◌, ◌++◌, ◌+◌, ◌-◌, ◌<◌, ◌==◌, ◌^◌, ◌∙◌, ◌∷◌, ◌≡◌, ◌≢◌, ◌≤◌, ◌⊎◌}
 pub use Rattle.std.proofs.lemmas.Bool.{both_ways, cases_Bool, cases_eq, cases_lt, eq-eqb, ne_eqb}
 pub use Rattle.std.proofs.lemmas.Bool.Decides.{nat_tests}
 pub use Rattle.std.proofs.lemmas.List.{drop_more, get_or_append_left, get_or_at}
 pub use Rattle.std.proofs.lemmas.List.Elements.{All-append, All-cons, All-contains, All-map, All-nil, All-tail, Contains-append_cases, Contains-append_left, Contains-append_right}
 pub use Rattle.std.specs.List.{AllWithin}
 pub use Rattle.arrayvec.specs.ArrayVec.{array_vec_len}
-pub use Rattle.graph_score.specs.Exits.{AreExits, exit_of}
-pub use Rattle.graph_score.specs.Failures.{Fails, FailsIn, IsFirstFailure, IsNotAfter}
-pub use Rattle.graph_score.specs.Legs.{IsFirstWrong, IsFitLeg, legs_in, legs_of, start_leg}
-pub use Rattle.graph_score.specs.Scores.{IsScoreOf, IsScored, IsUnsafe}
-pub use Rattle.graph_score.specs.Spans.{span_of, spans_of}
-pub use Rattle.graph_score.specs.Steps.{AreFitRows, AreOutlooks, IsOutlook, arrived_outlook, blend_of, by_leg, failure, first_failure_of, is_sooner, mean_or, no_outlook, outlook_at, outlook_of}
-pub use Rattle.graph_score.specs.Steps.{outlooks_after, ride_by_rows, sooner_failure, spans_in, with_outlook}
-pub use Rattle.graph_score.specs.declared.legs.GraphLeg.{GraphLeg}
-pub use Rattle.graph_score.specs.declared.legs.GraphLeg.TheVariants.{Row, Start}
-pub use Rattle.graph_score.specs.declared.outlooks.Failure.{Failure}
-pub use Rattle.graph_score.specs.declared.outlooks.Outlook.{Outlook}
-pub use Rattle.graph_score.specs.declared.outlooks.Outlook.TheVariants.{Failing, Safe}
 pub use Rattle.interval_fixed.specs.Interval.{Interval}
 pub use Rattle.plan_graph.proofs.Picked.{row_of_pick, rows_of_place-by}
 pub use Rattle.plan_graph.specs.PickedRows.{pick_at, rows_of_place}
@@ -43,3 +30,15 @@ pub use Rattle.plan_model.specs.declared.departure.Departure.{Departure}
 pub use Rattle.plan_model.specs.declared.model.Leg.{Leg}
 pub use Rattle.plan_model.specs.declared.model.Outcome.{Outcome}
 pub use Rattle.plan_model.specs.declared.model.Query.{Query}
+pub use Rattle.graph_score.specs.Exits.{AreExits, exit_of}
+pub use Rattle.graph_score.specs.Failures.{Fails, FailsIn, IsFirstFailure}
+pub use Rattle.graph_score.specs.Legs.{IsFirstWrong, IsFitLeg, legs_in, legs_of, start_leg}
+pub use Rattle.graph_score.specs.Scores.{IsScoreOf, IsScored, IsUnsafe}
+pub use Rattle.graph_score.specs.Spans.{span_of, spans_of}
+pub use Rattle.graph_score.specs.Steps.{AreFitRows, AreOutlooks, IsOutlook, arrived_outlook, blend_of, by_leg, failure, first_failure_of, mean_or, no_outlook, outlook_at, outlook_of, outlooks_after}
+pub use Rattle.graph_score.specs.Steps.{ride_by_rows, sooner_failure, spans_in, with_outlook}
+pub use Rattle.graph_score.specs.declared.legs.GraphLeg.{GraphLeg}
+pub use Rattle.graph_score.specs.declared.legs.GraphLeg.TheVariants.{Row, Start}
+pub use Rattle.graph_score.specs.declared.outlooks.Failure.{Failure}
+pub use Rattle.graph_score.specs.declared.outlooks.Outlook.{Outlook}
+pub use Rattle.graph_score.specs.declared.outlooks.Outlook.TheVariants.{Failing, Safe}

@@ -62,10 +62,7 @@ module _ {X : Type 0} (p q : X → Bool) (also : (x : X) → p x ≡ true → q 
   -- one more satisfies q
   count_by-less : (xs : List X) (k : ℕ) (d : X) → k < length xs → p (get_or xs k d) ≡ false → q (get_or xs k d) ≡ true → count_by p xs < count_by q xs
   count_by-less [] k d within fails holds = absurd (omega arith)
-  count_by-less (x ∷ xs) zero d within fails holds =
-      let none = ap (λ b. cond {A = ℕ} b 1 0) fails in
-      let one = ap (λ b. cond {A = ℕ} b 1 0) holds in
-      omega (arith, none, one, count_by-more xs, count_by-cons p x xs, count_by-cons q x xs)
+  count_by-less (x ∷ xs) zero d within fails holds = grind (arith, count_by-more, count_by-cons)
   count_by-less (x ∷ xs) (suc k) d within fails holds = omega (arith, one_more x, count_by-less xs k d (omega arith) fails holds, count_by-cons p x xs, count_by-cons q x xs)
 
 abbrev pub later : NetworkModel → ℕ → ℕ
@@ -73,9 +70,7 @@ later n i = count_by (λ c. nat_lt (dep_of n i) c.dep.0) n.connections
 
 pub later_fewer : (n : NetworkModel) (i j : ℕ) → j < count n → dep_of n i < dep_of n j → later n j < later n i
 unfolding connection
-later_fewer n i j there less =
-    count_by-less (λ (c : Connection). nat_lt (dep_of n j) c.dep.0) (λ (c : Connection). nat_lt (dep_of n i) c.dep.0) (λ c after. grind (arith, nat_tests))
-    n.connections j no_connection there (grind (arith, nat_tests)) (grind (arith, nat_tests))
+later_fewer n i j there less = grind (arith, count_by-less)
 
 pub later_few : (n : NetworkModel) (i : ℕ) → i < count n → later n i < count n
 unfolding connection

@@ -1,7 +1,7 @@
 -- The first failure after the outcomes of a ride, and the bounds where there is none.
-use Rattle.graph_score.proofs.Common.{◌≡◌, ℕ, suc, ◌⊎◌, Bool, true, false, List, [], ◌∷◌, length, Option, Some, None, arith, refl, inl, inr, ◌∙◌, ap, if◌then◌else◌, nat_tests, Outcome, Query}
-use Rattle.graph_score.proofs.Common.{NetworkModel, outcomes, EachKid, Tree, Ride, Kids, Nil, Kid, Interval, Failure, Outlook, Safe, Failing, Fails, FailsIn, IsNotAfter, IsFirstFailure, span_of}
-use Rattle.graph_score.proofs.Common.{spans_of, is_sooner, sooner_failure, with_outlook, first_failure_of, spans_in, mean_or, blend_of, IsOutlook}
+use Rattle.graph_score.proofs.Common.{◌≡◌, ℕ, suc, ◌⊎◌, List, [], ◌∷◌, length, Option, Some, None, arith, refl, inl, inr, ap, nat_tests, Outcome, Query, NetworkModel, outcomes, EachKid, Tree, Ride}
+use Rattle.graph_score.proofs.Common.{Kids, Nil, Kid, Failure, Outlook, Safe, Failing, Fails, FailsIn, IsFirstFailure, spans_of, sooner_failure, with_outlook, first_failure_of, spans_in, mean_or}
+use Rattle.graph_score.proofs.Common.{blend_of, IsOutlook}
 use Rattle.interval_fixed.specs.Means.{mean_of}
 
 -- a failure is not forgotten
@@ -29,54 +29,20 @@ reported_as : (first : Option Failure) (F G : May) → ((p x : ℕ) → F p x �
 reported_as None F G there back is = λ p x may. is p x (back p x may)
 reported_as (Some f) F G there back is = record { fails = there f.place.0 f.moment.0 is.fails; first = λ r y may. is.first r y (back r y may) }
 
-not_after_trans : (p x r y s z : ℕ) → IsNotAfter p x r y → IsNotAfter r y s z → IsNotAfter p x s z
-not_after_trans p x r y s z first second = grind arith
-
-sooner_is : (a b : Failure) → is_sooner a b ≡ true → IsNotAfter a.place.0 a.moment.0 b.place.0 b.moment.0
-sooner_is a b is = grind (arith, nat_tests)
-
-not_sooner : (a b : Failure) → is_sooner a b ≡ false → IsNotAfter b.place.0 b.moment.0 a.place.0 a.moment.0
-not_sooner a b is = grind (arith, nat_tests)
-
 -- the sooner of two first failures is the first of both
 first_both : (a f : Failure) (F G : May) → IsFirst (Some a) F → IsFirst (Some f) G → IsFirst (Some (sooner_failure (Some a) f)) (λ p x. F p x ⊎ G p x)
-first_both a f F G own other = by_test (is_sooner f a) refl
-  where
-    by_test : (test : Bool) → is_sooner f a ≡ test → IsFirst (Some (if test then f else a)) (λ p x. F p x ⊎ G p x)
-    by_test true is = record {
-      fails = inr other.fails;
-      first = λ r y may. elim may [
-        | inl here ↦ not_after_trans f.place.0 f.moment.0 a.place.0 a.moment.0 r y (sooner_is f a is) (own.first r y here)
-        | inr there ↦ other.first r y there
-      ];
-    }
-    by_test false is = record {
-      fails = inl own.fails;
-      first = λ r y may. elim may [
-        | inl here ↦ own.first r y here
-        | inr there ↦ not_after_trans a.place.0 a.moment.0 f.place.0 f.moment.0 r y (not_sooner f a is) (other.first r y there)
-      ];
-    }
+first_both a f F G own other = grind (arith, nat_tests)
 
 module _ (n : NetworkModel) (q : Query) where
   -- with what comes of one tree more
   with_tree : (first : Option Failure) (child : Outlook) (tree : Tree) (F : May) → IsFirst first F → IsOutlook n q child tree → IsFirst (with_outlook first child) (λ p x. F p x ⊎ Fails q tree p x)
-  with_tree first (Safe span) tree F is own = reported_as first F (λ p x. F p x ⊎ Fails q tree p x) (λ p x may. inl may) (λ p x may. elim may [
-    | inl here ↦ here
-    | inr there ↦ absurd (own.0 p x there)
-  ]) is
-  with_tree None (Failing f) tree F is own = reported_as (Some f) (Fails q tree) (λ p x. F p x ⊎ Fails q tree p x) (λ p x may. inr may) (λ p x may. elim may [
-    | inl here ↦ absurd (is p x here)
-    | inr there ↦ there
-  ]) own
+  with_tree first (Safe span) tree F is own = grind (arith, reported_as)
+  with_tree None (Failing f) tree F is own = grind (arith, reported_as)
   with_tree (Some a) (Failing f) tree F is own = first_both a f F (Fails q tree) is own
 
   first_reported : (row : List Outcome) (values : List Outlook) (kids : Kids) (first : Option Failure) (F : May) → EachKid (IsOutlook n q) row values kids
       → IsFirst first F → IsFirst (first_failure_of first values) (λ p x. F p x ⊎ FailsIn q kids p x)
-  first_reported [] [] Nil first F each is = reported_as first F (λ p x. F p x ⊎ ⊥) (λ p x may. inl may) (λ p x may. elim may [
-    | inl here ↦ here
-    | inr there ↦ absurd there
-  ]) is
+  first_reported [] [] Nil first F each is = grind (arith, reported_as)
   first_reported (o ∷ row) (value ∷ values) (Kid w tree kids) first F each is =
       reported_as (first_failure_of (with_outlook first value) values) (λ p x. (F p x ⊎ Fails q tree p x) ⊎ FailsIn q kids p x) (λ p x. F p x ⊎ (Fails q tree p x ⊎ FailsIn q kids p x))
       (λ p x may. grind arith) (λ p x may. grind arith)
@@ -86,8 +52,7 @@ module _ (n : NetworkModel) (q : Query) where
   -- where none fails, the bounds are those of the children
   spans_reported : (row : List Outcome) (values : List Outlook) (kids : Kids) → EachKid (IsOutlook n q) row values kids → first_failure_of None values ≡ None → spans_in values ≡ spans_of n kids
   spans_reported [] [] Nil each none = refl
-  spans_reported (o ∷ row) (Safe span ∷ values) (Kid w tree kids) each none =
-      ap (λ (s : Interval). s ∷ spans_in values) each.1.1 ∙ ap (λ (spans : List Interval). span_of n tree ∷ spans) (spans_reported row values kids each.2 none)
+  spans_reported (o ∷ row) (Safe span ∷ values) (Kid w tree kids) each none = grind (arith, spans_reported row values kids each.2 none)
   spans_reported (o ∷ row) (Failing f ∷ values) (Kid w tree kids) each none = absurd (first_failure_of-some f values none)
   spans_reported _ _ _ each none = absurd each
 

@@ -1,9 +1,8 @@
 -- The legs of a graph that fit, and those that do not.
-use Rattle.graph_score.proofs.Common.{◌≡◌, ℕ, ◌+◌, ◌<◌, List, [], ◌∷◌, ◌++◌, length, map, take, drop, Option, Some, None, All, arith, sym, subst, ◌∙◌, ap, refl, Contains, slice_index_or}
-use Rattle.graph_score.proofs.Common.{MatchOption, flat_map, take-append-drop, length-take, length-take-le, get_or-take, AllWithin, drop_more, All-append, All-contains, All-map, All-nil, All-tail}
-use Rattle.graph_score.proofs.Common.{All-cons, Contains-append_left, Contains-append_right, Leg, Query, NetworkModel, IsValid, count, limit_of-some, way_takes, PlaceTable, PlanGraph, IsFit}
-use Rattle.graph_score.proofs.Common.{IsFitStart, IsFitRow, Contains-head, Contains-map, All-from_contains, GraphLeg, Start, Row, exit_of, IsFitLeg, IsFirstWrong, start_leg, legs_in, legs_of}
-use Rattle.graph_score.proofs.Common.{AreFitRows}
+use Rattle.graph_score.proofs.Common.{◌≡◌, ℕ, ◌+◌, ◌<◌, List, [], ◌∷◌, ◌++◌, length, map, take, drop, Option, Some, None, All, arith, sym, subst, ◌∙◌, ap, refl, Contains, slice_index_or, MatchOption}
+use Rattle.graph_score.proofs.Common.{flat_map, take-append-drop, length-take, length-take-le, get_or-take, AllWithin, drop_more, All-append, All-contains, All-map, All-nil, All-tail, All-cons}
+use Rattle.graph_score.proofs.Common.{Contains-append_left, Contains-append_right, Leg, Query, NetworkModel, IsValid, count, limit_of-some, way_takes, PlaceTable, PlanGraph, IsFit, IsFitStart}
+use Rattle.graph_score.proofs.Common.{IsFitRow, Contains-head, Contains-map, All-from_contains, GraphLeg, Start, Row, exit_of, IsFitLeg, IsFirstWrong, start_leg, legs_in, legs_of, AreFitRows}
 use Rattle.plan_graph.specs.declared.GraphRow.{GraphRow}
 
 -- a row that fits is at a place of the network
@@ -61,11 +60,7 @@ rows_fit n q graph each k d within i e inside = (each_row_of (IsFitLeg n q) grap
 
 -- each leg ends with a connection of the network
 pub exits_there : (n : NetworkModel) (q : Query) (legs : List GraphLeg) → All (IsFitLeg n q) legs → All (λ leg. (exit_of leg).0 < count n) legs
-exits_there n q legs each k d within = there (slice_index_or legs k d) (each k d within)
-  where
-    there : (leg : GraphLeg) → IsFitLeg n q leg → (exit_of leg).0 < count n
-    there (Start leg) fit = fit.is_leg.exit
-    there (Row place row) fit = fit.1.is_leg.exit
+exits_there n q legs each k d within = grind arith
 
 -- and the start leg, where there is one
 pub start_fits : (n : NetworkModel) (q : Query) (graph : PlanGraph) (leg : Leg) → All (IsFitLeg n q) (legs_of graph) → graph.start ≡ Some leg → IsFitStart n q leg

@@ -1,11 +1,10 @@
 -- What is known of the exits that were looked at, the last ones first.
-use Rattle.graph_score.proofs.Common.{◌≡◌, ◌≢◌, ℕ, zero, suc, ◌+◌, ◌-◌, ◌<◌, ◌≤◌, true, false, List, [], ◌∷◌, ◌++◌, length, set, Option, Some, None, All, Contains, arith, sym, subst, refl, inl}
-use Rattle.graph_score.proofs.Common.{inr, ◌∙◌, ap, append_assoc, slice_index_or, ◌==◌, get_or-set_other, get_or-set_same, append-nil, length-set, cases_lt, cases_eq, nat_tests, All-contains}
+use Rattle.graph_score.proofs.Common.{◌≡◌, ◌≢◌, ℕ, zero, suc, ◌+◌, ◌-◌, ◌<◌, ◌≤◌, true, false, List, [], ◌∷◌, ◌++◌, length, set, Option, Some, None, All, Contains, arith, sym, subst, refl, inl, inr}
+use Rattle.graph_score.proofs.Common.{◌∙◌, ap, append_assoc, slice_index_or, ◌==◌, get_or-set_other, get_or-set_same, append-nil, length-set, cases_lt, cases_eq, nat_tests, All-contains}
 use Rattle.graph_score.proofs.Common.{Contains-append_right, Departure, Leg, Outcome, Query, NetworkModel, IsValid, count, dep_of, arr_of, EachKid, departure_of, Tree, Done, Stuck, end_of}
-use Rattle.graph_score.proofs.Common.{outcomes_of, kids_after, boards_later, Contains-cons_cases, Contains-from_map, PlaceTable, PlanGraph, pick_at, rows_of_place, IsLegOf, rows_of_place-by}
-use Rattle.graph_score.proofs.Common.{row_of_pick, GraphLeg, Outlook, Failing, exit_of, AreExits, IsFitLeg, legs_of, AreFitRows, AreOutlooks, IsOutlook, arrived_outlook, by_leg, failure}
-use Rattle.graph_score.proofs.Common.{no_outlook, outlook_at, outlook_of, outlooks_after, ride_by_rows}
-use Rattle.plan_model.specs.declared.model.ConnectionId.{ConnectionId}
+use Rattle.graph_score.proofs.Common.{kids_after, boards_later, Contains-cons_cases, Contains-from_map, PlaceTable, PlanGraph, pick_at, rows_of_place, IsLegOf, rows_of_place-by, row_of_pick}
+use Rattle.graph_score.proofs.Common.{GraphLeg, Outlook, Failing, exit_of, AreExits, IsFitLeg, legs_of, AreFitRows, AreOutlooks, IsOutlook, arrived_outlook, by_leg, failure, no_outlook, outlook_at}
+use Rattle.graph_score.proofs.Common.{outlook_of, outlooks_after, ride_by_rows}
 use Rattle.graph_score.proofs.ExitLemmas.{later, later_few, later_fewer, later_taken}
 use Rattle.graph_score.proofs.Failures.{blend_reported}
 use Rattle.graph_score.proofs.GraphLegs.{each_row_of, rows_fit}
@@ -94,13 +93,7 @@ module _ (n : NetworkModel) (valid : IsValid n) (q : Query) (tables : List Place
     ride_reported : (outlooks : List Outlook) (rest taken : List Departure) (exit : Departure) → (rest ++ exit ∷ []) ++ taken ≡ exits → exit ≡ departure_of n exit.id → exit.id.0 < count n
         → AreRight n q tables outlooks taken
         → (leg : Leg) (rides : ℕ) → leg.exit ≡ exit.id → later n exit.id.0 ≤ rides → IsOutlook n q (outlook_of n tables q outlooks exit.id.0) (ride_by_rows n q tables rides leg)
-    ride_reported outlooks rest taken exit split is there right leg rides of_exit enough =
-        let late = ap (λ (id : ConnectionId). arr_of n id.0) of_exit in
-        let each = children_reported outlooks (end_of n leg) (arr_of n leg.exit.0) (next_after n q tables fit rides leg)
-        (λ x from. arrival_reported outlooks rest taken exit split is there right leg rides x of_exit enough (omega (arith, late, from))) (outcomes_of n leg) in
-        let own = blend_reported n q leg.enter.0 leg.exit.0 (outlooks_after tables q outlooks (end_of n leg) (arr_of n leg.exit.0) (outcomes_of n leg))
-        (kids_after (next_after n q tables fit rides leg) (arr_of n leg.exit.0) (outcomes_of n leg)) each in
-        subst (λ (id : ConnectionId). IsOutlook n q (outlook_of n tables q outlooks id.0) (ride_by_rows n q tables rides leg)) of_exit own
+    ride_reported outlooks rest taken exit split is there right leg rides of_exit enough = grind (arith, children_reported, next_after, arrival_reported, blend_reported)
 
     -- with the next exit
     right_next : (outlooks : List Outlook) (rest taken : List Departure) (exit : Departure) → (rest ++ exit ∷ []) ++ taken ≡ exits → exit ≡ departure_of n exit.id → exit.id.0 < count n

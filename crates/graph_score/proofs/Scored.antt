@@ -1,7 +1,7 @@
 -- The score of a graph whose legs fit, by what comes of it.
-use Rattle.graph_score.proofs.Common.{◌≡◌, ◌≢◌, ℕ, ◌-◌, Option, Some, None, All, arith, sym, subst, refl, inl, inr, cases_lt, cases_eq, Leg, Query, NetworkModel, IsValid, count, arr_of, Tree}
-use Rattle.graph_score.proofs.Common.{Done, kids_after, outcomes_of, PlanGraph, IsFitStart, unfold_plan, Interval, Failure, Outlook, Safe, Failing, IsFitLeg, legs_of, Fails, IsScored, IsUnsafe}
-use Rattle.graph_score.proofs.Common.{IsScoreOf, span_of, IsOutlook, ride_by_rows}
+use Rattle.graph_score.proofs.Common.{◌≡◌, ◌≢◌, ℕ, ◌-◌, Option, Some, None, All, arith, sym, subst, refl, inl, inr, cases_lt, cases_eq, Leg, Query, NetworkModel, IsValid, count, arr_of, Tree, Done}
+use Rattle.graph_score.proofs.Common.{kids_after, outcomes_of, PlanGraph, IsFitStart, unfold_plan, Interval, Failure, Outlook, Safe, Failing, IsFitLeg, legs_of, Fails, IsScored, IsUnsafe, IsScoreOf}
+use Rattle.graph_score.proofs.Common.{span_of, IsOutlook, ride_by_rows}
 use Rattle.graph_score.proofs.GraphLegs.{rows_fit, start_fits}
 use Rattle.graph_score.proofs.Means.{exact_below, exact_covers, ride_spanned}
 use Rattle.graph_score.proofs.Trees.{next_after, safe_never_fails, safe_ride, height_ridden, unfold-start, unfold-none, unfold-there}

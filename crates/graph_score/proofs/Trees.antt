@@ -77,10 +77,7 @@ module _ (n : NetworkModel) (q : Query) (tables : List PlaceTable) (fit : AreFit
       → ((rides : ℕ) (leg : Leg) (x : ℕ) (next : Leg) → end_of n leg ≢ q.target.0 → pick_at tables (end_of n leg) x ≡ Some next
       → ((y : ℕ) → P rides next y (next_after rides next y)) → P (suc rides) leg x (ride_by_rows n q tables rides next))
       → (rides : ℕ) (leg : Leg) (x : ℕ) → P rides leg x (next_after rides leg x)
-  after_each P there stuck ride zero leg x = elim (cases_eq (end_of n leg) q.target.0) [
-    | inl here ↦ subst (P zero leg x) (sym (after-there zero leg x here)) (there zero leg x here)
-    | inr away ↦ subst (P zero leg x) (sym (after-over leg x away)) (stuck zero leg x)
-  ]
+  after_each P there stuck ride zero leg x = grind (arith, cases_eq, after-there, after-over)
   after_each P there stuck ride (suc rides) leg x = elim (cases_eq (end_of n leg) q.target.0) [
     | inl here ↦ subst (P (suc rides) leg x) (sym (after-there (suc rides) leg x here)) (there (suc rides) leg x here)
     | inr away ↦ by_leg (λ next y. after_each P there stuck ride rides next y) away (pick_at tables (end_of n leg) x) refl
@@ -102,8 +99,7 @@ module _ (n : NetworkModel) (q : Query) (tables : List PlaceTable) (fit : AreFit
 
   -- who cannot fail after the start leg is safe
   pub safe_ride : (rides : ℕ) (leg : Leg) → IsFitStart n q leg → Never (ride_by_rows n q tables rides leg) → IsSafeFor n q (ride_by_rows n q tables rides leg)
-  safe_ride rides leg start never =
-      (start.differ, start.is_leg, (start.leaves, start.in_time), children_safe (next_after rides leg) (end_of n leg) (arr_of n leg.exit.0) (safe_after rides leg) (outcomes_of n leg) never)
+  safe_ride rides leg start never = grind (arith, children_safe, next_after, safe_after)
 
   height_children : (next : ℕ → Tree) (most : ℕ) → ((x : ℕ) → height (next x) ≤ most) → (scheduled : ℕ) (row : List Outcome) → height_of (kids_after next scheduled row) ≤ most
   height_children next most each scheduled [] = omega arith
@@ -123,13 +119,11 @@ module _ (n : NetworkModel) (q : Query) (tables : List PlaceTable) (fit : AreFit
 -- by a graph one takes the start leg
 pub unfold-start : (n : NetworkModel) (q : Query) (graph : PlanGraph) (leg : Leg) → q.source.0 ≢ q.target.0 → graph.start ≡ Some leg
     → unfold_plan graph n q ≡ ride_by_rows n q graph.tables (count n - 1) leg
-unfold-start n q graph leg away is =
-    rw (ne_eqb q.source.0 q.target.0 away) (ap (λ first. ride_or_stuck n (unfold_after n q.target.0 (by_place n (pick_at graph.tables)) (count n - 1)) first q.source.0 q.start.0) is)
+unfold-start n q graph leg away is = grind (arith, ne_eqb)
 
 -- and is stuck without one
 pub unfold-none : (n : NetworkModel) (q : Query) (graph : PlanGraph) → q.source.0 ≢ q.target.0 → graph.start ≡ None → unfold_plan graph n q ≡ Stuck q.source.0 q.start.0
-unfold-none n q graph away is =
-    rw (ne_eqb q.source.0 q.target.0 away) (ap (λ first. ride_or_stuck n (unfold_after n q.target.0 (by_place n (pick_at graph.tables)) (count n - 1)) first q.source.0 q.start.0) is)
+unfold-none n q graph away is = grind (arith, ne_eqb)
 
 -- where source and target are one place one has arrived
 pub unfold-there : (n : NetworkModel) (q : Query) (graph : PlanGraph) → q.source.0 ≡ q.target.0 → unfold_plan graph n q ≡ Done q.start.0
