@@ -1,8 +1,8 @@
 -- The texts that are read are those of the graphs that fit.
 use Rattle.graph_text.proofs.Common.{◌≡◌, ℕ, ◌≤◌, List, [], ◌∷◌, Option, Some, None, Ok, arith, sym, subst, ◌∙◌, ap, refl, ◌==◌, eqb-true, eq-eqb, ne_eqb, false≢true, All-nil, last_printable}
-use Rattle.graph_text.proofs.Common.{table_of, require-ok, Leg, Query, NetworkModel, NameLists, IsValid, PlaceTable, PlanGraph, IsFit, IsFitTable, Head, Version, start_in, place_tables_from}
-use Rattle.graph_text.proofs.Common.{no_tables, started_in, graph_after_first, head_in, graph_of_records, graph_of, IsReadAs, version_in, AreGraphRows, IsTextOf, IsHeadOf, field, and_then-value}
-use Rattle.graph_text.proofs.Common.{if-value, else-value}
+use Rattle.graph_text.proofs.Common.{table_of, require-ok, Leg, Query, NetworkModel, NameLists, IsValid, PlaceTable, PlanGraph, IsFit, Head, Version, start_in, place_tables_from, no_tables}
+use Rattle.graph_text.proofs.Common.{started_in, graph_after_first, head_in, graph_of_records, graph_of, IsReadAs, version_in, AreGraphRows, IsTextOf, IsHeadOf, field, and_then-value, if-value}
+use Rattle.graph_text.proofs.Common.{else-value}
 use Rattle.clock_text.proofs.Range.{moment_range}
 use Rattle.graph_text.specs.declared.reader.TextFault.TheVariants as fault
 use Rattle.graph_text.proofs.Rows.{start_reported, start_read, head_reported, head_read}
@@ -11,11 +11,7 @@ use Rattle.graph_text.proofs.Tables.{all_reported, all_read}
 module _ (n : NetworkModel) (names : NameLists) (version : Version) (q : Query) where
   graph_reported : (rs : List (List (List ℕ))) (graph : PlanGraph) → graph_after_first n names version q.source.0 q.target.0 q.start.0 rs ≡ Ok graph
       → AreGraphRows n names version q.source.0 graph.start graph.tables rs × IsFit n q graph
-  graph_reported [] graph is =
-      let here = if-value (q.source.0 == q.target.0) (Ok (record { start = None; tables = [] })) (fault.Row 2) graph is in
-      let same : record { start = None; tables = [] } ≡ graph = (cc) in
-      subst (λ (g : PlanGraph). AreGraphRows n names version q.source.0 g.start g.tables [] × IsFit n q g) same
-      (refl, record { starts = (eqb-true _ _ here.0, refl); tables = All-nil (IsFitTable n); rising = λ i j d less within. absurd (omega (arith, less, within)) })
+  graph_reported [] graph is = grind (arith, if-value, eqb-true, All-nil)
   graph_reported (r ∷ rs) graph is =
       let away = else-value (q.source.0 == q.target.0) (started_in n names version q.source.0 q.start.0 r rs) (fault.Row 2) graph is in
       let leg = and_then-value (start_in n names version 2 q.source.0 q.start.0 r) _ graph away.1 in

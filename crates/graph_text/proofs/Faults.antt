@@ -1,15 +1,15 @@
 -- The first fault of a text is that of its first row that breaks a rule, or of the first row that is missing.
-use Rattle.graph_text.proofs.Common.{◌≡◌, ◌≢◌, ℕ, zero, suc, ◌+◌, ◌-◌, Bool, true, false, List, [], ◌∷◌, Option, Some, None, IsSome, is_some, Result, Ok, Err, arith, sym, subst, refl, ◌∙◌, ap}
-use Rattle.graph_text.proofs.Common.{◌==◌, if◌then◌else◌, codes, inl, inr, ◌⊎◌, option_map, eqb-true, eq-eqb, ne_eqb, leb-true, le-leb, nat_le, false≢true, and_parts, cases_eq, moment_at}
-use Rattle.graph_text.proofs.Common.{nanos_at, if_cases, and_then, require, require-ok, Leg, PlaceId, NetworkModel, NameLists, IsValid, change_of, dep_of, GraphRow, PlanGraph, field, is_kind}
-use Rattle.graph_text.proofs.Common.{whole_at, number_of, rises, is_query, Head, TextFault, LegRow, LegNames, PlaceRow, HeadRow, TableStart, Reading, Version, width_of, entry_in, is_place}
-use Rattle.graph_text.proofs.Common.{is_head, version_in, IsLegRow, IsPlaceRow, leg_numbers, leg_row_in, names_in, leg_found, is_by_limit, can_start, row_in, start_in, place_numbers, place_row_in}
-use Rattle.graph_text.proofs.Common.{table_in, head_numbers, head_row_in, head_in, step, after_place_row, after_leg_row, place_tables_from, no_tables, started_in, graph_after_first}
-use Rattle.graph_text.proofs.Common.{graph_of_records}
+use Rattle.graph_text.proofs.Common.{◌≡◌, ◌≢◌, ℕ, zero, suc, ◌+◌, ◌-◌, Bool, true, false, List, [], ◌∷◌, Option, Some, None, IsSome, is_some, Result, Ok, Err, arith, sym, subst, refl, ◌∙◌, ap, ◌==◌}
+use Rattle.graph_text.proofs.Common.{if◌then◌else◌, codes, inl, inr, ◌⊎◌, option_map, eqb-true, eq-eqb, ne_eqb, leb-true, le-leb, nat_le, false≢true, and_parts, cases_eq, moment_at, nanos_at}
+use Rattle.graph_text.proofs.Common.{if_cases, and_then, require, require-ok, Leg, PlaceId, NetworkModel, NameLists, IsValid, change_of, dep_of, GraphRow, PlanGraph, field, is_kind, whole_at}
+use Rattle.graph_text.proofs.Common.{number_of, rises, is_query, Head, TextFault, LegRow, LegNames, PlaceRow, HeadRow, TableStart, Reading, Version, width_of, is_place, is_head, version_in, IsLegRow}
+use Rattle.graph_text.proofs.Common.{IsPlaceRow, leg_numbers, leg_row_in, names_in, leg_found, is_by_limit, can_start, row_in, start_in, place_numbers, place_row_in, table_in, head_numbers}
+use Rattle.graph_text.proofs.Common.{head_row_in, head_in, step, after_place_row, after_leg_row, place_tables_from, no_tables, started_in, graph_after_first, graph_of_records}
 use Rattle.graph_text.specs.declared.reader.TextFault.TheVariants as f
-use Rattle.graph_text.specs.FirstFaults.{Breaks, HasLegForm, HasLegNames, HasLaterMoment, IsRowOf, BreaksAtLeg, IsStartOf, BreaksAtStart, HasPlaceForm, HasLaterPlace, BreaksAtPlace}
-use Rattle.graph_text.specs.FirstFaults.{HasHeadForm, HasHeadNames, IsOfQuestion, BreaksAtHead, Coming, PlaceNext, LegNext, after_leg, HaveFirstFault, HaveFaultAfterHead, HaveFault}
-use Rattle.graph_text.proofs.Rows.{numbers_reported, names_reported, place_numbers_reported, head_numbers_reported, start_reported, start_read, row_reported, row_read, table_reported, table_read, head_reported, head_read}
+use Rattle.graph_text.specs.FirstFaults.{Breaks, HasLegForm, HasLegNames, HasLaterMoment, IsRowOf, BreaksAtLeg, IsStartOf, BreaksAtStart, HasPlaceForm, HasLaterPlace, BreaksAtPlace, HasHeadForm}
+use Rattle.graph_text.specs.FirstFaults.{HasHeadNames, IsOfQuestion, BreaksAtHead, Coming, PlaceNext, LegNext, after_leg, HaveFirstFault, HaveFaultAfterHead, HaveFault}
+use Rattle.graph_text.proofs.Rows.{numbers_reported, names_reported, place_numbers_reported, head_numbers_reported, start_reported, start_read, row_reported, row_read, table_reported, table_read}
+use Rattle.graph_text.proofs.Rows.{head_reported, head_read}
 use Rattle.graph_text.proofs.Tables.{leg_step, place_row_is, leg_row_is, after_last, after_row}
 
 -- ---- chains that end with a fault
@@ -61,10 +61,7 @@ ok_same is = (cc)
 
 -- where a part is missing or fails its test, that is the fault
 tail_err : {A B E : Type 0} (o : Option A) (test : A → Bool) (value : A → B) (e fault : E) → require o e (λ a. if test a then Ok (value a) else Err e) ≡ Err fault → e ≡ fault
-tail_err o test value e fault is = elim (require_err o e _ fault is) [
-  | inl none ↦ none.1
-  | inr a ↦ elim (if_err (test a.0) (Ok (value a.0)) e fault a.2) [ inl fails ↦ fails.1 | inr passes ↦ absurd (let wrong = passes.1 in cc) ]
-]
+tail_err o test value e fault is = grind (arith, require_err, if_err)
 
 -- ---- one rule is broken first
 
@@ -144,16 +141,10 @@ module _ (n : NetworkModel) (names : NameLists) (version : Version) (line : ℕ)
       )
 
   names_known : (place : ℕ) (known : LegNames) → names_in version names place r ≡ Some known → HasLegNames names version place r
-  names_known place known is =
-      let all = names_reported (number_of names.runs (field r 2)) (number_of names.places (field r 6)) (entry_in version names place r) known is in
-      record { run = some_is _ _ all.0; to = some_is _ _ all.1; from = some_is _ _ all.2 }
+  names_known place known is = grind (arith, names_reported, some_is)
 
   names_read : (place : ℕ) → HasLegNames names version place r → IsSome (names_in version names place r)
-  names_read place known =
-      let run = some_value (number_of names.runs (field r 2)) known.run in
-      let to = some_value (number_of names.places (field r 6)) known.to in
-      let from = some_value (entry_in version names place r) known.from in
-      rw (run.1, to.1, from.1) refl
+  names_read place known = grind (arith, some_value)
 
   no_names : (place : ℕ) → names_in version names place r ≡ None → ¬ HasLegNames names version place r
   no_names place none known = let k = some_value (names_in version names place r) (names_read place known) in none_some _ k.0 none k.1
@@ -162,17 +153,7 @@ module _ (n : NetworkModel) (names : NameLists) (version : Version) (line : ℕ)
   no_form kind moment none form = let x = form_read kind moment form in none_some _ x.0 none x.1
 
   leg_form : (kind : List ℕ) (place moment : ℕ) (leg : Leg) → IsLegRow n names version kind place moment leg r → HasLegForm version kind moment r × HasLegNames names version place r
-  leg_form kind place moment leg reported = (
-    record {
-      is_of_kind = reported.is_of_kind;
-      by = reported.by;
-      enter = some_is _ _ reported.enter;
-      departure = some_is _ _ reported.departure;
-      exit = some_is _ _ reported.exit;
-      arrival = some_is _ _ reported.arrival;
-    },
-    record { run = some_is _ _ reported.run; to = some_is _ _ reported.to; from = some_is _ _ reported.from },
-  )
+  leg_form kind place moment leg reported = grind (arith, some_is)
 
   module _ (valid : IsValid n) (place : ℕ) (last : Option ℕ) where
     row_fails : (fault : TextFault) → row_in n names version line place last r ≡ Err fault → BreaksAtLeg n names version line place last r fault
@@ -266,9 +247,7 @@ module _ (n : NetworkModel) (names : NameLists) (version : Version) (line : ℕ)
       record { is_of_kind = row.0; change = some_is _ _ numbers.0; rows = (x.count - 1, numbers.1 ∙ ap (λ k. Some k) same) }
 
   place_form_read : HasPlaceForm version r → IsSome (place_row_in version r)
-  place_form_read form =
-      let change = some_value (whole_at (field r 2)) form.change in
-      rw (form.is_of_kind, change.1, form.rows.1, le-leb 1 (suc form.rows.0) (omega arith)) refl
+  place_form_read form = grind (arith, some_value, le-leb)
 
   module _ (last : Option ℕ) where
     table_fails : (fault : TextFault) → table_in n names version line last r ≡ Err fault → BreaksAtPlace n names version line last r fault
@@ -343,10 +322,7 @@ module _ (names : NameLists) (r : List (List ℕ)) (source target start : ℕ) w
       )
 
   head_form_read : (version : Version) → HasHeadForm version r → IsSome (head_row_in version r)
-  head_form_read version form =
-      let (start, deadline, at_start, at_deadline, in_time) = form.moments in
-      let (lo, hi, at_lo, at_hi, ordered) = form.bounds in
-      rw (form.is_of_kind, at_start, at_deadline, at_lo, at_hi, le-leb start deadline in_time, le-leb lo hi ordered) refl
+  head_form_read version form = grind (arith, le-leb)
 
   head_fails : (version : Version) → version_in r ≡ Some version → (fault : TextFault) → head_in names version source target start r ≡ Err fault → BreaksAtHead names source target start r fault
   head_fails version number fault is =
@@ -432,9 +408,7 @@ module _ (n : NetworkModel) (names : NameLists) (version : Version) (valid : IsV
 
   next_after : (s : Reading) (place more : ℕ) (last : Option ℕ) (row : GraphRow) → IsNext s (LegNext place more last) → IsNext (with_row s row) (after_leg place more row.by.0)
   next_after s place zero last row next = rw (eq-eqb s.remaining 1 (omega (arith, next.0))) (refl, next.1)
-  next_after s place (suc more) last row next =
-      let many = next.0 in
-      rw (ne_eqb s.remaining 1 (λ one. omega (arith, one, many))) ((omega (arith, many)), next.1, refl)
+  next_after s place (suc more) last row next = grind (arith, ne_eqb)
 
   -- the step of a row of a place, and of a leg
   place_step : (line : ℕ) (r : List (List ℕ)) (s : Reading) (last : Option ℕ) → IsNext s (PlaceNext last) → step n names version line r s ≡ after_place_row s (table_in n names version line last r)
@@ -452,25 +426,16 @@ module _ (n : NetworkModel) (names : NameLists) (version : Version) (valid : IsV
   place_step_err s (Err e) fault is = (let same : e ≡ fault = (cc) in ap (λ x. Err x) same)
 
   leg_step_err : (s : Reading) (reported : Result GraphRow TextFault) (fault : TextFault) → after_leg_row s reported ≡ Err fault → reported ≡ Err fault
-  leg_step_err s (Ok row) fault is = elim (cases_eq s.remaining 1) [
-    | inl one ↦ absurd (let wrong = rw (eq-eqb s.remaining 1 one) at is in cc)
-    | inr many ↦ absurd (let wrong = rw (ne_eqb s.remaining 1 many) at is in cc)
-  ]
+  leg_step_err s (Ok row) fault is = grind (arith, cases_eq, eq-eqb, ne_eqb)
   leg_step_err s (Err e) fault is = (let same : e ≡ fault = (cc) in ap (λ x. Err x) same)
 
   leg_step_ok : (s : Reading) (row : GraphRow) → after_leg_row s (Ok row) ≡ Ok (with_row s row)
-  leg_step_ok s row = elim (cases_eq s.remaining 1) [
-    | inl one ↦ rw (eq-eqb s.remaining 1 one) refl
-    | inr many ↦ rw (ne_eqb s.remaining 1 many) refl
-  ]
+  leg_step_ok s row = grind (arith, cases_eq, eq-eqb, ne_eqb)
 
   rows_fail : (rs : List (List (List ℕ))) (line : ℕ) (s : Reading) (coming : Coming) (fault : TextFault) → IsNext s coming → place_tables_from n names version rs line s ≡ Err fault
       → HaveFirstFault n names version rs line coming fault
   rows_fail [] line s (PlaceNext last) fault next is = absurd (let wrong = rw (eq-eqb s.remaining 0 next.0) at is in cc)
-  rows_fail [] line s (LegNext place more last) fault next is =
-      let many = next.0 in
-      let same = rw (ne_eqb s.remaining 0 (λ none. omega (arith, none, many))) at is in
-      (cc)
+  rows_fail [] line s (LegNext place more last) fault next is = grind (arith, ne_eqb)
   rows_fail (r ∷ rs) line s (PlaceNext last) fault next is = elim (then_err (step n names version line r s) _ fault is) [
     | inl here ↦ inl (table_fails n names version line r last fault (place_step_err s _ fault (sym (place_step line r s last next) ∙ here)))
     | inr later ↦
@@ -505,9 +470,7 @@ module _ (n : NetworkModel) (names : NameLists) (version : Version) (valid : IsV
   rows_back : (rs : List (List (List ℕ))) (line : ℕ) (s : Reading) (coming : Coming) (fault : TextFault) → IsNext s coming → HaveFirstFault n names version rs line coming fault
       → place_tables_from n names version rs line s ≡ Err fault
   rows_back [] line s (PlaceNext last) fault next first = absurd first
-  rows_back [] line s (LegNext place more last) fault next first =
-      let many = next.0 in
-      rw (ne_eqb s.remaining 0 (λ none. omega (arith, none, many)), first) refl
+  rows_back [] line s (LegNext place more last) fault next first = grind (arith, ne_eqb)
   rows_back (r ∷ rs) line s (PlaceNext last) fault next first = elim first [
     | inl here ↦ ap (λ r. and_then r (place_tables_from n names version rs (line + 1)))
         (place_step line r s last next ∙ ap (after_place_row s) (table_back n names version line r last fault here))
@@ -534,10 +497,7 @@ module _ (n : NetworkModel) (names : NameLists) (version : Version) (valid : IsV
   module _ (source target start : ℕ) where
     after_head_fails : (rs : List (List (List ℕ))) (fault : TextFault) → graph_after_first n names version source target start rs ≡ Err fault
         → HaveFaultAfterHead n names version source target start rs fault
-    after_head_fails [] fault is = elim (if_err (source == target) (Ok (record { start = None; tables = [] })) (f.Row 2) fault is) [
-      | inl away ↦ (sym away.1, λ same. false≢true (sym away.0 ∙ eq-eqb source target same))
-      | inr here ↦ absurd (let wrong = here.1 in cc)
-    ]
+    after_head_fails [] fault is = grind (arith, if_err, false≢true, eq-eqb)
     after_head_fails (r ∷ rs) fault is = elim (else_err (source == target) (started_in n names version source start r rs) (f.Row 2) fault is) [
       | inl here ↦ inl (subst (BreaksAtStart n names version source target start r) here.1 (refl, λ form. form.0 (eqb-true source target here.0)))
       | inr away ↦

@@ -1,6 +1,6 @@
 -- The fields of printed rows.
-use Rattle.graph_text.proofs.Common.{◌≡◌, ℕ, List, [], ◌∷◌, take, ◌∙◌, ap, refl, decimal, moment_text, Leg, Connection, NetworkModel, NameLists, connection, Version, First, Second, width_of}
-use Rattle.graph_text.proofs.Common.{ninth, leg_fields, place_name, run_name}
+use Rattle.graph_text.proofs.Common.{arith, ◌≡◌, ℕ, List, [], ◌∷◌, take, decimal, moment_text, Leg, Connection, NetworkModel, NameLists, connection, Version, First, Second, width_of, ninth}
+use Rattle.graph_text.proofs.Common.{leg_fields, place_name, run_name}
 
 -- the fields that a version has of nine
 pub take_nine : (version : Version) (a b c d e f g h last a' b' c' d' e' f' g' h' last' : List ℕ) → a ≡ a' → b ≡ b' → c ≡ c' → d ≡ d' → e ≡ e' → f ≡ f' → g ≡ g' → h ≡ h' → last ≡ last'
@@ -15,12 +15,4 @@ pub leg_row_fields : (n : NetworkModel) (names : NameLists) (version : Version) 
     → place ≡ place_name names exit.to.0 → arr ≡ moment_text exit.arr.0
     → from ≡ place_name names enter.from.0
     → ◌≡◌ {A = List (List ℕ)} (take (width_of version) (kind ∷ second ∷ run ∷ entry_step ∷ dep ∷ exit_step ∷ place ∷ arr ∷ from ∷ [])) (kind ∷ second ∷ leg_fields n names version leg)
-leg_row_fields n names version leg enter exit kind second run entry_step dep exit_step place arr from at_enter at_exit a b c d e f g =
-    take_nine version kind second run entry_step dep exit_step place arr from kind second _ _ _ _ _ _ _ refl refl
-    (a ∙ ap (λ (k : Connection). run_name names k.run.0) at_enter)
-    (b ∙ ap (λ (k : Connection). decimal k.step) at_enter)
-    (c ∙ ap (λ (k : Connection). moment_text k.dep.0) at_enter)
-    (d ∙ ap (λ (k : Connection). decimal k.step) at_exit)
-    (e ∙ ap (λ (k : Connection). place_name names k.to.0) at_exit)
-    (f ∙ ap (λ (k : Connection). moment_text k.arr.0) at_exit)
-    (g ∙ ap (λ (k : Connection). place_name names k.from.0) at_enter)
+leg_row_fields n names version leg enter exit kind second run entry_step dep exit_step place arr from at_enter at_exit a b c d e f g = grind (arith, take_nine, decimal)

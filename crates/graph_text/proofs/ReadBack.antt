@@ -1,11 +1,10 @@
 -- What was printed is read back.
-use Rattle.graph_text.proofs.Common.{◌≡◌, ℕ, ◌<◌, ◌≤◌, ◌^◌, List, [], ◌∷◌, ◌++◌, length, map, Option, Some, None, Bool, true, false, All, arith, sym, refl, ap, ◌∙◌, append_assoc, ◌==◌}
-use Rattle.graph_text.proofs.Common.{if◌then◌else◌, slice_index_or, decimal, codes, eqb, option_and_then, eqb-true, eq-eqb, ne_eqb, All-head, All-tail, All-map, All-contains, moment_text}
-use Rattle.graph_text.proofs.Common.{nanos_text, last_printable, table_of, Leg, Query, NetworkModel, NameLists, NamesFit, AreNames, IsValid, count, change_of, run_of, step_of, from_of, to_of}
-use Rattle.graph_text.proofs.Common.{dep_of, arr_of, way_of, earlier_by, GraphRow, PlaceTable, PlanGraph, IsLegOf, IsFit, IsFitRow, IsFitTable, Head, Version, First, Second, number_of_version}
-use Rattle.graph_text.proofs.Common.{width_of, ninth, rows_leave, tables_leave, version_by, IsPrintableQuery, leg_fields, rows_text, tables_text, plan_text_in, plan_text, place_name, run_name}
-use Rattle.graph_text.proofs.Common.{row_of_fields, text_of_records, IsReadAs, entry_in, is_place, is_head, version_in, IsLegRow, IsPlaceRow, IsHeadRow, AreLegRows, AreTableRows, AreGraphRows}
-use Rattle.graph_text.proofs.Common.{IsTextOf, is_kind, most_connections}
+use Rattle.graph_text.proofs.Common.{◌≡◌, ℕ, ◌<◌, ◌≤◌, ◌^◌, List, [], ◌∷◌, ◌++◌, length, map, Option, Some, None, Bool, true, false, All, arith, refl, ap, ◌∙◌, append_assoc, ◌==◌, slice_index_or}
+use Rattle.graph_text.proofs.Common.{decimal, codes, eqb, eqb-true, eq-eqb, ne_eqb, All-head, All-tail, All-map, All-contains, moment_text, nanos_text, last_printable, table_of, Leg, Query}
+use Rattle.graph_text.proofs.Common.{NetworkModel, NameLists, NamesFit, AreNames, IsValid, count, change_of, run_of, step_of, from_of, to_of, dep_of, arr_of, GraphRow, PlaceTable, PlanGraph, IsLegOf}
+use Rattle.graph_text.proofs.Common.{IsFit, IsFitRow, IsFitTable, Head, Version, First, Second, number_of_version, ninth, rows_leave, tables_leave, version_by, IsPrintableQuery, leg_fields}
+use Rattle.graph_text.proofs.Common.{rows_text, tables_text, plan_text_in, plan_text, place_name, run_name, row_of_fields, text_of_records, IsReadAs, is_head, version_in, IsLegRow, IsPlaceRow}
+use Rattle.graph_text.proofs.Common.{IsHeadRow, AreLegRows, AreTableRows, AreGraphRows, IsTextOf, most_connections}
 use Rattle.std.specs.Cmp.Lexicographic.{bytes_decides}
 use Rattle.std.proofs.lemmas.List.{get_or-map, length-map}
 use Rattle.std.proofs.lemmas.List.Recursion.{and_at}
@@ -35,9 +34,7 @@ fields_kept Second a b c d e f g h last one two three four five six seven eight 
 
 rows-append : (rows more : List (List (List ℕ))) → text_of_records (rows ++ more) ≡ text_of_records rows ++ text_of_records more
 rows-append [] more = refl
-rows-append (row ∷ rows) more =
-    ap (λ (text : List ℕ). row_of_fields row ++ text) (rows-append rows more)
-    ∙ sym (append_assoc (row_of_fields row) (text_of_records rows) (text_of_records more))
+rows-append (row ∷ rows) more = grind (arith, append_assoc, rows-append rows more)
 
 -- the records of a leg, of a table's rows, of a place, and of all tables
 abbrev leg_record : NetworkModel → NameLists → Version → List ℕ → List ℕ → Leg → List (List ℕ)
@@ -67,17 +64,11 @@ head_record names version head =
 -- their text is what is printed
 legs_printed : (n : NetworkModel) (names : NameLists) (version : Version) (rows : List GraphRow) → rows_text n names version (codes "leg") rows ≡ text_of_records (leg_records n names version rows)
 legs_printed n names version [] = refl
-legs_printed n names version (row ∷ rows) =
-    ap (λ (text : List ℕ). row_of_fields (leg_record n names version (codes "leg") (moment_text row.by.0) row.leg) ++ text) (legs_printed n names version rows)
+legs_printed n names version (row ∷ rows) = grind (arith, leg_record, codes, legs_printed n names version rows)
 
 tables_printed : (n : NetworkModel) (names : NameLists) (version : Version) (tables : List PlaceTable) → tables_text n names version tables ≡ text_of_records (table_records n names version tables)
 tables_printed n names version [] = refl
-tables_printed n names version (t ∷ tables) =
-    let first = row_of_fields (place_record n names version t) in
-    append_assoc first (rows_text n names version (codes "leg") t.rows) (tables_text n names version tables)
-    ∙ ap (λ (text : List ℕ). first ++ (text ++ tables_text n names version tables)) (legs_printed n names version t.rows)
-    ∙ ap (λ (text : List ℕ). first ++ (text_of_records (leg_records n names version t.rows) ++ text)) (tables_printed n names version tables)
-    ∙ ap (λ (text : List ℕ). first ++ text) (sym (rows-append (leg_records n names version t.rows) (table_records n names version tables)))
+tables_printed n names version (t ∷ tables) = grind (arith, place_record, append_assoc, codes, legs_printed, leg_records, rows-append, table_records, tables_printed n names version tables)
 
 -- in a text of the first version the leg leaves its row's place
 abbrev IsReported : NetworkModel → Version → ℕ → Leg → Type 0
@@ -109,30 +100,11 @@ module _ (n : NetworkModel) (names : NameLists) (version : Version) (valid : IsV
 
   leg_reports : (kind : List ℕ) (place moment : ℕ) (leg : Leg) → IsLegOf n leg → moment ≤ last_printable → IsReported n version place leg
       → IsLegRow n names version kind place moment leg (leg_record n names version kind (moment_text moment) leg)
-  leg_reports kind place moment leg is_leg soon reported =
-      let enter = valid.connections leg.enter.0 is_leg.enter in
-      let exit = valid.connections leg.exit.0 is_leg.exit in
-      record {
-        is_of_kind = by_version (λ v. is_kind kind (width_of v) (leg_record n names v kind (moment_text moment) leg) ≡ true)
-            ((bytes_decides kind kind).1 refl) ((bytes_decides kind kind).1 refl) version;
-        by = text_reports moment soon;
-        run = run_back n names fit own leg.enter.0 is_leg.enter;
-        enter = step_back n valid leg.enter.0 is_leg.enter;
-        departure = text_reports (dep_of n leg.enter.0) (omega (arith, enter.forward, enter.early));
-        exit = step_back n valid leg.exit.0 is_leg.exit;
-        to = place_back n names fit own (to_of n leg.exit.0) exit.to_in;
-        arrival = text_reports (arr_of n leg.exit.0) (omega (arith, exit.early));
-        from = by_version (λ v. IsReported n v place leg → entry_in v names place (leg_record n names v kind (moment_text moment) leg) ≡ Some
-            (from_of n leg.enter.0))
-            (λ leaves. ap Some (sym leaves)) (λ any. place_back n names fit own (from_of n leg.enter.0) enter.from_in) version reported;
-      }
+  leg_reports kind place moment leg is_leg soon reported = grind (arith, by_version, leg_record, bytes_decides, text_reports, run_back, step_back, place_back)
 
   -- a table has at most a row for each connection, since rows of one entry have one limit
   by_entry : (place : ℕ) (a b : GraphRow) → IsFitRow n place a → IsFitRow n place b → a.leg.enter.0 ≡ b.leg.enter.0 → a.by.0 ≡ b.by.0
-  by_entry place a b first second same =
-      let both : Some a.by.0 ≡ Some b.by.0 =
-      sym first.by ∙ ap (λ (enter : ℕ). option_and_then (earlier_by (dep_of n enter)) (way_of n place (from_of n enter))) same ∙ second.by in
-      cc
+  by_entry place a b first second same = grind arith
 
   first_row : GraphRow
   first_row = record { by = record { 0 = 0 }; leg = record { enter = record { 0 = 0 }; exit = record { 0 = 0 } } }
@@ -173,22 +145,10 @@ module _ (n : NetworkModel) (names : NameLists) (version : Version) (valid : IsV
       )
 
   place_record_kept : (t : PlaceTable) → IsFitTable n t → IsKept (place_record n names version t)
-  place_record_kept t own_table =
-      let there = table_there t own_table in
-      let change = valid.changes t.place.0 there in
-      let few = few_legs t own_table in
-      fields_kept version (codes "place") (place_name names t.place.0) (decimal (change_of n t.place.0)) (decimal (length t.rows)) [] [] [] [] []
-      refl (place_kept n names fit t.place.0 there) (decimal_kept (change_of n t.place.0) (omega (arith, change.1))) (decimal_kept (length t.rows) (omega (arith, few))) refl refl refl refl refl
+  place_record_kept t own_table = grind (arith, table_there, few_legs, fields_kept, codes, decimal, place_kept, decimal_kept)
 
   place_reports : (t : PlaceTable) → IsFitTable n t → IsPlaceRow n names version t.place.0 (length t.rows) (place_record n names version t)
-  place_reports t own_table =
-      let there = table_there t own_table in
-      record {
-        is_of_kind = by_version (λ v. is_place v (place_record n names v t) ≡ true) refl refl version;
-        name = place_back n names fit own t.place.0 there;
-        change = whole_back (change_of n t.place.0) (let small = (valid.changes t.place.0 there).1 in omega arith);
-        rows = whole_back (length t.rows) (let few = few_legs t own_table in omega arith);
-      }
+  place_reports t own_table = grind (arith, table_there, by_version, place_record, place_back, whole_back, few_legs)
 
   tables_back : (tables : List PlaceTable) → All (IsReportedTable n version) tables
       → AreKept (table_records n names version tables) × AreTableRows n names version tables (table_records n names version tables)
@@ -203,12 +163,7 @@ module _ (n : NetworkModel) (names : NameLists) (version : Version) (valid : IsV
 
   -- the first row
   head_kept : (head : Head) → IsPrintableQuery n head.query → IsKept (head_record names version head)
-  head_kept head asked =
-      fields_kept version (codes "graph") (number_of_version version) (place_name names head.query.source.0) (place_name names head.query.target.0)
-      (moment_text head.query.start.0) (moment_text head.query.deadline.0) (nanos_text head.bounds.lo) (nanos_text head.bounds.hi) []
-      refl (by_version (λ v. trimmed_text (number_of_version v) ≡ number_of_version v) refl refl version)
-      (place_kept n names fit head.query.source.0 asked.source) (place_kept n names fit head.query.target.0 asked.target)
-      (moment_kept head.query.start.0) (moment_kept head.query.deadline.0) (nanos_kept head.bounds.lo) (nanos_kept head.bounds.hi) refl
+  head_kept head asked = grind (arith, fields_kept, codes, by_version, place_kept, moment_kept, nanos_kept)
 
   head_reports : (head : Head) → IsPrintableQuery n head.query → head.bounds.lo ≤ head.bounds.hi → head.bounds.hi < 2 ^ 64 → IsHeadRow names version head (head_record names version head)
   head_reports head asked bounds small = record {
@@ -225,14 +180,8 @@ module _ (n : NetworkModel) (names : NameLists) (version : Version) (valid : IsV
   -- a graph that fits, by the start leg and the tables
   graph_printed : (head : Head) (start : Option Leg) (tables : List PlaceTable) → IsFit n head.query (record { start = start; tables = tables })
       → plan_text_in n names version head (record { start = start; tables = tables }) ≡ text_of_records (head_record names version head ∷ graph_records n names version start tables)
-  graph_printed head None tables own_graph =
-      ap (λ (test : Bool). row_of_fields (head_record names version head) ++ (if test then [] else tables_text n names version tables))
-      (eq-eqb head.query.source.0 head.query.target.0 own_graph.starts.0)
-  graph_printed head (Some leg) tables own_graph =
-      let first = row_of_fields (head_record names version head) in
-      let second = row_of_fields (leg_record n names version (codes "start") (moment_text (dep_of n leg.enter.0)) leg) in
-      ap (λ (test : Bool). first ++ (if test then [] else second ++ tables_text n names version tables)) (ne_eqb head.query.source.0 head.query.target.0 own_graph.starts.differ)
-      ∙ ap (λ (text : List ℕ). first ++ (second ++ text)) (tables_printed n names version tables)
+  graph_printed head None tables own_graph = grind (arith, head_record, eq-eqb)
+  graph_printed head (Some leg) tables own_graph = grind (arith, head_record, leg_record, codes, ne_eqb, tables_printed)
 
   graph_back : (q : Query) (start : Option Leg) (tables : List PlaceTable) → IsFit n q (record { start = start; tables = tables })
       → All (IsReportedTable n version) tables

@@ -1,47 +1,36 @@
 -- A row is read as what it says, and as nothing else.
 use Rattle.graph_text.proofs.Common.{◌≡◌, ℕ, ◌≤◌, Bool, true, List, Option, Some, None, Ok, arith, sym, subst, refl, ◌∙◌, ap, ◌==◌, nat_le, if◌then◌else◌, codes, option_map, option_and_then}
 use Rattle.graph_text.proofs.Common.{eqb-true, eq-eqb, leb-true, le-leb, false≢true, and_parts, moment_at, nanos_at, if_cases, some_cases, require-ok, Leg, NetworkModel, NameLists, IsValid}
-use Rattle.graph_text.proofs.Common.{change_of, connection, run_of, step_of, from_of, to_of, dep_of, arr_of, limit_of, GraphRow, IsLegOf, IsFitRow, Head, Version, LegRow, LegNames, PlaceRow}
-use Rattle.graph_text.proofs.Common.{HeadRow, TableStart, leg_names, names_in, leg_numbers, leg_row_in, leg_found, leg_between, agrees, equals_limit, can_start, is_by_limit, start_in, row_in}
-use Rattle.graph_text.proofs.Common.{place_numbers, place_row_in, table_in, are_in_order, head_numbers, head_row_in, head_of, head_in, width_of, IsHeadOf, is_place, is_head, version_in, IsLegRow}
-use Rattle.graph_text.proofs.Common.{IsPlaceRow, IsHeadRow, is_query, connection_of, number_of, rises, field, whole_at, is_kind, if-value}
+use Rattle.graph_text.proofs.Common.{change_of, connection, run_of, step_of, from_of, to_of, dep_of, arr_of, limit_of, GraphRow, IsLegOf, IsFitRow, Head, Version, LegRow, LegNames, PlaceRow, HeadRow}
+use Rattle.graph_text.proofs.Common.{TableStart, leg_names, names_in, leg_numbers, leg_row_in, leg_found, leg_between, agrees, equals_limit, can_start, is_by_limit, start_in, row_in, place_numbers}
+use Rattle.graph_text.proofs.Common.{place_row_in, table_in, are_in_order, head_numbers, head_row_in, head_of, head_in, width_of, IsHeadOf, is_place, is_head, version_in, IsLegRow, IsPlaceRow}
+use Rattle.graph_text.proofs.Common.{IsHeadRow, is_query, connection_of, number_of, rises, field, whole_at, is_kind, if-value}
 use Rattle.printed_rows.proofs.Found.{connection_back, connection_holds}
 
 -- ---- the row of a leg
 
 pub numbers_reported : (a b c d e : Option ℕ) (x : LegRow) → leg_numbers a b c d e ≡ Some x
     → (a ≡ Some x.moment.0) × (b ≡ Some x.enter) × (c ≡ Some x.dep.0) × (d ≡ Some x.exit) × (e ≡ Some x.arr.0)
-numbers_reported (Some a) (Some b) (Some c) (Some d) (Some e) x is =
-    let same : record { moment = record { 0 = a }; enter = b; dep = record { 0 = c }; exit = d; arr = record { 0 = e } } ≡ x = (cc) in
-    (ap (λ (y : LegRow). Some y.moment.0) same, (cc), ap (λ (y : LegRow). Some y.dep.0) same, (cc), ap (λ (y : LegRow). Some y.arr.0) same)
+numbers_reported (Some a) (Some b) (Some c) (Some d) (Some e) x is = grind arith
 numbers_reported _ _ _ _ _ x is = absurd (cc)
 
 pub names_reported : (a b c : Option ℕ) (known : LegNames) → option_and_then (λ run. option_and_then (λ exit. option_map (λ entry. leg_names run exit entry) c) b) a ≡ Some known
     → (a ≡ Some known.run.0) × (b ≡ Some known.exit.0) × (c ≡ Some known.entry.0)
-names_reported (Some a) (Some b) (Some c) known is =
-    let same : leg_names a b c ≡ known = (cc) in
-    (ap (λ (k : LegNames). Some k.run.0) same, ap (λ (k : LegNames). Some k.exit.0) same, ap (λ (k : LegNames). Some k.entry.0) same)
+names_reported (Some a) (Some b) (Some c) known is = grind arith
 names_reported _ _ _ known is = absurd (cc)
 
 found_reported : (test : ℕ → ℕ → Bool) (a b : Option ℕ) (leg : Leg) → option_and_then (λ i. option_and_then (λ j. if test i j then Some (leg_between i j) else None) b) a ≡ Some leg
     → (a ≡ Some leg.enter.0) × (b ≡ Some leg.exit.0) × (test leg.enter.0 leg.exit.0 ≡ true)
-found_reported test (Some i) (Some j) leg is =
-    let both = some_cases (test i j) (leg_between i j) leg is in
-    subst (λ (l : Leg). (Some i ≡ Some l.enter.0) × (Some j ≡ Some l.exit.0) × (test l.enter.0 l.exit.0 ≡ true)) both.1 (refl, refl, both.0)
+found_reported test (Some i) (Some j) leg is = grind (arith, some_cases)
 found_reported test _ _ leg is = absurd (cc)
 
 pub place_numbers_reported : (a b : Option ℕ) (x : PlaceRow) → place_numbers a b ≡ Some x → (a ≡ Some x.change) × (b ≡ Some x.count) × (1 ≤ x.count)
-place_numbers_reported (Some a) (Some b) x is =
-    let some = some_cases (nat_le 1 b) _ x is in
-    subst (λ (y : PlaceRow). (Some a ≡ Some y.change) × (Some b ≡ Some y.count) × (1 ≤ y.count)) some.1 (refl, refl, leb-true _ _ some.0)
+place_numbers_reported (Some a) (Some b) x is = grind (arith, some_cases, leb-true)
 place_numbers_reported _ _ x is = absurd (cc)
 
 pub head_numbers_reported : (a b c d : Option ℕ) (x : HeadRow) → head_numbers a b c d ≡ Some x
     → (a ≡ Some x.start.0) × (b ≡ Some x.deadline.0) × (c ≡ Some x.lo) × (d ≡ Some x.hi) × (are_in_order x.start.0 x.deadline.0 x.lo x.hi ≡ true)
-head_numbers_reported (Some a) (Some b) (Some c) (Some d) x is =
-    let order = some_cases (are_in_order a b c d) _ x is in
-    subst (λ (y : HeadRow). (Some a ≡ Some y.start.0) × (Some b ≡ Some y.deadline.0) × (Some c ≡ Some y.lo) × (Some d ≡ Some y.hi) × (are_in_order y.start.0 y.deadline.0 y.lo y.hi ≡ true))
-    order.1 (refl, refl, refl, refl, order.0)
+head_numbers_reported (Some a) (Some b) (Some c) (Some d) x is = grind (arith, some_cases)
 head_numbers_reported _ _ _ _ x is = absurd (cc)
 
 module _ (n : NetworkModel) (names : NameLists) (version : Version) (kind : List ℕ) (place : ℕ) (r : List (List ℕ)) where
@@ -102,20 +91,10 @@ module _ (n : NetworkModel) (names : NameLists) (version : Version) (kind : List
     names_read = rw (reported.run, reported.to, reported.from) refl
 
     all_agree : agrees n leg.enter.0 leg.exit.0 numbers known ≡ true
-    all_agree = rw (
-      le-leb (step_of n leg.enter.0) (step_of n leg.exit.0) is_leg.onward,
-      is_leg.board,
-      is_leg.leave,
-      eq-eqb (dep_of n leg.enter.0) (dep_of n leg.enter.0) refl,
-      eq-eqb (from_of n leg.enter.0) (from_of n leg.enter.0) refl,
-      eq-eqb (to_of n leg.exit.0) (to_of n leg.exit.0) refl,
-      eq-eqb (arr_of n leg.exit.0) (arr_of n leg.exit.0) refl,
-    ) refl
+    all_agree = grind (arith, le-leb, eq-eqb)
 
     found_read : leg_found n numbers known ≡ Some leg
-    found_read =
-        let exit = ap (λ (run : ℕ). connection_of n run (step_of n leg.exit.0)) is_leg.one_run ∙ connection_back n valid leg.exit.0 is_leg.exit in
-        rw (connection_back n valid leg.enter.0 is_leg.enter, exit, all_agree) refl
+    found_read = grind (arith, connection_back, all_agree)
 
 -- ---- the rows of a graph
 
@@ -141,15 +120,7 @@ module _ (n : NetworkModel) (names : NameLists) (version : Version) (line : ℕ)
 
   pub start_read : IsValid n → (source start : ℕ) (leg : Leg) → IsLegRow n names version (codes "start") source (dep_of n leg.enter.0) leg r → IsLegOf n leg
       → from_of n leg.enter.0 ≡ source → start ≤ dep_of n leg.enter.0 → start_in n names version line source start r ≡ Ok leg
-  start_read valid source start leg reported is_leg leaves in_time =
-      rw (
-        numbers_read n names version (codes "start") source r valid (dep_of n leg.enter.0) leg is_leg reported,
-        names_read n names version (codes "start") source r valid (dep_of n leg.enter.0) leg is_leg reported,
-        found_read n names version (codes "start") source r valid (dep_of n leg.enter.0) leg is_leg reported,
-        eq-eqb (from_of n leg.enter.0) source leaves,
-        eq-eqb (dep_of n leg.enter.0) (dep_of n leg.enter.0) refl,
-        le-leb start (dep_of n leg.enter.0) in_time,
-      ) refl
+  start_read valid source start leg reported is_leg leaves in_time = grind (arith, numbers_read, codes, names_read, found_read, eq-eqb, le-leb)
 
   -- a row of a table
   pub row_reported : (place : ℕ) (last : Option ℕ) (row : GraphRow) → row_in n names version line place last r ≡ Ok row
@@ -171,15 +142,7 @@ module _ (n : NetworkModel) (names : NameLists) (version : Version) (line : ℕ)
 
   pub row_read : IsValid n → (place : ℕ) (last : Option ℕ) (row : GraphRow) → rises last row.by.0 ≡ true → IsLegRow n names version (codes "leg") place row.by.0 row.leg r → IsFitRow n place row
       → row_in n names version line place last r ≡ Ok row
-  row_read valid place last row later reported fit =
-      rw (
-        numbers_read n names version (codes "leg") place r valid row.by.0 row.leg fit.is_leg reported,
-        names_read n names version (codes "leg") place r valid row.by.0 row.leg fit.is_leg reported,
-        later,
-        found_read n names version (codes "leg") place r valid row.by.0 row.leg fit.is_leg reported,
-        fit.by,
-        eq-eqb row.by.0 row.by.0 refl,
-      ) refl
+  row_read valid place last row later reported fit = grind (arith, numbers_read, codes, names_read, found_read, eq-eqb)
 
   -- a place row
   pub table_reported : (last : Option ℕ) (t : TableStart) → table_in n names version line last r ≡ Ok t
@@ -196,8 +159,7 @@ module _ (n : NetworkModel) (names : NameLists) (version : Version) (line : ℕ)
       (up.0, record { is_of_kind = row.0; name = place.1; change = numbers.0 ∙ ap Some (eqb-true _ _ change.0); rows = numbers.1 }, numbers.2)
 
   pub table_read : (last : Option ℕ) (t : TableStart) → rises last t.place.0 ≡ true → IsPlaceRow n names version t.place.0 t.count r → 1 ≤ t.count → table_in n names version line last r ≡ Ok t
-  table_read last t later reported some =
-      rw (reported.is_of_kind, reported.change, reported.rows, le-leb 1 t.count some, reported.name, later, eq-eqb (change_of n t.place.0) (change_of n t.place.0) refl) refl
+  table_read last t later reported some = grind (arith, le-leb, eq-eqb)
 
 -- the first row
 module _ (names : NameLists) (version : Version) (r : List (List ℕ)) (number : version_in r ≡ Some version) where
@@ -236,19 +198,4 @@ module _ (names : NameLists) (version : Version) (r : List (List ℕ)) (number :
 
   pub head_read : (head : Head) → IsHeadRow names version head r → head.query.start.0 ≤ head.query.deadline.0 → head.bounds.lo ≤ head.bounds.hi
       → head_in names version head.query.source.0 head.query.target.0 head.query.start.0 r ≡ Ok head
-  head_read head reported in_time bounds =
-      let q = head.query in
-      rw (
-        reported.is_of_kind,
-        reported.start,
-        reported.deadline,
-        reported.lo,
-        reported.hi,
-        le-leb q.start.0 q.deadline.0 in_time,
-        le-leb head.bounds.lo head.bounds.hi bounds,
-        reported.source,
-        reported.target,
-        eq-eqb q.source.0 q.source.0 refl,
-        eq-eqb q.target.0 q.target.0 refl,
-        eq-eqb q.start.0 q.start.0 refl,
-      ) refl
+  head_read head reported in_time bounds = grind (arith, le-leb, eq-eqb)

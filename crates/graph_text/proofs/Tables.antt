@@ -1,10 +1,9 @@
 -- A step of reading, and the rows of tables, which are read as the tables that they give, and as no others.
 use Rattle.graph_text.proofs.Common.{◌≡◌, ℕ, ◌+◌, ◌<◌, List, [], ◌∷◌, length, drop, Option, Some, Ok, Err, Result, arith, sym, ap, subst, refl, ◌∙◌, ◌≢◌, suc, ◌-◌, ◌≤◌, true, ◌++◌, None, All}
-use Rattle.graph_text.proofs.Common.{AllPairs, inl, inr, append_assoc, ◌==◌, slice_index_or, if◌then◌else◌, codes, option_map, IsErr, IsErrAnd, ne_eqb, eqb-true, eq-eqb, ltb-true, lt-ltb}
-use Rattle.graph_text.proofs.Common.{append-nil, cases_eq, and_then, PlaceId, NetworkModel, NameLists, PlaceTable, PlanGraph, Head, Version, Reading, TextFault, split_at, version_in, IsLegRow}
-use Rattle.graph_text.proofs.Common.{IsPlaceRow, AreLegRows, AreTableRows, after_leg_row, row_in, step, IsUnlessNoMemory, place_or_first, place_tables_from, graph_after_first, head_in}
-use Rattle.graph_text.proofs.Common.{graph_of_records, table_in, after_place_row, no_tables, All-cons, All-nil, All-head, All-tail, IsValid, GraphRow, IsFitRow, IsFitTable, TableStart, rises}
-use Rattle.graph_text.proofs.Common.{and_then-value, if-value}
+use Rattle.graph_text.proofs.Common.{AllPairs, inl, inr, append_assoc, ◌==◌, slice_index_or, if◌then◌else◌, codes, option_map, IsErr, IsErrAnd, ne_eqb, eqb-true, eq-eqb, ltb-true, lt-ltb, append-nil}
+use Rattle.graph_text.proofs.Common.{cases_eq, and_then, PlaceId, NetworkModel, NameLists, PlaceTable, PlanGraph, Head, Version, Reading, TextFault, split_at, version_in, IsLegRow, AreLegRows}
+use Rattle.graph_text.proofs.Common.{AreTableRows, after_leg_row, row_in, step, IsUnlessNoMemory, place_or_first, place_tables_from, graph_after_first, head_in, graph_of_records, table_in}
+use Rattle.graph_text.proofs.Common.{after_place_row, no_tables, All-cons, All-nil, All-head, All-tail, IsValid, GraphRow, IsFitRow, IsFitTable, TableStart, rises, and_then-value, if-value}
 use Rattle.graph_text.specs.declared.reader.TextFault.TheVariants as f
 use Rattle.std.proofs.lemmas.List.Kept.{AllPairs-cons}
 use Rattle.plan_model.specs.declared.model.Moment.{Moment}
@@ -13,9 +12,7 @@ use Rattle.graph_text.proofs.Rows.{row_reported, row_read, table_reported, table
 -- where leg rows are to come
 pub leg_step : (n : NetworkModel) (names : NameLists) (version : Version) (line : ℕ) (r : List (List ℕ)) (s : Reading) (place : PlaceId) → (s.remaining ≡ 0 → ⊥)
     → s.place ≡ Some place → after_leg_row s (row_in n names version line place.0 (option_map (λ moment. moment.0) s.by) r) ≡ step n names version line r s
-leg_step n names version line r s place some is =
-    sym (rw (ne_eqb s.remaining 0 some) (ap (λ (p : Option PlaceId). after_leg_row s (row_in n names version line (place_or_first p).0
-    (option_map (λ moment. moment.0) s.by) r)) is))
+leg_step n names version line r s place some is = grind (arith, ne_eqb)
 
 -- what is read where a step failed is so of what `?` raises again
 pub read_raised : {A : Type 0} (fault : TextFault) (r reported : Result A TextFault) → IsErr r × IsErrAnd r (λ raised. raised ≡ fault)
@@ -32,15 +29,12 @@ fault_on _ reported next is = ap (λ r. and_then r next) is
 pub tables_after : (n : NetworkModel) (names : NameLists) (version : Version) (rows : List (List (List ℕ))) (line i : ℕ) (s now : Reading) → i < length rows
     → step n names version line (slice_index_or rows i []) s ≡ Ok now
     → place_tables_from n names version (drop i rows) line s ≡ place_tables_from n names version (drop (i + 1) rows) (line + 1) now
-tables_after n names version rows line i s now within is =
-    rw (split_at rows i [] within, is) refl
+tables_after n names version rows line i s now within is = grind (arith, split_at)
 
 pub tables_fail : (n : NetworkModel) (names : NameLists) (version : Version) (rows : List (List (List ℕ))) (line i : ℕ) (s : Reading) (fault : TextFault)
     → i < length rows → IsUnlessNoMemory {A = Reading} (Err fault) (step n names version line (slice_index_or rows i []) s)
     → IsUnlessNoMemory {A = List PlaceTable} (Err fault) (place_tables_from n names version (drop i rows) line s)
-tables_fail n names version rows line i s fault within reported =
-    rw (split_at rows i [] within)
-    (fault_on fault (step n names version line (slice_index_or rows i []) s) (place_tables_from n names version (drop (i + 1) rows) (line + 1)) reported)
+tables_fail n names version rows line i s fault within reported = grind (arith, split_at, fault_on)
 
 -- what the first row and the graph of the others give together
 pub reported_by : (n : NetworkModel) (names : NameLists) (version : Version) (source target start : ℕ) (rows : List (List (List ℕ))) (head : Head) (r : Result (Head × PlanGraph) TextFault)
@@ -148,11 +142,7 @@ module _ (n : NetworkModel) (names : NameLists) (version : Version) where
           split = refl;
           many = sym none;
           legs = (tt, All-nil (IsFitRow n (place_or_first s.place).0), tt);
-          table_rows = (
-            (subst (λ k. IsPlaceRow n names version t.place.0 k r) (sym next.many) reported.1, (next.own, next.rest, next.split, next.legs.0, next.table_rows.0)),
-            All-cons (IsFitTable n) (record { place = t.place; rows = next.later }) next.more table next.table_rows.1,
-            (reported.0, next.table_rows.2),
-          );
+          table_rows = grind (arith, All-cons);
           closed = λ none_remain. next.opened (λ no_rows. omega (arith, no_rows, reported.2));
           opened = λ some. absurd (some none);
         }
@@ -169,11 +159,7 @@ module _ (n : NetworkModel) (names : NameLists) (version : Version) where
             more = next.more;
             split = ap (λ (list : List (List (List ℕ))). r ∷ list) (next.split ∙ ap (λ (list : List (List (List ℕ))). list ++ next.rest) none);
             many = sym one;
-            legs = (
-              (reported.1, tt),
-              All-cons (IsFitRow n (place_or_first s.place).0) row [] reported.2 (All-nil (IsFitRow n (place_or_first s.place).0)),
-              (reported.0, tt),
-            );
+            legs = grind (arith, All-cons, All-nil);
             table_rows = next.table_rows;
             closed = λ none_remain. absurd (omega (arith, none_remain, one));
             opened = λ some. next.closed refl ∙ append_assoc s.done ((record { place = place_or_first s.place; rows = s.rows ++ row ∷ [] }) ∷ []) next.more;
@@ -192,29 +178,19 @@ module _ (n : NetworkModel) (names : NameLists) (version : Version) where
             legs = ((reported.1, next.legs.0), All-cons (IsFitRow n (place_or_first s.place).0) row next.later reported.2 next.legs.1, (reported.0, next.legs.2));
             table_rows = next.table_rows;
             closed = λ none_remain. absurd (some none_remain);
-            opened = λ more. next.opened (λ none_remain. omega arith)
-                ∙ ap (λ (rows : List GraphRow). s.done ++ (record { place = place_or_first s.place; rows = rows }) ∷ next.more) (append_assoc s.rows (row ∷ []) next.later);
+            opened = grind (arith, append_assoc);
           }
 
     after_step : (now : Reading) → step n names version line r s ≡ Ok now → Continues now rs tables → Continues s (r ∷ rs) tables
     after_step now is next = elim (cases_eq s.remaining 0) [
-      | inl none ↦
-          let (t, reported, same) = place_row_is s now (table_in n names version line (option_map (λ place. place.0) s.place) r)
-          (rw (eq-eqb s.remaining 0 none) at is) in
-          with_place t none reported (subst (λ u. Continues u rs tables) (sym same) next)
+      | inl none ↦ grind (arith, place_row_is, eq-eqb, with_place)
       | inr some ↦
           let place = (place_or_first s.place).0 in
           let (row, reported, more) = leg_row_is s now (row_in n names version line place (option_map (λ moment. moment.0) s.by) r)
           (rw (ne_eqb s.remaining 0 some) at is) in
           elim (cases_eq s.remaining 1) [
-            | inl one ↦
-                let last = rw (eq-eqb s.remaining 1 one) at more in
-                let same : after_last s row ≡ now = (cc) in
-                with_last row reported one (subst (λ u. Continues u rs tables) (sym same) next)
-            | inr many ↦
-                let further = rw (ne_eqb s.remaining 1 many) at more in
-                let same : after_row s row ≡ now = (cc) in
-                with_row row reported some many (subst (λ u. Continues u rs tables) (sym same) next)
+            | inl one ↦ grind (arith, eq-eqb, after_last, with_last)
+            | inr many ↦ grind (arith, ne_eqb, after_row, with_row)
           ]
     ]
 
