@@ -1,7 +1,6 @@
 -- A feed's trips are timed: their kept rows are at places of the feed, and no time goes back.
-use Rattle.gtfs_tables.proofs.Common.{◌≡◌, ℕ, ◌<◌, ◌==◌, Bool, true, false, List, length, slice_index, Option, Some, None, IfSome, if◌then◌else◌, refl, sym, ap, arith, unwrap_or, number_in}
-use Rattle.gtfs_tables.proofs.Common.{row_count, field, StopId, TripId, FeedParts, IsSoundFeed, stop_ids, stop_places, place_from, parent_of, trip_ids, length-list_below, get-list_below, AreTimed}
-use Rattle.gtfs_tables.proofs.Common.{IsTimed, rows_of}
+use Rattle.gtfs_tables.proofs.Common.{◌≡◌, ℕ, ◌<◌, ◌==◌, Bool, true, false, List, length, slice_index, Option, Some, None, IfSome, if◌then◌else◌, refl, sym, arith, unwrap_or, number_in, row_count}
+use Rattle.gtfs_tables.proofs.Common.{field, StopId, FeedParts, IsSoundFeed, stop_ids, stop_places, place_from, parent_of, length-list_below, get-list_below, AreTimed, IsTimed, rows_of}
 use Rattle.csv_rows.proofs.RowLemmas.{number_inside}
 use Rattle.stop_times.proofs.NoFault.{AreInOrder, kept_in_order}
 
@@ -30,25 +29,10 @@ module _ (f : FeedParts) (s : IsSoundFeed f) where
 
   -- the place of each stop is one of the stops
   pub place_below : (stop : ℕ) → stop < length f.stop_ids → slice_index f.places stop < length f.stop_ids
-  place_below stop inside =
-      let count : stops ≡ row_count s.tables.stops = length-list_below (field s.tables.stops StopId) (row_count s.tables.stops) in
-      let same = ap (λ (places : List ℕ). slice_index places stop) s.feed.places_of_stops in
-      omega (arith, same, place_is_stop s.tables.stops stop (omega (arith, inside, count, ap length s.feed.stops)), count, ap length s.feed.stops)
+  place_below stop inside = grind (arith, stops, length-list_below, place_is_stop)
 
   timed : (trip : ℕ) → AreInOrder stops (stop_places s.tables.stops) (rows_of f trip) → AreTimed (rows_of f trip) (length f.stop_ids)
-  timed trip o =
-      let count : stops ≡ row_count s.tables.stops = length-list_below (field s.tables.stops StopId) (row_count s.tables.stops) in
-      record {
-        few = o.few;
-        place = λ k h. let v = o.visit k h in omega (arith, v.place, place_is_stop s.tables.stops v.stop (omega (arith, v.inside, count)), count, ap length s.feed.stops);
-        forward = o.forward;
-        early = λ k h. (o.visit k h).departure;
-        onward = o.onward;
-      }
+  timed trip o = grind (arith, stops, length-list_below, place_is_stop)
 
   pub is_timed : IsTimed f
-  is_timed trip h =
-      let inside : trip < row_count s.tables.trips = omega (arith, h, ap length s.feed.trips, length-list_below (field s.tables.trips TripId) (row_count s.tables.trips)) in
-      timed trip
-      (kept_in_order (trip_ids s.tables.trips) (stop_ids s.tables.stops) (stop_places s.tables.stops) s.tables.stop_times s.stop_times
-      trip (rows_of f trip) (s.feed.times trip inside))
+  is_timed trip h = grind (arith, length-list_below, timed, kept_in_order)

@@ -1,7 +1,6 @@
 -- The tables of a feed, one after the other.
-use Rattle.gtfs_tables.proofs.Common.{◌≡◌, ◌≢◌, ℕ, ◌==◌, false, List, [], length, slice_index_or, Option, Some, None, IfSome, refl, sym, ap, ap₂, ◌∙◌, subst, arith, Result, Ok, Err, IfOk, IsErr}
-use Rattle.gtfs_tables.proofs.Common.{and_then, TripId, Stops, Routes, Trips, StopTimes, Frequencies, FeedFault, NoMemory, Loaded, loaded_rows, load_in, row_count, field, stop_ids, stop_places}
-use Rattle.gtfs_tables.proofs.Common.{trip_ids, trip_routes, trip_services, trip_types, trips_fault, frequency_rows, fault_of_frequencies, all_repeats_of, frequencies_from, Tables, tables_by}
+use Rattle.gtfs_tables.proofs.Common.{◌≡◌, ◌≢◌, ℕ, ◌==◌, false, List, Option, Some, None, IfSome, sym, ap, ap₂, ◌∙◌, subst, arith, Result, Ok, Err, IfOk, IsErr, and_then, Stops, Routes, Trips}
+use Rattle.gtfs_tables.proofs.Common.{StopTimes, Frequencies, FeedFault, NoMemory, Loaded, load_in, stop_ids, trip_ids, trips_fault, fault_of_frequencies, frequencies_from, Tables, tables_by}
 use Rattle.gtfs_tables.proofs.Common.{tables_from, tables_in, IsFeed, IsFeedOf, IsSoundFeed, length-list_below, and_then-err}
 use Rattle.std.proofs.lemmas.Result.{IfOk-from_err}
 use Rattle.file_ports.specs.Ports.{FileMap}
@@ -9,8 +8,7 @@ use Rattle.csv_rows.specs.declared.feed_tables.Table.{Table}
 use Rattle.csv_rows.specs.declared.limits.Limits.{Limits}
 use Rattle.csv_rows.specs.FeedTables.{rank_of, unread_table, IsFaultOf}
 use Rattle.stop_times.specs.declared.rows.StopRow.{StopRow}
-use Rattle.stop_times.specs.StopTimes.{timed_rows, stop_times_fault}
-use Rattle.stop_times.specs.Visits.{AreStopTimes}
+use Rattle.stop_times.specs.StopTimes.{stop_times_fault}
 use Rattle.table_files.specs.Required.{Records}
 use Rattle.stop_times.specs.Timetables.{stop_times_from, AreVisits}
 use Rattle.feed_lists.specs.Lists.{stops_from, routes_from, trips_from, HasStops, HasRoutes, HasTrips}
@@ -27,23 +25,7 @@ if_same o o' P e h = subst (λ (z : Option _). IfSome z P) e h
 -- what was read is the feed of its tables
 is_feed : (l : FeedLists) (t : TripTimes) (s r d x : Records) (q : Loaded) → HasStops (Ok s) l.stops → HasRoutes (Ok r) l.routes → HasTrips l.routes (Ok d) l.trips
     → HasVisits (Ok x) l t → HasRepeats (Ok q) l t → IsFeed (record { stops = s; routes = r; trips = d; stop_times = x; frequencies = q }) (parts_by l t)
-is_feed l t s r d x q stops routes trips v u =
-    let count : length l.trips.ids ≡ row_count d = ap length trips.0 ∙ length-list_below (field d TripId) (row_count d) in
-    let places = l.stops.places.items in
-    let timed : timed_rows l.trips.ids l.stops.ids places x ≡ timed_rows (trip_ids d) (stop_ids s) (stop_places s) x
-    = ap₂ (λ z w. timed_rows z w places x) trips.0 stops.0 ∙ ap (λ w. timed_rows (trip_ids d) (stop_ids s) w x) stops.1 in
-    record {
-      stops = stops.0;
-      places_of_stops = stops.1;
-      trips = trips.0;
-      services_of_trips = trips.1 ∙ ap (λ z. trip_services z d) routes.0;
-      types_of_trips = trips.2 ∙ ap₂ (λ z w. trip_types z w d) routes.0 routes.1;
-      routes = routes.0;
-      routes_of_trips = trips.3 ∙ ap (λ z. trip_routes z d) routes.0;
-      size = v.0 ∙ count;
-      times = λ trip h. subst (λ z. AreStopTimes z trip (slice_index_or t.visits trip [])) timed (v.1 trip (omega (arith, h, count)));
-      frequencies_of_trips = u ∙ ap₂ (λ z n. all_repeats_of (frequency_rows z (loaded_rows q)) n) trips.0 count;
-    }
+is_feed l t s r d x q stops routes trips v u = grind (arith, length-list_below)
 
 abbrev TripsBy : Type 0
 TripsBy = List (List ℕ) → Result Records FeedFault
@@ -78,17 +60,7 @@ module _ (t : TripsBy) (x : TimesBy) (q : FrequenciesBy) where
 
   are_read : (s r d : Result Records FeedFault) (l : FeedLists) → HasStops s l.stops → HasRoutes r l.routes → t l.routes.ids ≡ d → HasTrips l.routes d l.trips
       → AreRead l (tables_by s r t x q) (x l.trips.ids l.stops.ids l.stops.places.items) (q l.trips.ids)
-  are_read (Ok s) (Ok r) (Ok d) l a b e c = record {
-    stops = s;
-    routes = r;
-    trips = d;
-    stops_are = a;
-    routes_are = b;
-    trips_are = c;
-    is = ap (λ z. tables_by (Ok s) (Ok r) (λ _. z) x q) (ap t (sym b.0) ∙ e)
-        ∙ (λ i. and_then (x (sym c.0 i) (sym a.0 i) (sym a.1 i)) (λ y.
-        and_then (q (sym c.0 i)) (λ z. Ok (record { stops = s; routes = r; trips = d; stop_times = y; frequencies = z }))));
-  }
+  are_read (Ok s) (Ok r) (Ok d) l a b e c = grind arith
   are_read (Ok s) (Ok r) (Err f) l a b e c = absurd c
   are_read (Ok s) (Err f) d l a b e c = absurd b
   are_read (Err f) r d l a b e c = absurd a
@@ -96,8 +68,7 @@ module _ (t : TripsBy) (x : TimesBy) (q : FrequenciesBy) where
 module _ (l : FeedLists) (tables : Result Tables FeedFault) where
   repeats_stop : (x : Result Records FeedFault) (q : Result Loaded FeedFault) (visits : List (List StopRow)) (f : FeedFault) → AreRead l tables x q
       → AreVisits l.trips.ids l.stops.ids l.stops.places.items x visits → q ≡ Err f → tables ≡ Err f
-  repeats_stop (Ok x) q visits f w v h =
-      w.is ∙ and_then-err q f (λ z. Ok (record { stops = w.stops; routes = w.routes; trips = w.trips; stop_times = x; frequencies = z })) h
+  repeats_stop (Ok x) q visits f w v h = grind (arith, and_then-err)
   repeats_stop (Err e) q visits f w v h = absurd v
 
   feed_of : (x : Result Records FeedFault) (q : Result Loaded FeedFault) (t : TripTimes) → AreRead l tables x q → HasVisits x l t → HasRepeats q l t → IsFeedOf tables (parts_by l t)
@@ -112,9 +83,7 @@ module _ (load : Table → Result Loaded FeedFault) where
   times_by l = stop_times_from (load StopTimes) l.trips.ids l.stops.ids l.stops.places.items
 
   lists_read : (l : FeedLists) → AreLists load l → AreRead l (tables_from load) (times_by l) (frequencies_from (load Frequencies) l.trips.ids)
-  lists_read l a =
-      are_read (trips_from (load Trips)) (stop_times_from (load StopTimes)) (frequencies_from (load Frequencies)) (stops_from (load Stops)) (routes_from (load Routes))
-      (trips_from (load Trips) l.routes.ids) l a.stops a.routes refl a.trips
+  lists_read l a = grind (arith, are_read)
 
 -- and of a folder, where it is known
 module _ (folder : List ℕ) (limits : Limits) where
@@ -122,8 +91,7 @@ module _ (folder : List ℕ) (limits : Limits) where
       → IfSome o (λ m. f ≢ NoMemory → tables_in m folder limits (unread_table f) ≡ Err f)
   unfolding tables_in
   fault_at_stops None f h = tt
-  fault_at_stops (Some m) f h = λ free. let load = load_in m folder limits (unread_table f) in
-      ap (λ z. tables_by z (routes_from (load Routes)) (trips_from (load Trips)) (stop_times_from (load StopTimes)) (frequencies_from (load Frequencies))) (h free)
+  fault_at_stops (Some m) f h = grind arith
 
   pub fault_at_routes : (stops : StopLists) (o : Option FileMap) (f : FeedFault) → IsFaultOf Routes f
       → IfSome o (λ m. HasStops (stops_from (load_in m folder limits None Stops)) stops)
@@ -131,9 +99,7 @@ module _ (folder : List ℕ) (limits : Limits) where
       → IfSome o (λ m. f ≢ NoMemory → tables_in m folder limits (unread_table f) ≡ Err f)
   unfolding tables_in
   fault_at_routes stops None f own a h = tt
-  fault_at_routes stops (Some m) f own a h = λ free. let load = load_in m folder limits (unread_table f) in
-      routes_stop (trips_from (load Trips)) (stop_times_from (load StopTimes)) (frequencies_from (load Frequencies)) (stops_from (load Stops)) (routes_from (load Routes)) stops f
-      (subst (λ z. HasStops (stops_from z) stops) (sym (load_in-other m folder limits f Routes Stops own refl)) a) (h free)
+  fault_at_routes stops (Some m) f own a h = grind (arith, routes_stop, load_in-other)
 
   pub fault_at_trips : (stops : StopLists) (routes : RouteLists) (o : Option FileMap) (f : FeedFault) → IsFaultOf Trips f
       → IfSome o (λ m. HasStops (stops_from (load_in m folder limits None Stops)) stops)
@@ -142,10 +108,7 @@ module _ (folder : List ℕ) (limits : Limits) where
       → IfSome o (λ m. f ≢ NoMemory → tables_in m folder limits (unread_table f) ≡ Err f)
   unfolding tables_in
   fault_at_trips stops routes None f own a b h = tt
-  fault_at_trips stops routes (Some m) f own a b h = λ free. let load = load_in m folder limits (unread_table f) in
-      trips_stop (trips_from (load Trips)) (stop_times_from (load StopTimes)) (frequencies_from (load Frequencies)) (stops_from (load Stops)) (routes_from (load Routes)) stops routes f
-      (subst (λ z. HasStops (stops_from z) stops) (sym (load_in-other m folder limits f Trips Stops own refl)) a)
-      (subst (λ z. HasRoutes (routes_from z) routes) (sym (load_in-other m folder limits f Trips Routes own refl)) b) (h free)
+  fault_at_trips stops routes (Some m) f own a b h = grind (arith, trips_stop, load_in-other)
 
   -- stops, routes and trips that were read, put together
   module _ (l : FeedLists) where
@@ -159,20 +122,14 @@ module _ (folder : List ℕ) (limits : Limits) where
     beside : (m : FileMap) (f : FeedFault) (table : Table) → IsFaultOf table f
         → (rank_of table == 0) ≡ false → (rank_of table == 1) ≡ false → (rank_of table == 2) ≡ false
         → AreLists (load_in m folder limits None) l → AreLists (load_in m folder limits (unread_table f)) l
-    beside m f table own s r t a = record {
-      stops = subst (λ z. HasStops (stops_from z) l.stops) (sym (load_in-other m folder limits f table Stops own s)) a.stops;
-      routes = subst (λ z. HasRoutes (routes_from z) l.routes) (sym (load_in-other m folder limits f table Routes own r)) a.routes;
-      trips = subst (λ z. HasTrips l.routes (trips_from z l.routes.ids) l.trips) (sym (load_in-other m folder limits f table Trips own t)) a.trips;
-    }
+    beside m f table own s r t a = grind (arith, load_in-other)
 
     pub fault_at_times : (o : Option FileMap) (f : FeedFault) → IsFaultOf StopTimes f
         → IfSome o (λ m. f ≢ NoMemory → times_by (load_in m folder limits (unread_table f)) l ≡ Err f)
         → IfSome o (λ m. f ≢ NoMemory → AreLists (load_in m folder limits None) l → tables_in m folder limits (unread_table f) ≡ Err f)
     unfolding tables_in
     fault_at_times None f own h = tt
-    fault_at_times (Some m) f own h = λ free are.
-        let w = lists_read (load_in m folder limits (unread_table f)) l (beside m f StopTimes own refl refl refl are) in
-        w.is ∙ and_then-err (times_by (load_in m folder limits (unread_table f)) l) f _ (h free)
+    fault_at_times (Some m) f own h = grind (arith, lists_read, beside, and_then-err, times_by)
 
     pub fault_at_repeats : (visits : List (List StopRow)) (o : Option FileMap) (f : FeedFault) → IsFaultOf Frequencies f
         → IfSome o (λ m. AreVisits l.trips.ids l.stops.ids l.stops.places.items (times_by (load_in m folder limits None) l) visits)
@@ -180,12 +137,7 @@ module _ (folder : List ℕ) (limits : Limits) where
         → IfSome o (λ m. f ≢ NoMemory → AreLists (load_in m folder limits None) l → tables_in m folder limits (unread_table f) ≡ Err f)
     unfolding tables_in
     fault_at_repeats visits None f own v h = tt
-    fault_at_repeats visits (Some m) f own v h = λ free are.
-        let load = load_in m folder limits (unread_table f) in
-        repeats_stop l (tables_from load) (times_by load l) (frequencies_from (load Frequencies) l.trips.ids) visits f (lists_read load l (beside m f Frequencies own refl refl refl are))
-        (subst (λ z. AreVisits l.trips.ids l.stops.ids l.stops.places.items (stop_times_from z l.trips.ids l.stops.ids l.stops.places.items) visits)
-        (sym (load_in-other m folder limits f Frequencies StopTimes own refl)) v)
-        (h free)
+    fault_at_repeats visits (Some m) f own v h = grind (arith, repeats_stop, times_by, lists_read, beside, load_in-other)
 
     module _ (t : TripTimes) where
       pub times_of : (o : Option FileMap) → IfSome o (λ m. HasVisits (times_by (load_in m folder limits None) l) l t)

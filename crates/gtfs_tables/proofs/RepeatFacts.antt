@@ -1,9 +1,9 @@
 -- The rows of frequencies of a feed's trips are within their bounds, and their lines rise.
 use Rattle.gtfs_tables.proofs.Common.{◌≡◌, ℕ, ◌+◌, ◌<◌, ◌≤◌, ◌==◌, Bool, true, false, List, [], map, length, slice_index_or, Option, Some, None, if◌then◌else◌, filter, refl, sym, ap, ◌∙◌, subst}
-use Rattle.gtfs_tables.proofs.Common.{arith, ⊎_elim, Result, Ok, Err, option_and_then, AllPairs, eq-eqb, cases_lt, value_or, TripId, StartTime, EndTime, HeadwaySecs, ExactTimes, Frequencies}
-use Rattle.gtfs_tables.proofs.Common.{FeedFault, BadField, UnknownKey, Loaded, loaded_rows, row_count, number_in, field, field_at, length-list_below, get-list_below, FrequencyRow, FeedParts}
-use Rattle.gtfs_tables.proofs.Common.{IsSoundFeed, frequency_from, frequency_columns, frequency_at, frequency_rows, bad_frequency, no_frequency, frequencies_fault, fault_of_frequencies}
-use Rattle.gtfs_tables.proofs.Common.{repeats_of, IsFrequency, AreRepeats, AreRepeating, trip_ids, require-ok}
+use Rattle.gtfs_tables.proofs.Common.{arith, Result, Ok, Err, option_and_then, AllPairs, eq-eqb, cases_lt, value_or, TripId, StartTime, EndTime, HeadwaySecs, ExactTimes, Frequencies, FeedFault}
+use Rattle.gtfs_tables.proofs.Common.{BadField, UnknownKey, Loaded, loaded_rows, row_count, number_in, field, field_at, length-list_below, get-list_below, FrequencyRow, FeedParts, IsSoundFeed}
+use Rattle.gtfs_tables.proofs.Common.{frequency_from, frequency_columns, frequency_at, frequency_rows, bad_frequency, no_frequency, frequencies_fault, fault_of_frequencies, repeats_of, IsFrequency}
+use Rattle.gtfs_tables.proofs.Common.{AreRepeats, AreRepeating, trip_ids, require-ok}
 use Rattle.std.proofs.lemmas.List.{get_or-map, length-map}
 use Rattle.std.proofs.lemmas.List.Elements.{All-filter, All-map}
 use Rattle.std.proofs.lemmas.List.Kept.{AllPairs-filter}
@@ -28,11 +28,7 @@ record IsFormed (line : ℕ) (r : TripFrequency) : Type 0 where
 
 not_zero : (m n : ℕ) (b : Bool) → (m == 0) ≡ b → (if b then None else Some m) ≡ Some n → (m ≡ n) × (1 ≤ n)
 not_zero m n true e h = absurd (cc)
-not_zero m n false e h =
-    let same : m ≡ n = cc in
-    let some : 1 ≤ m = ⊎_elim (λ (less : 0 < m). less) (λ (le : m ≤ 0). absurd
-    (let zero : (m == 0) ≡ true = eq-eqb m 0 (omega arith) in let never : true ≡ false = sym zero ∙ e in cc)) (cases_lt 0 m) in
-    (same, omega arith)
+not_zero m n false e h = grind (arith, eq-eqb, cases_lt)
 
 headway_some : (o : Option ℕ) (n : ℕ) → option_and_then (λ seconds. if seconds == 0 then None else Some seconds) o ≡ Some n → (o ≡ Some n) × (1 ≤ n)
 headway_some None n h = absurd (cc)

@@ -1,5 +1,5 @@
 -- The tables of a feed are no larger than they may be.
-use Rattle.gtfs_tables.proofs.Common.{◌≡◌, ℕ, zero, suc, ◌+◌, ◌<◌, ◌≤◌, ◌==◌, Bool, true, false, List, [], ◌∷◌, ◌++◌, length, sum_by, if◌then◌else◌, refl, sym, ap, ◌∙◌, arith, ⊎_elim, cases_lt}
+use Rattle.gtfs_tables.proofs.Common.{◌≡◌, ℕ, zero, suc, ◌+◌, ◌<◌, ◌≤◌, ◌==◌, Bool, true, false, List, [], ◌∷◌, ◌++◌, length, sum_by, if◌then◌else◌, refl, sym, ap, ◌∙◌, arith, cases_lt}
 use Rattle.gtfs_tables.proofs.Common.{list_below-zero, list_below-next, length-list_below, FrequencyRow, IsSmall, repeats_in, all_repeats_in, feed_parts_of, IsWholeFeed}
 use Rattle.std.proofs.lemmas.Bool.Decides.{nat_tests}
 use Rattle.std.proofs.lemmas.List.Sums.{sum_by_push}
@@ -41,11 +41,7 @@ once_is t n true e = let same : t ≡ n = grind (arith, nat_tests, e) in (omega 
 once_is t n false e = (omega arith, λ h. omega arith, λ h. omega arith)
 
 one_more : (t n a b c d e f : ℕ) → a ≡ b + c → d ≡ e + f → c ≡ f + once t n → b ≤ e + 1 → (n ≤ t → b ≤ e) → (a ≤ d + 1) × (suc n ≤ t → a ≤ d)
-one_more t n a b c d e f h k l m p =
-    let o = once_is t n (t == n) refl in (
-      ⊎_elim (λ (past : t < n). omega (arith, h, k, l, m, o.2 past)) (λ (soon : n ≤ t). omega (arith, h, k, l, p soon, o.0)) (cases_lt t n),
-      λ less. omega (arith, h, k, l, p (omega (arith, less)), o.1 (omega (arith, less))),
-    )
+one_more t n a b c d e f h k l m p = grind (arith, once_is, cases_lt)
 
 total-more : (t : ℕ) (trips : List ℕ) (row : FrequencyRow) (rows : List FrequencyRow) (n : ℕ)
     → (total (t ∷ trips) (row ∷ rows) n ≤ total trips rows n + 1) × (n ≤ t → total (t ∷ trips) (row ∷ rows) n ≤ total trips rows n)
@@ -63,8 +59,4 @@ total_few (t ∷ trips) [] n = omega (arith, total-nothing t trips n)
 total_few (t ∷ trips) (row ∷ rows) n = omega (arith, (total-more t trips row rows n).0, total_few trips rows n)
 
 pub is_small : (f : Inside) → IsWholeFeed f → IsSmall (feed_parts_of f)
-is_small f w = record {
-  rows = w.few_rows;
-  size = length-list_below (repeats_in f.times.repeats.trips.items f.times.repeats.rows.items) (length f.lists.trips.ids);
-  frequencies = omega (arith, total_few f.times.repeats.trips.items f.times.repeats.rows.items (length f.lists.trips.ids), w.few_frequencies);
-}
+is_small f w = grind (arith, length-list_below, total_few)
