@@ -1,6 +1,6 @@
 -- The causes of a step after others.
-use Rattle.journey_problem.proofs.Common.{◌≡◌, ℕ, List, Option, None, Result, Ok, Err, sym, ap, subst, IfErr, IsErrAnd, FilesState, causes-of, causes-idle, causes-silent, causes-next, Input}
-use Rattle.journey_problem.proofs.Common.{Fault, Read, unread_input, MayBeUnread, HasCauses}
+use Rattle.journey_problem.proofs.Common.{◌≡◌, ℕ, List, Option, None, Result, Ok, Err, sym, ap, subst, IfErr, IsErrAnd, FilesState, causes-of, causes-idle, causes-silent, causes-next, Input, Fault}
+use Rattle.journey_problem.proofs.Common.{Read, unread_input, MayBeUnread, HasCauses}
 use Rattle.file_ports.specs.Counts.{HasCausesOf}
 
 -- whose fault is not that a file cannot be read

@@ -1,6 +1,6 @@
 -- The steps of a check, put together.
-use Rattle.journey_problem.proofs.Common.{◌≡◌, ℕ, List, Option, None, Result, Ok, Err, refl, sym, subst, ◌≢◌, IfErr, IfOk, IfSome, FileMap, file_at, Limits, Input, Fault, NoMemory, unread_input}
-use Rattle.journey_problem.proofs.Common.{IsOfInput, Problem, bytes_of, IfSome_then}
+use Rattle.journey_problem.proofs.Common.{arith, ◌≡◌, ℕ, List, Option, None, Result, Ok, Err, refl, sym, subst, ◌≢◌, IfErr, IfOk, IfSome, FileMap, file_at, Limits, Fault, NoMemory, unread_input}
+use Rattle.journey_problem.proofs.Common.{IsOfInput, Problem, bytes_of}
 use Rattle.plan_model.specs.declared.model.Query.{Query}
 use Rattle.lower_proof.specs.declared.LowerBounds.{LowerBounds}
 use Rattle.journey_model.specs.declared.faults.Input.TheVariants as input
@@ -12,19 +12,11 @@ module _ (limits : Limits) (p : Problem) (start : ℕ) (file : Option (List ℕ)
       → FailsFile p start (bytes_of limits.bytes input.Proof (unread_input fault) file) fault
   load_fails fault is = subst (λ (bytes : Result (List ℕ) Fault). FailsFile p start bytes fault) (sym is) refl
 
-  -- a file whose text has a fault
-  text_fails : (text : List ℕ) (fault : Fault) → bytes_of limits.bytes input.Proof None file ≡ Ok text → unread_input fault ≡ None → FailsText p start text fault
-      → FailsFile p start (bytes_of limits.bytes input.Proof (unread_input fault) file) fault
-  text_fails text fault there none fails =
-      subst (λ (unread : Option Input). FailsFile p start (bytes_of limits.bytes input.Proof unread file) fault) (sym none)
-      (subst (λ (bytes : Result (List ℕ) Fault). FailsFile p start bytes fault) (sym there) fails)
-
 module _ (contents : Option FileMap) (limits : Limits) (start : ℕ) (path : List ℕ) (p : Problem) where
   pub unloaded : (fault : Fault) → (fault ≢ NoMemory → IsOfInput input.Proof fault)
       → IfSome contents (λ files. fault ≢ NoMemory → bytes_of limits.bytes input.Proof (unread_input fault) (file_at files path) ≡ Err fault)
       → fault ≢ NoMemory → FailsCertificate contents limits start path p fault
-  unloaded fault of fails other =
-      (of other, IfSome_then contents fails (λ files why. load_fails limits p start (file_at files path) fault (why other)))
+  unloaded fault of fails other = grind (arith, load_fails)
 
   module _ (text same : List ℕ) (is : same ≡ text) (there : IfSome contents (λ files. bytes_of limits.bytes input.Proof None (file_at files path) ≡ Ok text)) where
     pub read : (r : Result (Query × LowerBounds) Fault) → IfOk r (λ f. IsCertificateText p start same f.0 f.1) → IfOk r (λ f. IsCertificateFile contents limits start path p f.0 f.1)
@@ -35,8 +27,4 @@ module _ (contents : Option FileMap) (limits : Limits) (start : ℕ) (path : Lis
         → IfErr r (λ fault. fault ≢ NoMemory → IsOfInput input.Proof fault) → IfErr r (λ fault. unread_input fault ≡ None)
         → IfErr r (λ fault. fault ≢ NoMemory → FailsCertificate contents limits start path p fault)
     unread (Ok f) fails of none = tt
-    unread (Err fault) fails of none = λ other. (
-      of other,
-      IfSome_then contents there (λ files bytes.
-          text_fails limits p start (file_at files path) text fault bytes none (subst (λ (bs : List ℕ). FailsText p start bs fault) is (fails other))),
-    )
+    unread (Err fault) fails of none = grind arith

@@ -6,7 +6,7 @@ pub use Rattle.std.proofs.lemmas.Bool.{cases_lt}
 pub use Rattle.std.proofs.lemmas.Option.{IfSome_then, slice_get-get_or, slice_get_within}
 pub use Rattle.std.proofs.lemmas.Result.{IfErr-weaker, IfOk-weaker}
 pub use mathlib.Core.Path.{fun_ext}
-pub use Rattle.change_times.specs.Changes.{AreCollectedChanges, ChangeParts, links_of, place_seconds, transfers_from, transfers_in}
+pub use Rattle.change_times.specs.Changes.{AreCollectedChanges, ChangeParts, links_of, place_seconds}
 pub use Rattle.change_times.specs.Transfers.{place_of_stop}
 pub use Rattle.command_line.specs.Jobs.{CutFile, FeedFolder, JourneyModel, TimetableModel}
 pub use Rattle.command_line.specs.Shown.{journey_shown, timetable_shown}
@@ -33,13 +33,6 @@ pub use Rattle.journey_model.specs.declared.faults.Fault.{Fault}
 pub use Rattle.journey_model.specs.declared.faults.Fault.TheVariants.{Delays, Limit, Missing, NoMemory, Read, UnknownStop}
 pub use Rattle.journey_model.specs.declared.faults.Input.{Input}
 pub use Rattle.journey_model.specs.declared.problem.Problem.{Problem}
-pub use Rattle.journey_problem.specs.CutProblems.{HasCutTimetable, IsCutProblem, IsNamed, cut_problem_fault, is_among, places_in, stop_fault}
-pub use Rattle.journey_problem.specs.FeedProblems.{GtfsFolder, HasFeedTimetable, IsFaultAfterFolder, IsFeedProblem, IsFeedProblemFault, IsFolder, IsFolderFault, IsLaterTableFault, IsSoundFolder}
-pub use Rattle.journey_problem.specs.FeedProblems.{IsWindowFault, feed_as, feed_stop_fault, window_as, window_fault_of}
-pub use Rattle.journey_problem.specs.Files.{Finds, HasCauses, Records, bytes_of, bytes_present, path_by}
-pub use Rattle.journey_problem.specs.Folders.{gtfs_folder_of}
-pub use Rattle.journey_problem.specs.InputTables.{AreDelaysOf, HasCut, IsCutOf, IsCutOfSome, cut_as, cut_fault, cut_records, delay_fault, delay_records, fault_in}
-pub use Rattle.journey_problem.specs.Problems.{HasTimetable, IsProblem, IsProblemFault, IsProblemFaultOver, IsProblemOver}
 pub use Rattle.plan_model.proofs.SameParts.{same_parts}
 pub use Rattle.plan_model.specs.NameLists.{AreDistinct, NameLists, NamesFit}
 pub use Rattle.plan_model.specs.Network.{IsValid, count, no_connection}
@@ -47,6 +40,13 @@ unfoldable pub use Rattle.plan_model.specs.Network.{change_of, connection}
 pub use Rattle.plan_model.specs.NetworkModel.{NetworkModel}
 pub use Rattle.plan_model.specs.declared.model.PlaceId.{PlaceId}
 pub use Rattle.plan_model.specs.declared.timetable.Timetable.{Timetable}
-pub use Rattle.service_days.specs.Calendars.{Calendars, RunsBy, calendar_from, calendars_from, dates_from}
+pub use Rattle.service_days.specs.Calendars.{Calendars, RunsBy}
 unfoldable pub use Rattle.service_days.specs.Calendars.{calendars_in}
 pub use Rattle.service_days.specs.Services.{ServiceParts, runs}
+pub use Rattle.journey_problem.specs.CutProblems.{HasCutTimetable, IsCutProblem, IsNamed, cut_problem_fault, is_among, stop_fault}
+pub use Rattle.journey_problem.specs.FeedProblems.{GtfsFolder, HasFeedTimetable, IsFaultAfterFolder, IsFeedProblem, IsFeedProblemFault, IsFolder, IsFolderFault, IsLaterTableFault, IsSoundFolder}
+pub use Rattle.journey_problem.specs.FeedProblems.{IsWindowFault, feed_as, feed_stop_fault, window_fault_of}
+pub use Rattle.journey_problem.specs.Files.{Finds, HasCauses, Records, bytes_of, bytes_present, path_by}
+pub use Rattle.journey_problem.specs.Folders.{gtfs_folder_of}
+pub use Rattle.journey_problem.specs.InputTables.{AreDelaysOf, HasCut, IsCutOf, IsCutOfSome, cut_as, cut_fault, cut_records, delay_fault, delay_records, fault_in}
+pub use Rattle.journey_problem.specs.Problems.{HasTimetable, IsProblem, IsProblemFault, IsProblemFaultOver, IsProblemOver}

@@ -1,5 +1,5 @@
 -- The steps of reading a feed, put together.
-use Rattle.journey_problem.proofs.Common.{◌≡◌, ℕ, List, Option, Some, None, Result, Ok, Err, inr, sym, subst, ◌≢◌, IfOk, IfErr, OnOk, IfSome, FileMap, file_at, Limits, place_of_stop}
+use Rattle.journey_problem.proofs.Common.{arith, ◌≡◌, ℕ, List, Option, Some, None, Result, Ok, Err, inr, sym, subst, ◌≢◌, IfOk, IfErr, OnOk, IfSome, FileMap, file_at, Limits, place_of_stop}
 use Rattle.journey_problem.proofs.Common.{IsNetworkFrom, DelayLists, AreDelays, JourneyModel, Input, Fault, NoMemory, Problem, MayBeUnread, unread_input, AreDelaysOf, delay_fault, GtfsFolder}
 use Rattle.journey_problem.proofs.Common.{IsFolder, IsSoundFolder, IsWindowFault, IsFaultAfterFolder, IsFeedProblem, HasFeedTimetable, window_fault_of}
 
@@ -32,15 +32,7 @@ module _ (limits : Limits) (files : FileMap) (horizon : ℕ) (j : JourneyModel) 
       → IfOk r (λ p. place_of_stop h.feed j.from ≡ Some p.source.0)
       → IfOk r (λ p. place_of_stop h.feed j.to ≡ Some p.target.0)
       → IfOk r (λ p. (folder : List ℕ) → IsFolder limits files folder h → IsFeedProblem limits files folder horizon j p)
-  window_problem (Ok p) network no_fault source target = λ folder is. record {
-    parts = h;
-    lists = lists;
-    is_folder = is;
-    no_delay_fault = sound;
-    are_delays = are;
-    no_window_fault = no_fault;
-    timetable = record { is_network = network; source = source; target = target };
-  }
+  window_problem (Ok p) network no_fault source target = grind arith
   window_problem (Err fault) network no_fault source target = tt
 
 -- a step that reads nothing has no unread file

@@ -1,6 +1,5 @@
 -- The head and the graph of a graph file, from its bytes.
-use Rattle.journey_problem.proofs.Common.{◌≡◌, ℕ, List, Option, None, Result, Ok, Err, ap, ◌∙◌, refl, sym, ◌≢◌, IfErr, IfOk, Limits, Input, Fault, NoMemory, unread_input, Problem, bytes_of, Finds}
-use Rattle.plan_model.specs.Results.{and_then}
+use Rattle.journey_problem.proofs.Common.{arith, ◌≡◌, ℕ, List, Option, None, Result, Ok, Err, ap, ◌∙◌, refl, ◌≢◌, IfErr, IfOk, Limits, Input, Fault, NoMemory, unread_input, Problem, bytes_of, Finds}
 use Rattle.plan_graph.specs.declared.PlanGraph.{PlanGraph}
 use Rattle.graph_text.specs.declared.Head.{Head}
 use Rattle.graph_text.specs.Reading.{graph_of}
@@ -10,10 +9,7 @@ use Rattle.journey_problem.specs.GraphFiles.{graph_as, graph_in}
 module _ (limits : Limits) (p : Problem) (start : ℕ) (file : Option (List ℕ)) (bytes text : List ℕ) (there : bytes_of limits.bytes input.Graph None file ≡ Ok bytes) (same : text ≡ bytes) where
   -- what is read of the bytes of the file is read of the file
   read_of : (unread : Option Input) → unread ≡ None → graph_in limits p start unread file ≡ graph_as (graph_of text p.timetable.network p.timetable.names p.source.0 p.target.0 start)
-  read_of unread none =
-      let loaded : bytes_of limits.bytes input.Graph unread file ≡ Ok bytes = ap (λ (u : Option Input). bytes_of limits.bytes input.Graph u file) none ∙ there in
-      ap (λ (b : Result (List ℕ) Fault). and_then b (λ bs. graph_as (graph_of bs p.timetable.network p.timetable.names p.source.0 p.target.0 start))) loaded
-      ∙ ap (λ (bs : List ℕ). graph_as (graph_of bs p.timetable.network p.timetable.names p.source.0 p.target.0 start)) (sym same)
+  read_of unread none = grind arith
 
   pub graph_finds : (r : Result (Head × PlanGraph) Fault) → IfOk r (λ f. graph_of text p.timetable.network p.timetable.names p.source.0 p.target.0 start ≡ Ok (f.0, f.1))
       → IfErr r (λ fault. fault ≢ NoMemory → graph_as (graph_of text p.timetable.network p.timetable.names p.source.0 p.target.0 start) ≡ Err fault)

@@ -1,7 +1,6 @@
 -- A cut file with delays makes one network.
-use Rattle.journey_problem.proofs.Common.{◌≡◌, ℕ, ◌<◌, ◌⊎◌, inl, inr, sym, ◌∙◌, subst, arith, List, [], length, get_or, ext_get_or, slice_get-get_or, NameLists, AreDistinct, NetworkModel}
-use Rattle.journey_problem.proofs.Common.{same_parts, change_of, connection, count, no_connection, IsValid, row_count, DelayLists, row, IsRide, IsCutNetwork, runs_distinct, places_distinct}
-use Rattle.journey_problem.proofs.Common.{one_number}
+use Rattle.journey_problem.proofs.Common.{◌≡◌, ℕ, ◌<◌, ◌⊎◌, inl, inr, sym, ◌∙◌, subst, arith, List, [], length, get_or, ext_get_or, slice_get-get_or, NameLists, AreDistinct, NetworkModel, same_parts}
+use Rattle.journey_problem.proofs.Common.{change_of, connection, count, no_connection, IsValid, row_count, DelayLists, row, IsRide, IsCutNetwork, runs_distinct, places_distinct, one_number}
 use Rattle.plan_model.specs.declared.model.Connection.{Connection}
 use Rattle.cut_file.specs.CutRows.{Row}
 use Rattle.journey_problem.proofs.OneOrder.{Enumerates, agree, same_size}
@@ -19,21 +18,7 @@ never_both c d (inr h) (inr k) = omega (arith, h.1, k.1)
 module _ (names : NameLists) (delays : DelayLists) (runs : AreDistinct names.runs) (places : AreDistinct names.places) where
   -- a row has one connection
   same_ride : (r : Row) (c d : Connection) → IsRide names delays r c → IsRide names delays r d → c ≡ d
-  same_ride r c d a b =
-      let from = one_number names.places places c.from.0 d.from.0 r.from a.from b.from in
-      let to = one_number names.places places c.to.0 d.to.0 r.to a.to b.to in
-      let run = one_number names.runs runs c.run.0 d.run.0 r.run a.run b.run in
-      λ i. record {
-        from = record { 0 = from i };
-        to = record { 0 = to i };
-        dep = record { 0 = (a.dep ∙ sym b.dep) i };
-        arr = record { 0 = (a.arr ∙ sym b.arr) i };
-        run = record { 0 = run i };
-        step = (a.step ∙ sym b.step) i;
-        class = record { 0 = (a.class ∙ sym b.class) i };
-        can_board = (a.board ∙ sym b.board) i;
-        can_exit = (a.exit ∙ sym b.exit) i;
-      }
+  same_ride r c d a b = grind (arith, one_number)
 
 module _ (t : List (List (List ℕ))) (delays : DelayLists) (names : NameLists) where
   -- it is the connection of a row
@@ -70,10 +55,7 @@ module _ (t : List (List (List ℕ))) (delays : DelayLists) (names : NameLists) 
   -- a cut file makes one network with its delays
   pub one_network : AreDistinct names.runs → AreDistinct names.places → (n m : NetworkModel)
       → IsCutNetwork t delays n names → IsCutNetwork t delays m names → IsValid n → IsValid m → n ≡ m
-  one_network runs places n m a b valid other =
-      let connections = same_connections runs places n m a b valid other in
-      let change = same_changes n m a b in
-      same_parts n m connections change (a.classes ∙ sym b.classes) (a.links ∙ sym b.links)
+  one_network runs places n m a b valid other = grind (arith, same_connections, same_changes, same_parts)
 
 -- the names of a cut file are one list each, of distinct names
 pub same_names : (t : List (List (List ℕ))) (delays other : DelayLists) (n m : NetworkModel) (names more : NameLists) → IsCutNetwork t delays n names → IsCutNetwork t other m more → names ≡ more

@@ -1,11 +1,9 @@
 -- A folder with a delay file has one problem.
-use Rattle.journey_problem.proofs.Common.{◌≡◌, ℕ, ◌<◌, ◌≤◌, sym, ap, ◌∙◌, subst, arith, List, [], length, ⊎_elim, Some, None, Result, Ok, Err, IsOkAnd, option_map, cases_lt, FileMap, file_at}
-use Rattle.journey_problem.proofs.Common.{Limits, FeedFault, DelayLists, FeedParts, tables_in, ServiceParts, runs, Calendars, calendars_in, RunsBy, ChangeParts, AreCollectedChanges, place_seconds}
-use Rattle.journey_problem.proofs.Common.{links_of, transfers_in, place_of_stop, IsNetworkFrom, connection_count, entry_count, JourneyModel, GtfsFolder, IsFolder, IsFeedProblem, window_as}
-use Rattle.journey_problem.proofs.Common.{window_fault_of}
+use Rattle.journey_problem.proofs.Common.{◌≡◌, ℕ, sym, ap, ◌∙◌, subst, arith, List, Some, Result, Ok, Err, IsOkAnd, cases_lt, FileMap, file_at, Limits, FeedFault, DelayLists, FeedParts, ServiceParts}
+use Rattle.journey_problem.proofs.Common.{runs, Calendars, RunsBy, ChangeParts, AreCollectedChanges, place_seconds, links_of, place_of_stop, IsNetworkFrom, JourneyModel, GtfsFolder, IsFolder}
+use Rattle.journey_problem.proofs.Common.{IsFeedProblem, window_fault_of}
 use Rattle.std.proofs.lemmas.List.{get_or_past}
 use Rattle.table_files.specs.Required.{Records}
-use Rattle.connections.specs.Faults.{window_fault}
 use Rattle.journey_problem.proofs.OneCutProblem.{delays_of_one}
 use Rattle.journey_problem.proofs.OneFeed.{one_feed_of}
 use Rattle.journey_problem.proofs.SameProblem.{same_problem}
@@ -28,35 +26,20 @@ same_changes (Ok t) f c d a b = λ place. a.seconds place ∙ sym (b.seconds pla
 same_changes (Err fault) f c d a b = absurd a
 
 same_links : (r : Result Records FeedFault) (f : FeedParts) (c d : ChangeParts) → IsOkAnd r (AreCollectedChanges f c) → IsOkAnd r (AreCollectedChanges f d) → (place : ℕ) → links_of c place ≡ links_of d place
-same_links (Ok t) f c d a b = λ place.
-    ⊎_elim (λ (inside : place < length f.stop_ids). a.links place inside ∙ sym (b.links place inside))
-    (λ (past : length f.stop_ids ≤ place). get_or_past c.links place [] (omega (arith, a.few)) ∙ sym (get_or_past d.links place [] (omega (arith, b.few))))
-    (cases_lt place (length f.stop_ids))
+same_links (Ok t) f c d a b = grind (arith, get_or_past, cases_lt)
 same_links (Err fault) f c d a b = absurd a
 
 module _ (limits : Limits) (files : FileMap) (folder : List ℕ) where
   -- a folder is read in one way
   pub one_folder : (g h : GtfsFolder) → IsFolder limits files folder g → IsFolder limits files folder h → SameGtfsFolder g h
-  one_folder g h a b =
-      let feed : g.feed ≡ h.feed = one_feed_of (tables_in files folder limits None) g.feed h.feed a.feed b.feed in
-      let other = subst (λ (f : FeedParts). IsOkAnd (transfers_in files folder limits None f) (AreCollectedChanges f h.changes)) (sym feed) b.changes in
-      record {
-        feed = feed;
-        days = same_days (calendars_in files folder limits None) g.services h.services a.services b.services;
-        changes = same_changes (transfers_in files folder limits None g.feed) g.feed g.changes h.changes a.changes other;
-        links = same_links (transfers_in files folder limits None g.feed) g.feed g.changes h.changes a.changes other;
-      }
+  one_folder g h a b = grind (arith, one_feed_of, same_days, same_changes, same_links)
 
   one_place : (f g : FeedParts) → f ≡ g → (id : List ℕ) (a b : ℕ) → place_of_stop f id ≡ Some a → place_of_stop g id ≡ Some b → a ≡ b
   one_place f g e id a b h k = let l : Some a ≡ Some b = sym h ∙ ap (λ (x : FeedParts). place_of_stop x id) e ∙ k in cc
 
   -- the window has one first fault
   pub one_window_fault : (horizon : ℕ) (j : JourneyModel) (g h : GtfsFolder) → SameGtfsFolder g h → window_fault_of limits horizon j g ≡ window_fault_of limits horizon j h
-  one_window_fault horizon j g h s =
-      ap (λ n. option_map window_as (window_fault limits n (entry_count g.feed g.services g.changes j.start horizon))) (same_count g.feed g.services h.services j.start horizon s.days)
-      ∙ ap (λ n. option_map window_as (window_fault limits (connection_count g.feed h.services j.start horizon) n))
-      (same_entries g.feed g.services h.services g.changes h.changes j.start horizon s.days s.links)
-      ∙ ap (λ (f : FeedParts). window_fault_of limits horizon j (record { feed = f; services = h.services; changes = h.changes })) s.feed
+  one_window_fault horizon j g h s = grind (arith, same_count, same_entries)
 
   -- a folder and a delay file have one problem of a journey
   pub one_feed_problem : (horizon : ℕ) (j : JourneyModel) (p q : _) → IsFeedProblem limits files folder horizon j p → IsFeedProblem limits files folder horizon j q → p ≡ q

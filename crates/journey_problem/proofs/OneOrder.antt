@@ -38,7 +38,4 @@ module _ {A : Type 0} (S : A → Type 0) (L : A → A → Type 0) (strict : (a b
   agree f g n m a b j h = below f g n m a b (suc j) j (omega arith) h
 
   pub same_size : (f g : ℕ → A) (n m : ℕ) → Enumerates S L f n → Enumerates S L g m → n ≡ m
-  same_size f g n m a b =
-      ⊎_elim (λ (less : n < m). absurd (let h = (agree g f m n b a n less).0 in omega (arith, h)))
-      (λ (ge : m ≤ n). ⊎_elim (λ (more : m < n). absurd (let h = (agree f g n m a b m more).0 in omega (arith, h))) (λ (le : n ≤ m). omega arith) (cases_lt m n))
-      (cases_lt n m)
+  same_size f g n m a b = grind (arith, agree, cases_lt)

@@ -1,15 +1,12 @@
 -- The window of a feed has one network and one list of names.
-use Rattle.journey_problem.proofs.Common.{◌≡◌, ℕ, ◌+◌, ◌<◌, ◌++◌, ◌∷◌, [], sym, ap, ◌∙◌, subst, arith, List, length, Bool, ℤ, slice_index_or, if◌then◌else◌, ext_get_or, fun_ext, PlaceId}
-use Rattle.journey_problem.proofs.Common.{NameLists, NetworkModel, same_parts, ChangeParts, place_seconds, links_of, DelayLists, FeedParts, ServiceParts, runs, IsNetworkFrom, connection_count}
-use Rattle.journey_problem.proofs.Common.{entry_count}
+use Rattle.journey_problem.proofs.Common.{◌≡◌, ℕ, ◌+◌, ◌<◌, ◌++◌, ◌∷◌, [], sym, ap, ◌∙◌, subst, arith, List, length, ℤ, slice_index_or, ext_get_or, fun_ext, PlaceId, NameLists, NetworkModel}
+use Rattle.journey_problem.proofs.Common.{same_parts, ChangeParts, place_seconds, links_of, DelayLists, FeedParts, ServiceParts, runs, IsNetworkFrom, connection_count, entry_count}
 use Rattle.plan_model.specs.declared.model.Way.{Way}
 use Rattle.csv_rows.specs.Lists.{list_below}
 use Rattle.clock_text.proofs.OneDate.{one_date}
-use Rattle.gtfs_tables.specs.Timed.{rows_of}
-use Rattle.connections.specs.Joins.{join_below, sum_below}
-use Rattle.connections.specs.Window.{day_at, window_of}
-use Rattle.connections.specs.TripRuns.{frequencies_of, runs_of_trip, day_runs, runs_below, window_runs, run_at, days}
-use Rattle.connections.specs.Counts.{runs_sum, day_sum, days_sum, window_sum}
+use Rattle.connections.specs.Window.{window_of}
+use Rattle.connections.specs.TripRuns.{day_runs, runs_below, window_runs, run_at, days}
+use Rattle.connections.specs.Counts.{day_sum, days_sum, window_sum}
 use Rattle.connections.specs.FeedNetworks.{start_text, IsRunName, AreRunNames, connections_below}
 
 -- they run on the same days
@@ -19,11 +16,7 @@ SameDays s t = (service : List ℕ) (day : ℤ) → runs s service day ≡ runs 
 -- the runs depend on the services by their days alone
 pub same_runs : (f : FeedParts) (s t : ServiceParts) (w : _) → SameDays s t → window_runs f s w ≡ window_runs f t w
 unfolding runs_below day_runs
-same_runs f s t w e =
-    ap (λ (r : List ℕ → ℤ → Bool). join_below (λ d. join_below (λ trip.
-    if r (slice_index_or f.services trip []) (day_at w d).number then runs_of_trip w (rows_of f trip) (frequencies_of f trip) (day_at w d) trip else [])
-    (length f.trip_ids)) days)
-    (fun_ext (λ x. fun_ext (e x)))
+same_runs f s t w e = grind (arith, ℤ, fun_ext)
 
 -- a run has one name
 one_name : (f : FeedParts) (run : _) (a b : List ℕ) → IsRunName f run a → IsRunName f run b → a ≡ b
@@ -38,11 +31,7 @@ one_names f rs n a b h k = ext_get_or [] a b (h.size ∙ sym k.size) (λ r l.
 -- what the connections add up to depends on the services by their days alone
 same_sum : (each : PlaceId → ℕ) (f : FeedParts) (s t : ServiceParts) (w : _) → SameDays s t → window_sum each f s w ≡ window_sum each f t w
 unfolding days_sum day_sum
-same_sum each f s t w e =
-    ap (λ (r : List ℕ → ℤ → Bool). sum_below (λ d. sum_below (λ trip.
-    if r (slice_index_or f.services trip []) (day_at w d).number
-    then runs_sum each w (rows_of f trip) (frequencies_of f trip) (day_at w d) else 0) (length f.trip_ids)) days)
-    (fun_ext (λ x. fun_ext (e x)))
+same_sum each f s t w e = grind (arith, ℤ, fun_ext)
 
 pub same_count : (f : FeedParts) (s t : ServiceParts) (start horizon : ℕ) → SameDays s t → connection_count f s start horizon ≡ connection_count f t start horizon
 same_count f s t start horizon e = same_sum (λ place. 1) f s t (window_of start horizon) e

@@ -1,5 +1,5 @@
 -- Whether the stops of a journey are among the names.
-use Rattle.journey_problem.proofs.Common.{◌≡◌, ℕ, zero, suc, List, [], ◌∷◌, Some, None, Bool, true, false, Contains, refl, slice_get, bytes_eq, UnknownStop, is_among, stop_fault}
+use Rattle.journey_problem.proofs.Common.{arith, ◌≡◌, ℕ, zero, suc, List, [], ◌∷◌, Some, None, Bool, true, false, Contains, refl, slice_get, bytes_eq, UnknownStop, is_among, stop_fault}
 use Rattle.std.proofs.Math.Bool.{or-true}
 use Rattle.std.proofs.lemmas.Slice.Eq.{bytes_eq-Decides}
 use Rattle.std.proofs.lemmas.Map.Views.{Contains-from_any}
@@ -7,10 +7,7 @@ use Rattle.journey_model.specs.declared.faults.Which.TheVariants as which
 
 among-at : (names : List (List ℕ)) (k : ℕ) (name : List ℕ) → slice_get names k ≡ Some name → is_among names name ≡ true
 among-at [] k name is = absurd (cc)
-among-at (x ∷ names) zero name is =
-    let same : name ≡ x = (cc) in
-    let test : bytes_eq name x ≡ true = (bytes_eq-Decides name x).1 same in
-    rw test refl
+among-at (x ∷ names) zero name is = grind (arith, bytes_eq-Decides)
 among-at (x ∷ names) (suc k) name is = rw (among-at names k name is) (or-true (bytes_eq name x))
 
 among-false : (names : List (List ℕ)) (name : List ℕ) (b : Bool) → is_among names name ≡ b → ¬ Contains names name → is_among names name ≡ false

@@ -1,7 +1,7 @@
 -- The steps of reading a cut file and a delay file, put together.
-use Rattle.journey_problem.proofs.Common.{◌≡◌, ℕ, List, Option, Some, None, Result, Ok, option_map, sym, ap, ◌∙◌, ◌≢◌, ◌≤◌, table_of, Limits, first_cut_fault, CutParts, IsCutRead, delays_of}
-use Rattle.journey_problem.proofs.Common.{first_delay_fault, DelayLists, Fault, Delays, NoMemory, IsFirst, unread_input, Records, cut_as, fault_in, cut_fault, cut_records, delay_records}
-use Rattle.journey_problem.proofs.Common.{delay_fault, IsCutOf, IsCutOfSome, AreDelaysOf}
+use Rattle.journey_problem.proofs.Common.{arith, ◌≡◌, ℕ, List, Option, Some, None, Result, Ok, option_map, sym, ap, ◌∙◌, ◌≢◌, ◌≤◌, table_of, Limits, first_cut_fault, CutParts, IsCutRead, delays_of}
+use Rattle.journey_problem.proofs.Common.{first_delay_fault, DelayLists, Fault, Delays, NoMemory, IsFirst, unread_input, Records, cut_as, fault_in, cut_fault, cut_records, delay_records, delay_fault}
+use Rattle.journey_problem.proofs.Common.{IsCutOf, IsCutOfSome, AreDelaysOf}
 use Rattle.csv_rows.specs.Limits.{standard}
 use Rattle.cut_file.specs.declared.faults.CutFault.{CutFault}
 use Rattle.cut_file.specs.declared.faults.CutFault.TheVariants.{NoMemory as CutMemory}
@@ -24,9 +24,7 @@ module _ (limits : Limits) (file : Option (List ℕ)) (table : Records) (ok : cu
 
   pub cut_first : (f : CutFault) (fault : Fault) → fault ≡ cut_as f → unread_input fault ≡ None
       → (f ≢ CutMemory → first_cut_fault table limits.cut_rows ≡ Some f) → IsFirst (cut_fault limits file) fault
-  cut_first f fault is read first = λ free.
-      let found = first (λ e. free (is ∙ ap cut_as e)) in
-      ap (cut_fault limits file) read ∙ ap by_table ok ∙ ap (option_map cut_as) found ∙ ap Some (sym is)
+  cut_first f fault is read first = grind (arith, by_table)
 
 -- and the delay file
 module _ (limits : Limits) (file : Option (List ℕ)) (table : Records) (ok : delay_records limits None file ≡ Ok table) where
