@@ -1,15 +1,11 @@
 -- The names that most proofs of this crate cite, passed on from one place. Declares nothing.
-pub use Rattle.std.proofs.Common.{All, Bool, Contains, IsTrue, List, MatchOption, None, Option, Some, [], ap, arith, false, get_or, if◌then◌else◌, inl, inr, le-leb, leb-true, length, map, nat_le}
-pub use Rattle.std.proofs.Common.{refl, subst, suc, sum_by, sym, take, true, zero, ℕ, ⊎_elim, ◌%◌, ◌&&◌, ◌*◌, ◌++◌, ◌+◌, ◌-◌, ◌/◌, ◌<◌, ◌==◌, ◌^◌, ◌↔◌, ◌∙◌, ◌∷◌, ◌≡◌, ◌≤◌}
+pub use Rattle.std.proofs.Common.{All, Contains, List, MatchOption, None, Option, Some, [], ap, arith, get_or, inl, inr, le-leb, leb-true, length, map, nat_le, refl, subst, suc, sum_by, sym, take}
+pub use Rattle.std.proofs.Common.{true, zero, ℕ, ⊎_elim, ◌%◌, ◌*◌, ◌+◌, ◌-◌, ◌/◌, ◌<◌, ◌^◌, ◌∙◌, ◌∷◌, ◌≡◌, ◌≤◌}
 pub use Rattle.std.proofs.Math.Nat.{div-div-eq-div-mul, mul-add, mul-le-mul_left, mul_comm}
 pub use Rattle.std.proofs.lemmas.Bool.Decides.{nat_tests}
 pub use Rattle.std.proofs.lemmas.List.{get_or-map, length-map, map_more}
 pub use Rattle.interval_fixed.specs.Interval.{Interval}
 pub use Rattle.interval_fixed.specs.Means.{mean_of, weighted_hi}
-pub use Rattle.late_chance.specs.Chances.{itself, promised, seconds_per_week}
-pub use Rattle.late_chance.specs.LaterGraphs.{IsShown, LaterAlike, later_graph, later_query, later_row, later_table}
-pub use Rattle.late_chance.specs.Punctual.{IsAboutNetwork, IsPunctual, PunctualAlike, asked_for, seen_for, shift_for}
-pub use Rattle.late_chance.specs.SeenFrom.{shifted_connection, shifted_parts}
 pub use Rattle.plan_graph.specs.Tidy.{IsFit, IsFitRow, IsFitStart, IsFitTable, IsPickedIn, IsTidy}
 pub use Rattle.plan_graph.specs.Unfold.{unfold_plan}
 pub use Rattle.plan_graph.specs.declared.GraphRow.{GraphRow}
@@ -27,3 +23,7 @@ pub use Rattle.plan_model.specs.View.{IsSeen, IsView, all_later_by, later_by}
 pub use Rattle.plan_model.specs.declared.model.Outcome.{Outcome}
 pub use Rattle.plan_model.specs.declared.model.Query.{Query}
 pub use Rattle.value_laws.specs.Rounded.{rounded_down, rounded_up, sum_down, sum_up}
+pub use Rattle.late_chance.specs.Chances.{itself, promised, seconds_per_week}
+pub use Rattle.late_chance.specs.LaterGraphs.{IsShown, LaterAlike, later_graph, later_query, later_row, later_table}
+pub use Rattle.late_chance.specs.Punctual.{IsAboutNetwork, IsPunctual, PunctualAlike, asked_for, seen_for, shift_for}
+pub use Rattle.late_chance.specs.SeenFrom.{shifted_connection, shifted_parts}

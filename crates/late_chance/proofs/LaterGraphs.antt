@@ -1,9 +1,8 @@
 -- A graph for a view, with all moments greater by the shift, is one for the network.
-use Rattle.late_chance.proofs.Common.{◌≡◌, ℕ, ◌+◌, ◌<◌, ◌≤◌, Bool, true, false, Option, Some, None, List, [], ◌∷◌, length, map, All, Contains, refl, sym, ap, ◌∙◌, subst, inl, inr, arith, ◌==◌}
-use Rattle.late_chance.proofs.Common.{nat_le, if◌then◌else◌, MatchOption, length-map, nat_tests, Outcome, Query, NetworkModel, from_of, dep_of, outcomes, Tree, Done, Ride, Stuck, Kids, Nil, Kid}
-use Rattle.late_chance.proofs.Common.{IsSafe, AreSafe, IsSafeFromStart, IsSafeFor, later_by, all_later_by, limit_of-some, way_takes, earlier_by-is, seen, leg_there, departs, same_way, start_there}
-use Rattle.late_chance.proofs.Common.{GraphRow, PlanGraph, IsFitRow, IsFitTable, IsFitStart, IsFit, IsPickedIn, IsTidy, unfold_plan, later_row, later_table, later_graph, later_query, IsShown}
-use Rattle.late_chance.proofs.Common.{LaterAlike}
+use Rattle.late_chance.proofs.Common.{◌≡◌, ℕ, ◌+◌, ◌<◌, ◌≤◌, Option, Some, None, List, [], ◌∷◌, length, map, All, Contains, refl, sym, ap, ◌∙◌, subst, inl, inr, arith, MatchOption, length-map}
+use Rattle.late_chance.proofs.Common.{Outcome, Query, NetworkModel, from_of, dep_of, outcomes, Tree, Done, Ride, Stuck, Kids, Nil, Kid, IsSafe, AreSafe, IsSafeFromStart, IsSafeFor, later_by}
+use Rattle.late_chance.proofs.Common.{all_later_by, limit_of-some, way_takes, earlier_by-is, seen, leg_there, departs, same_way, start_there, GraphRow, PlanGraph, IsFitRow, IsFitTable, IsFitStart}
+use Rattle.late_chance.proofs.Common.{IsFit, IsPickedIn, IsTidy, unfold_plan, later_row, later_table, later_graph, later_query, IsShown, LaterAlike}
 use Rattle.std.proofs.lemmas.List.Elements.{All-map, All-weaker}
 use Rattle.plan_model.specs.declared.model.Leg.{Leg}
 use Rattle.plan_model.specs.Ways.{limit_of}
@@ -18,22 +17,14 @@ use Rattle.plan_graph.proofs.Picked.{picked_leg}
 -- what the later rows pick
 pick_row-later : (shift : ℕ) (rows : List GraphRow) (x : ℕ) → pick_row (map (later_row shift) rows) (x + shift) ≡ pick_row rows x
 pick_row-later shift [] x = refl
-pick_row-later shift (r ∷ rows) x =
-    let test : nat_le (x + shift) (r.by.0 + shift) ≡ nat_le x r.by.0 = grind (arith, nat_tests) in
-    let others = pick_row-later shift rows x in
-    rw (test, others) refl
+pick_row-later shift (r ∷ rows) x = grind (arith, pick_row-later shift rows x)
 
 rows_of-later : (shift : ℕ) (tables : List PlaceTable) (p : ℕ) → rows_of_place (map (later_table shift) tables) p ≡ map (later_row shift) (rows_of_place tables p)
 rows_of-later shift [] p = refl
-rows_of-later shift (t ∷ tables) p = either (t.place.0 == p) _ _ (rows_of-later shift tables p)
-  where
-    either : (b : Bool) (r s : List GraphRow) → r ≡ map (later_row shift) s → (if b then map (later_row shift) t.rows else r) ≡ map (later_row shift) (if b then t.rows else s)
-    either true r s e = refl
-    either false r s e = e
+rows_of-later shift (t ∷ tables) p = grind (arith, rows_of-later shift tables p)
 
 pick_at-later : (shift : ℕ) (tables : List PlaceTable) (p x : ℕ) → pick_at (map (later_table shift) tables) p (x + shift) ≡ pick_at tables p x
-pick_at-later shift tables p x =
-    ap (λ (rows : List GraphRow). pick_row rows (x + shift)) (rows_of-later shift tables p) ∙ pick_row-later shift (rows_of_place tables p) x
+pick_at-later shift tables p x = grind (arith, rows_of-later, pick_row-later)
 
 -- what all elements are, what is made of them is
 all_mapped : {A B : Type 0} (f : A → B) (P : A → Type 0) (Q : B → Type 0) (xs : List A) → ((a : A) → P a → Q (f a)) → All P xs → All Q (map f xs)
@@ -103,12 +94,7 @@ module _ (n m : NetworkModel) (shift first : ℕ) (q : Query) (shown : IsShown n
   }
 
   start_later : (leg : Leg) → IsFitStart n q leg → IsFitStart m (later_query shift q) leg
-  start_later leg fit = record {
-    differ = fit.differ;
-    is_leg = (there leg fit.is_leg).0;
-    leaves = sym (seen n m shift first shown.view shown.valid leg.enter.0 (there leg fit.is_leg).0.enter).from ∙ fit.leaves;
-    in_time = let dep = later_dep leg fit.is_leg in let t = fit.in_time in omega arith;
-  }
+  start_later leg fit = grind (arith, there, seen, later_dep)
 
   starts_later : (o : Option Leg) (tables : List PlaceTable) → MatchOption o ((q.source.0 ≡ q.target.0) × (tables ≡ [])) (IsFitStart n q)
       → MatchOption o ((q.source.0 ≡ q.target.0) × (map (later_table shift) tables ≡ [])) (IsFitStart m (later_query shift q))

@@ -1,7 +1,6 @@
 -- Means rounded ride by ride: of trees with all moments later, and of trees whose arrivals count for nothing.
-use Rattle.late_chance.proofs.Common.{◌≡◌, ℕ, ◌+◌, ◌*◌, ◌/◌, ◌≤◌, arith, Some, List, [], ◌∷◌, true, refl, ◌∙◌, ap, nat_le, nat_tests, Interval, Outcome, Query, NetworkModel, to_of, arr_of}
-use Rattle.late_chance.proofs.Common.{outcomes, certainty, Tree, Done, Ride, Stuck, Kids, Nil, Kid, IsSafe, AreSafe, IsSafeFor, late, later_by, all_later_by, PlanGraph, unfold_plan, rounded_up}
-use Rattle.late_chance.proofs.Common.{sum_up, rounded_down, sum_down, IsPunctual}
+use Rattle.late_chance.proofs.Common.{◌≡◌, ℕ, ◌+◌, ◌*◌, ◌/◌, ◌≤◌, arith, Some, List, [], ◌∷◌, true, refl, ap, nat_le, nat_tests, Interval, Outcome, Query, NetworkModel, to_of, arr_of, outcomes, Tree}
+use Rattle.late_chance.proofs.Common.{Done, Ride, Stuck, Kids, Nil, Kid, IsSafe, AreSafe, IsSafeFor, late, later_by, all_later_by, PlanGraph, rounded_up, sum_up, rounded_down, sum_down, IsPunctual}
 
 module _ (scale shift : ℕ) (f g : ℕ → ℕ) (same : (a : ℕ) → f (a + shift) ≡ g a) where
   mutual
@@ -59,14 +58,8 @@ module _ (scale : ℕ) (leaf : ℕ → ℕ) (n : NetworkModel) (target d : ℕ) 
 
   pub from_start : (tree : Tree) (q : Query) → q.target.0 ≡ target → q.deadline.0 ≡ d → IsSafeFor n q tree
       → (rounded_up scale leaf tree ≡ 0) × (rounded_down scale leaf tree ≡ 0)
-  from_start (Done a) q there by safe =
-      let in_time = safe.2 in
-      let zero = leaf_none a q.start.0 safe.0 (omega (arith, by, in_time)) in (zero, zero)
-  from_start (Ride i j kids) q there by safe =
-      let own : AreSafe n target (Some d) kids (outcomes n j) (to_of n j) (arr_of n j) = rw (there, by) at safe.3 in (
-        ap (λ (u : ℕ). (u + 9999) / 10000) (sum_up_none kids (outcomes n j) (to_of n j) (arr_of n j) own),
-        ap (λ (l : ℕ). l / 10000) (sum_down_none kids (outcomes n j) (to_of n j) (arr_of n j) own),
-      )
+  from_start (Done a) q there by safe = grind (arith, leaf_none)
+  from_start (Ride i j kids) q there by safe = grind (arith, sum_up_none, sum_down_none)
   from_start (Stuck p x) q there by safe = absurd safe
 
 same_interval : (a : Interval) → a.lo ≡ 0 → a.hi ≡ 0 → a ≡ record { lo = 0; hi = 0 }
@@ -78,9 +71,4 @@ not_late promise a by = let test : nat_le a promise ≡ true = grind (arith, nat
 -- by a promise that is not before the deadline there is no chance of being late
 pub no_chance : (m : NetworkModel) (q : Query) (promise : ℕ) (graph : PlanGraph) (chance : Interval) → IsPunctual m q promise graph chance → q.deadline.0 ≤ promise
     → chance ≡ record { lo = 0; hi = 0 }
-no_chance m q promise graph chance p by =
-    let tree = unfold_plan graph m q in
-    let none = from_start certainty (late promise) m q.target.0 q.deadline.0 (λ a in_time. not_late promise a (omega (arith, in_time, by))) tree q refl refl p.safe in
-    let low = p.least tree p.safe in
-    let down = none.1 in
-    same_interval chance (omega (arith, low, down)) (p.rounded ∙ none.0)
+no_chance m q promise graph chance p by = grind (arith, from_start, not_late, same_interval)

@@ -1,29 +1,12 @@
 -- The shifted network is valid, and a view of the network.
-use Rattle.late_chance.proofs.Common.{◌≡◌, ℕ, ◌-◌, ◌<◌, ◌≤◌, Bool, refl, sym, ap, ◌∙◌, inl, inr, ⊎_elim, arith, IsTrue, nat_le, ◌&&◌, ◌↔◌, leb-true, le-leb, length-map, get_or-map, NetworkModel}
-use Rattle.late_chance.proofs.Common.{IsValid, IsValidConnection, PrecedesByStep, count, connection, no_connection, dep_of, arr_of, run_of, step_of, change_of, row_of, IsSeen, IsView}
-use Rattle.late_chance.proofs.Common.{shifted_connection, shifted_parts}
+use Rattle.late_chance.proofs.Common.{◌≡◌, ℕ, ◌-◌, ◌<◌, ◌≤◌, refl, sym, ap, ◌∙◌, inl, inr, ⊎_elim, arith, leb-true, le-leb, length-map, get_or-map, NetworkModel, IsValid, IsValidConnection}
+use Rattle.late_chance.proofs.Common.{PrecedesByStep, count, connection, no_connection, dep_of, arr_of, run_of, step_of, change_of, row_of, IsSeen, IsView, shifted_connection, shifted_parts}
 use Rattle.std.proofs.Math.Logic.{∥∥₁_map}
 use Rattle.std.proofs.lemmas.Bool.{and_parts, and_from}
 use Rattle.plan_model.specs.declared.model.Connection.{Connection}
 
-both_true : (a : Bool) (x y : ℕ) → IsTrue (a && nat_le x y) ↔ (IsTrue a × (x ≤ y))
-both_true a x y = (
-  λ h. let both = and_parts a (nat_le x y) h in (both.0, leb-true x y both.1),
-  λ h. and_from a (nat_le x y) h.0 (le-leb x y h.1),
-)
-
 one_seen : (shift start : ℕ) → shift ≤ start → (c : Connection) → IsSeen shift start (shifted_connection shift start c) c
-one_seen shift start soon c = record {
-  from = refl;
-  to = refl;
-  run = refl;
-  step = refl;
-  class = refl;
-  exit = ((λ h. h), (λ h. h));
-  board = both_true c.can_board start c.dep.0;
-  departs = λ late. omega arith;
-  arrives = λ late. omega arith;
-}
+one_seen shift start soon c = grind (arith, and_parts, leb-true, and_from, le-leb)
 
 module _ (shift start : ℕ) (m : NetworkModel) where
   abbrev seen : NetworkModel

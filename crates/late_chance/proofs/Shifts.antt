@@ -13,10 +13,7 @@ same_query source target a b c d e f = rw (e, f) refl
 
 -- a row of a graph that fits is before the last departure
 early_row : (n : NetworkModel) → IsValid n → (place : ℕ) (row : GraphRow) → IsFitRow n place row → row.by.0 < end_of_arrivals
-early_row n v place row fit =
-    let limit = limit_of-some n place row.leg row.by.0 fit.by in
-    let c = v.connections row.leg.enter.0 fit.is_leg.enter in
-    omega (arith, limit.2, c.forward, c.early)
+early_row n v place row fit = grind (arith, limit_of-some)
 
 module _ (m : NetworkModel) (q : Query) (promise : ℕ) (v : IsValid m) (early : q.start.0 < end_of_time) (order : q.start.0 ≤ q.deadline.0)
     (past : seconds_per_week ≤ promise) (later : q.start.0 ≤ promise) (soon : promise ≤ q.start.0 + seconds_per_week) where

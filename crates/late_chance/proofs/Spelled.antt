@@ -1,5 +1,5 @@
 -- The digits of a number, from its first one on.
-use Rattle.late_chance.proofs.Common.{◌≡◌, ℕ, zero, suc, ◌+◌, ◌*◌, ◌/◌, ◌%◌, ◌^◌, List, [], ◌∷◌, ◌++◌, refl, ap, sym, ◌∙◌, arith, div-div-eq-div-mul, mul_comm}
+use Rattle.late_chance.proofs.Common.{◌≡◌, ℕ, zero, suc, ◌+◌, ◌/◌, ◌%◌, ◌^◌, List, [], ◌∷◌, refl, ap, ◌∙◌, arith, div-div-eq-div-mul, mul_comm}
 use Rattle.std.proofs.lemmas.Grind.{pow_more}
 use Rattle.clock_text.specs.Digits.{digits}
 
@@ -12,11 +12,7 @@ spelled (suc (suc k)) n = (48 + n / 10 ^ suc k % 10) ∷ spelled (suc k) n
 -- the digit before the last k ones
 digits-first : (k n : ℕ) → digits (suc k) n ≡ (48 + n / 10 ^ k % 10) ∷ digits k n
 digits-first zero n = let whole : n / 1 ≡ n = omega arith in rw whole refl
-digits-first (suc k) n =
-    let next : k + 1 ≡ suc k = omega arith in
-    let power : 10 * 10 ^ k ≡ 10 ^ suc k = mul_comm 10 (10 ^ k) ∙ sym (pow_more 10 k) ∙ ap (λ (e : ℕ). 10 ^ e) next in
-    let same : n / 10 / 10 ^ k ≡ n / 10 ^ suc k = div-div-eq-div-mul n 10 (10 ^ k) ∙ ap (λ (d : ℕ). n / d) power in
-    ap (λ (ds : List ℕ). ds ++ (48 + n % 10) ∷ []) (digits-first k (n / 10)) ∙ ap (λ (q : ℕ). (48 + q % 10) ∷ (digits k (n / 10) ++ (48 + n % 10) ∷ [])) same
+digits-first (suc k) n = grind (arith, mul_comm, pow_more, div-div-eq-div-mul, digits-first k (n / 10))
 
 pub digits-spelled : (k n : ℕ) → digits k n ≡ spelled k n
 digits-spelled zero n = refl
