@@ -1,8 +1,8 @@
 -- What is accepted is a lower bound on each safe tree, and a tight certificate is the best.
-use Rattle.lower_proof.proofs.Common.{◌≡◌, ◌≢◌, ℕ, ◌+◌, ◌*◌, ◌/◌, ◌^◌, ◌≤◌, List, [], ◌∷◌, Option, Some, None, arith, subst, refl, map, length, sum_by, inl, inr, mul_assoc, mul-add}
-use Rattle.lower_proof.proofs.Common.{mul-le-mul_left, nat_tests, Outcome, Query, NetworkModel, to_of, arr_of, outcomes, IsValid, count, connection, dep_of, IsLeg, IsBoardable, IsBoardableAtStart}
-use Rattle.lower_proof.proofs.Common.{IsSafe, AreSafe, IsSafeFor, weighted, bound_of, IsLeastOf, Offers, arrived_by, IsLeastValue, IsLeastAt, AreLeast, HasValueUpTo, IsAccepted, IsLeastAtStart}
-use Rattle.lower_proof.proofs.Common.{IsVia, IsTight, cases_eq, cases_lt, sum_by-cons, forward}
+use Rattle.lower_proof.proofs.Common.{◌≡◌, ◌≢◌, ℕ, ◌+◌, ◌*◌, ◌/◌, ◌^◌, ◌≤◌, List, [], ◌∷◌, Option, Some, None, arith, refl, map, length, sum_by, inl, inr, mul_assoc, mul-add, mul-le-mul_left}
+use Rattle.lower_proof.proofs.Common.{nat_tests, Outcome, Query, NetworkModel, to_of, arr_of, outcomes, IsValid, count, connection, dep_of, IsLeg, IsBoardable, IsBoardableAtStart, IsSafe, AreSafe}
+use Rattle.lower_proof.proofs.Common.{IsSafeFor, weighted, bound_of, IsLeastOf, Offers, arrived_by, IsLeastValue, IsLeastAt, AreLeast, HasValueUpTo, IsAccepted, IsLeastAtStart, IsVia, IsTight}
+use Rattle.lower_proof.proofs.Common.{cases_eq, cases_lt, sum_by-cons, forward}
 use Rattle.plan_model.specs.Tree.{Tree, Kids, Done, Ride, Stuck, Nil, Kid}
 use Rattle.plan_model.specs.DelayRows.{EachKid, IsValidRow}
 use Rattle.plan_model.specs.Expected.{Below, arrival as arrival_of, Covers}
@@ -18,13 +18,10 @@ pub at_most : (o : Option ℕ) (v : ℕ) → HasValueUpTo o v → (w : ℕ) × (
 at_most None v h = absurd h
 at_most (Some w) v h = (w, refl, h)
 
-pub arrived_in_time : (deadline x : ℕ) → x ≤ deadline → arrived_by deadline x ≡ Some (1000000000 * x)
-arrived_in_time deadline x in_time = grind (arith, nat_tests)
-
 module _ (n : NetworkModel) (q : Query) (values : List (Option ℕ)) where
   -- who is at the target has arrived
   pub target_least : (Boards : ℕ → Type 0) (p x : ℕ) → p ≡ q.target.0 → x ≤ q.deadline.0 → IsLeastValue n q values Boards p x (Some (1000000000 * x))
-  target_least Boards p x there in_time = grind (arith, arrived_in_time)
+  target_least Boards p x there in_time = grind (arith, nat_tests)
 
   done_below : (a x : ℕ) → a ≡ x → Below (1000000000 * x) (Done a)
   done_below a x is h tall = rw is (omega (arith, mul_assoc 1000000000 x (10000 ^ h)))
@@ -44,8 +41,7 @@ module _ (n : NetworkModel) (q : Query) (values : List (Option ℕ)) where
           found.0,
           record {
             at_target = λ e. absurd (away e);
-            elsewhere = λ e. subst
-                (IsLeastOf (λ w. (c : ℕ) × Offers n values Boards c w)) found.1 search.1;
+            elsewhere = grind arith;
           },
           omega (arith, found.2, own.2),
         )
@@ -120,9 +116,7 @@ raised_sum _ _ k same = absurd (omega arith)
 -- rounding down and up again loses less than one
 raised_mean : (row : List Outcome) (values : List ℕ) (k : ℕ) → IsValidRow row → length row ≡ length values
     → (weighted row (map (λ v. v + k) values) + 9999) / 10000 ≤ weighted row values / 10000 + (k + 1)
-raised_mean row values k good same =
-    let sum = rw good.total at (raised_sum row values k same) in
-    omega (arith, sum)
+raised_mean row values k good same = grind (arith, raised_sum)
 
 module _ (n : NetworkModel) (valid : IsValid n) (q : Query) (values : List (Option ℕ)) (tight : IsTight n q values) where
   as_many : (p arrival : ℕ) (row : List Outcome) (vs : List ℕ) → AreLeast n q values p arrival row vs → length row ≡ length vs
@@ -262,8 +256,7 @@ greatest n valid q values tight v least others w accepted other_least =
 -- ---- so it is the best
 
 pub tight_accepted : (n : NetworkModel) (q : Query) (values : List (Option ℕ)) → IsTight n q values → IsAccepted n q values
-tight_accepted n q values tight c there board j v leg via = least_up_to (λ v. (j : ℕ) × IsLeg n c j × IsVia n q values j v) (bound_of values c) v
-    (tight.boarded c there board) (j, leg, via)
+tight_accepted n q values tight c there board j v leg via = grind (arith, least_up_to)
 
 module _ (n : NetworkModel) (valid : IsValid n) (q : Query) (values : List (Option ℕ)) (tight : IsTight n q values) (never : (tree : Tree) → IsSafeFor n q tree → ⊥) where
   never_arrived : q.source.0 ≡ q.target.0 → None ≡ arrived_by q.deadline.0 q.start.0

@@ -1,7 +1,7 @@
 -- The names that most proofs of this crate cite, passed on from one place. Declares nothing.
 pub use Rattle.std.proofs.Common.{All, AllPairs, Bool, Contains, Err, Global, IfOk, IsPermutation, IsSorted, IsTrue, List, None, Ok, OnOk, Option, Ordering, Result, Some, Vec, [], ap, append-nil}
 pub use Rattle.std.proofs.Common.{append_assoc, arith, codes, cond, count_by, decimal, drop, eq-eqb, ext_get_or, false, get_or, get_or-set_other, get_or-set_same, get_or-take, if◌then◌else◌, inl}
-pub use Rattle.std.proofs.Common.{inr, is_lt, is_some, le-leb, le-ltb, leb-false, leb-true, length, length-set, length-take, lt-ltb, ltb, ltb-true, map, max, min, nat_cmp, nat_le, option_and_then}
+pub use Rattle.std.proofs.Common.{inr, is_lt, is_some, le-leb, le-ltb, leb-false, leb-true, length, length-set, length-take, lt-ltb, ltb, ltb-true, map, max, nat_cmp, nat_le, option_and_then}
 pub use Rattle.std.proofs.Common.{option_map, refl, reverse, rules, set, slice_get, slice_index_or, subst, suc, sum_by, sym, take, take_all, take_at, true, zero, ℕ, ◌*◌, ◌++◌, ◌+◌, ◌-◌, ◌/◌, ◌<◌}
 pub use Rattle.std.proofs.Common.{◌^◌, ◌∙◌, ◌∷◌, ◌≡◌, ◌≢◌, ◌≤◌, ◌⊎◌}
 pub use Rattle.std.proofs.Math.Nat.{le-max_left, max-le, mul-add, mul-le-mul_left, mul_assoc, mul_comm}
@@ -12,25 +12,9 @@ pub use Rattle.std.proofs.lemmas.List.Elements.{All-contains, All-map, All-pop, 
 pub use Rattle.std.proofs.lemmas.List.Sorted.{All-permutation, Contains-permutation, IsPartitionPoint-from_clause, IsPermutation-trans, length_permutation, ranks_by, sorted_far}
 pub use Rattle.std.proofs.lemmas.List.Sums.{count_by-le-length, sum_by-cons}
 pub use Rattle.std.specs.Result.{result_err}
-pub use Rattle.clock_text.specs.Civil.{last_printable, nanos_text}
+pub use Rattle.clock_text.specs.Civil.{last_printable}
 pub use Rattle.csv_rows.specs.Tables.{header, row_count, table_of}
 pub use Rattle.interval_fixed.specs.Means.{weighted}
-pub use Rattle.lower_proof.specs.Boards.{AreEntries, Falls, FrontValue, IsEntry, ShownBoard, ValueInTime, entry_at, least_of}
-pub use Rattle.lower_proof.specs.CertificateTexts.{bounds_record, certificate_text, entry_text, value_record, value_records}
-pub use Rattle.lower_proof.specs.Certificates.{AreLeast, HasValueUpTo, IsAccepted, IsLastFault, IsLeastAt, IsLeastAtStart, IsLeastOf, IsLeastValue, IsLocal, IsTight, IsVia, Offers, arrived_by}
-pub use Rattle.lower_proof.specs.Certificates.{bound_of}
-pub use Rattle.lower_proof.specs.Departures.{AreDepartingBy, IsDepartingBy, NoneAfter}
-pub use Rattle.lower_proof.specs.Minima.{AllLate, AreBoards, AreFresh, AreLate, AreMinima, HaveEntries, IsBoard, IsBoardOf, board_at}
-pub use Rattle.lower_proof.specs.Reading.{AreValuesReported, IsFaultAfter, IsFirstLineFault, IsProofRead, IsProofReported, IsReadBack, ReadsBack, bounds_in, bounds_numbers, bounds_row_in}
-pub use Rattle.lower_proof.specs.Reading.{connection_before, connection_in, is_bounds, nanos_in, reported_in, value_fault, value_row, value_row_in}
-pub use Rattle.lower_proof.specs.Steps.{AllFit, IsBestExit, KeepsTo, exit_of, lesser}
-pub use Rattle.lower_proof.specs.declared.LowerBounds.{LowerBounds}
-pub use Rattle.lower_proof.specs.declared.board.Entry.{Entry}
-pub use Rattle.lower_proof.specs.declared.reader.BoundsRow.{BoundsRow}
-pub use Rattle.lower_proof.specs.declared.reader.ProofFault.{ProofFault}
-pub use Rattle.lower_proof.specs.declared.reader.ProofFault.TheVariants.{NoConnection, NoMemory, NotRising, OtherQuery, Row, UnknownName}
-pub use Rattle.lower_proof.specs.declared.reader.RowValue.{RowValue}
-pub use Rattle.lower_proof.specs.declared.reader.ValueRow.{ValueRow}
 pub use Rattle.plan_model.proofs.Boarding.{boards_later, listed-way_of, way_of-listed, way_takes}
 pub use Rattle.plan_model.proofs.Bounds.{forward}
 pub use Rattle.plan_model.proofs.Results.{require-ok}
@@ -51,3 +35,19 @@ pub use Rattle.printed_rows.proofs.Lines.{four_fields, name_is, seven_fields, sp
 pub use Rattle.printed_rows.specs.Fields.{connection_of, field, is_query, number_of, rises, whole_at}
 pub use Rattle.printed_rows.specs.Writers.{run_name, text_of_records}
 unfoldable pub use Rattle.printed_rows.specs.Writers.{row_of_fields}
+pub use Rattle.lower_proof.specs.Boards.{AreEntries, Falls, FrontValue, IsEntry, ShownBoard, ValueInTime, entry_at, least_of}
+pub use Rattle.lower_proof.specs.CertificateTexts.{bounds_record, certificate_text, entry_text, value_record, value_records}
+pub use Rattle.lower_proof.specs.Certificates.{AreLeast, HasValueUpTo, IsAccepted, IsLastFault, IsLeastAt, IsLeastAtStart, IsLeastOf, IsLeastValue, IsLocal, IsTight, IsVia, Offers, arrived_by}
+pub use Rattle.lower_proof.specs.Certificates.{bound_of}
+pub use Rattle.lower_proof.specs.Departures.{AreDepartingBy, IsDepartingBy, NoneAfter}
+pub use Rattle.lower_proof.specs.Minima.{AllLate, AreBoards, AreFresh, AreLate, AreMinima, HaveEntries, IsBoard, IsBoardOf, board_at}
+pub use Rattle.lower_proof.specs.Reading.{AreValuesReported, IsFaultAfter, IsFirstLineFault, IsProofRead, IsProofReported, IsReadBack, ReadsBack, bounds_in, bounds_numbers, bounds_row_in}
+pub use Rattle.lower_proof.specs.Reading.{connection_before, connection_in, is_bounds, nanos_in, reported_in, value_fault, value_row, value_row_in}
+pub use Rattle.lower_proof.specs.Steps.{AllFit, IsBestExit, KeepsTo, exit_of, lesser}
+pub use Rattle.lower_proof.specs.declared.LowerBounds.{LowerBounds}
+pub use Rattle.lower_proof.specs.declared.board.Entry.{Entry}
+pub use Rattle.lower_proof.specs.declared.reader.BoundsRow.{BoundsRow}
+pub use Rattle.lower_proof.specs.declared.reader.ProofFault.{ProofFault}
+pub use Rattle.lower_proof.specs.declared.reader.ProofFault.TheVariants.{NoConnection, NoMemory, NotRising, OtherQuery, Row, UnknownName}
+pub use Rattle.lower_proof.specs.declared.reader.RowValue.{RowValue}
+pub use Rattle.lower_proof.specs.declared.reader.ValueRow.{ValueRow}

@@ -1,7 +1,7 @@
 -- The connections that depart by a moment, in order, are in the scan order.
-use Rattle.lower_proof.proofs.Common.{◌≡◌, ℕ, ◌+◌, ◌<◌, ◌≤◌, ◌∷◌, [], ◌++◌, List, length, map, All, AllPairs, Contains, arith, inl, inr, sym, ap, ◌∙◌, refl, subst, append_assoc, IsPermutation}
-use Rattle.lower_proof.proofs.Common.{append-nil, cases_lt, map-append, All-push, All-map, All-contains, Contains-append_left, Contains-append_right, All-permutation, Contains-permutation}
-use Rattle.lower_proof.proofs.Common.{Departure, ConnectionId, NetworkModel, IsValid, count, dep_of, IsOrderBut, IsNext, Known, next_of, all_known, earlier_in_order, IsDepartingBy, AreDepartingBy}
+use Rattle.lower_proof.proofs.Common.{◌≡◌, ℕ, ◌+◌, ◌<◌, ◌≤◌, ◌∷◌, [], ◌++◌, List, length, map, All, AllPairs, Contains, arith, inl, inr, sym, ap, ◌∙◌, refl, append_assoc, IsPermutation, append-nil}
+use Rattle.lower_proof.proofs.Common.{cases_lt, map-append, All-push, All-map, All-contains, Contains-append_left, Contains-append_right, All-permutation, Contains-permutation, Departure}
+use Rattle.lower_proof.proofs.Common.{ConnectionId, NetworkModel, IsValid, count, dep_of, IsOrderBut, IsNext, Known, next_of, all_known, earlier_in_order, IsDepartingBy, AreDepartingBy}
 use Rattle.std.proofs.lemmas.List.Quantifiers.{all_pairs_push}
 use Rattle.plan_model.specs.Order.{IsEarlier, departure_of, IsInOrder}
 use Rattle.plan_model.proofs.Lists.{AllPairs-map, Contains-map, Contains-from_map}
@@ -26,12 +26,7 @@ found_more n last m found d there is soon are =
     record {
       each = All-push (IsDepartingBy n last) found d are.each (omega arith, departs, soon);
       below = All-push (λ (x : Departure). x.id.0 < m + 1) found d (λ k e within. let less = are.below k e within in omega arith) (omega arith);
-      all = λ c less by. elim (cases_lt c m) [
-        | inl before ↦ Contains-append_left found (d ∷ []) (departure_of n (record { 0 = c })) (are.all c before by)
-        | inr newest ↦
-            let same : m ≡ c = omega arith in
-            Contains-append_right found (d ∷ []) (departure_of n (record { 0 = c })) (0, omega arith, is ∙ ap (λ (i : ℕ). departure_of n (record { 0 = i })) same)
-      ];
+      all = grind (arith, cases_lt, Contains-append_left, Contains-append_right);
       rising = all_pairs_push (λ (a b : Departure). a.id.0 < b.id.0) found d are.rising (λ k e within. let less = are.below k e within in omega arith);
     }
 
@@ -85,10 +80,7 @@ rest_first n last departures are = rw (append-nil (ids_of departures)) (departur
 module _ (n : NetworkModel) (good : IsValid n) (last : ℕ) (taken : List ConnectionId) (before rest : List Departure) (d : Departure) (popped : before ≡ rest ++ d ∷ [])
     (is : IsRest n last before taken) where
   pub rest_popped : IsRest n last rest (d.id ∷ taken)
-  rest_popped = subst (IsOrderBut n (Late n last))
-      (ap (λ (ds : List Departure). ids_of ds ++ taken) popped
-      ∙ ap (λ (ids : List ConnectionId). ids ++ taken) (map-append (λ (x : Departure). x.id) rest (d ∷ []))
-      ∙ append_assoc (ids_of rest) (d.id ∷ []) taken) is
+  rest_popped = grind (arith, ids_of, map-append, append_assoc)
 
   pub next_popped : IsNext n (Known (Late n last) taken) d.id.0
   next_popped = next_of n good (Late n last) (ids_of rest ++ d.id ∷ taken) rest_popped (ids_of rest) taken d.id (append_assoc (ids_of rest) (d.id ∷ []) taken)

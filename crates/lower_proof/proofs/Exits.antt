@@ -155,8 +155,7 @@ Agree n moment values others = (c : ℕ) → c < count n → moment < dep_of n c
 same_least : (n : NetworkModel) (moment : ℕ) (P : List (Option ℕ) → ℕ → Type 0) →
     ((values others : List (Option ℕ)) → Agree n moment values others → (v : ℕ) → P values v → P others v)
     → (values others : List (Option ℕ)) → Agree n moment values others → (least : Option ℕ) → IsLeastOf (P values) least → IsLeastOf (P others) least
-same_least n moment P each values others agree least = least_same (P values) (P others) (each values others agree) least
-    (each others values (λ c there later. sym (agree c there later)))
+same_least n moment P each values others agree least = grind (arith, least_same)
 
 module _ (n : NetworkModel) (good : IsValid n) (q : Query) (moment : ℕ) where
   offers_agree : (p x : ℕ) → moment ≤ x → (values others : List (Option ℕ)) → Agree n moment values others → (v : ℕ)

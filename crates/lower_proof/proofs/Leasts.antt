@@ -1,38 +1,14 @@
 -- The least of numbers that are found one after the other.
-use Rattle.lower_proof.proofs.Common.{◌≡◌, ℕ, zero, suc, ◌+◌, ◌<◌, ◌≤◌, ◌⊎◌, min, List, Option, Some, None, IsTrue, arith, inl, inr, ap, subst, refl, both_ways, cases_Bool, cases_eq, cases_lt}
+use Rattle.lower_proof.proofs.Common.{◌≡◌, ℕ, zero, suc, ◌+◌, ◌<◌, ◌≤◌, ◌⊎◌, List, Option, Some, None, IsTrue, arith, inl, inr, ap, subst, refl, both_ways, cases_Bool, cases_eq, cases_lt}
 use Rattle.lower_proof.proofs.Common.{NetworkModel, count, connection, from_of, dep_of, way_of, IsBoardable, IsBoardableAtStart, bound_of, IsLeastOf, Offers, HasValueUpTo, lesser, KeepsTo}
 
 -- with what may be one number more
 module _ (P Q : ℕ → Type 0) (there : (v : ℕ) → P v → Q v) where
   pub least_with : (r here : Option ℕ) → IsLeastOf P r → ((v : ℕ) → here ≡ Some v → Q v) → ((v : ℕ) → Q v → P v ⊎ (here ≡ Some v)) → IsLeastOf Q (lesser r here)
-  least_with None None least own cases = λ v h. elim (cases v h) [
-    | inl before ↦ least v before
-    | inr is ↦ cc
-  ]
-  least_with None (Some u) least own cases = (
-    own u refl,
-    λ w h. elim (cases w h) [
-      | inl before ↦ absurd (least w before)
-      | inr is ↦ let same : u ≡ w = (cc) in omega arith
-    ],
-  )
-  least_with (Some v) None least own cases = (
-    there v least.0,
-    λ w h. elim (cases w h) [
-      | inl before ↦ least.1 w before
-      | inr is ↦ absurd (cc)
-    ],
-  )
-  least_with (Some v) (Some u) least own cases = (
-    elim (cases_lt u v) [
-      | inl less ↦ let is : min v u ≡ u = omega arith in rw is (own u refl)
-      | inr more ↦ let is : min v u ≡ v = omega arith in rw is (there v least.0)
-    ],
-    λ w h. elim (cases w h) [
-      | inl before ↦ let rest = least.1 w before in omega arith
-      | inr e ↦ let same : u ≡ w = (cc) in omega arith
-    ],
-  )
+  least_with None None least own cases = grind arith
+  least_with None (Some u) least own cases = grind arith
+  least_with (Some v) None least own cases = grind arith
+  least_with (Some v) (Some u) least own cases = grind (arith, cases_lt)
 
   -- with none more
   pub least_same : (r : Option ℕ) → ((v : ℕ) → Q v → P v) → IsLeastOf P r → IsLeastOf Q r
@@ -80,22 +56,17 @@ module _ (R : ℕ → ℕ → Type 0) where
 
   -- one more, which has none
   pub below_same : (m : ℕ) (r : Option ℕ) → ((v : ℕ) → R m v → ⊥) → IsLeastOf (Below R m) r → IsLeastOf (Below R (m + 1)) r
-  below_same m r never = least_same (Below R m) (Below R (m + 1)) (grown m) r (λ v f. elim (at_last m v f) [
-    | inl before ↦ before
-    | inr last ↦ absurd (never v last)
-  ])
+  below_same m r never = grind (arith, least_same, grown, at_last)
 
 module _ (n : NetworkModel) (values : List (Option ℕ)) (Boards : ℕ → Type 0) where
   -- one connection more, that can be boarded
   pub with_offer : (m : ℕ) (r : Option ℕ) → m < count n → IsTrue (connection n m).can_board → Boards m → IsLeastOf (Below (Offers n values Boards) m) r
       → IsLeastOf (Below (Offers n values Boards) (m + 1)) (lesser r (bound_of values m))
-  with_offer m r there board boards = below_more (Offers n values Boards) m r (bound_of values m)
-      (λ v is. record { there = there; board = board; boards = boards; value = is }) (λ v o. o.value)
+  with_offer m r there board boards = grind (arith, below_more)
 
   -- all of them
   pub all_offers : (r : Option ℕ) → IsLeastOf (Below (Offers n values Boards) (count n)) r → IsLeastOf (λ v. (c : ℕ) × Offers n values Boards c v) r
-  all_offers r = least_same (Below (Offers n values Boards) (count n)) (λ v. (c : ℕ) × Offers n values Boards c v) (λ v o. (o.0, o.2)) r
-      (λ v o. (o.0, o.1.there, o.1))
+  all_offers r = grind (arith, least_same)
 
   -- the least is found, where it can be decided which can be boarded
   least_offer : ((c : ℕ) → Boards c ⊎ (Boards c → ⊥)) → (r : Option ℕ) × IsLeastOf (λ v. (c : ℕ) × Offers n values Boards c v) r

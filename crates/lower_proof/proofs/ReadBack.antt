@@ -1,10 +1,10 @@
 -- What was printed of a certificate is read back, and how its rows are printed one after another.
-use Rattle.lower_proof.proofs.Common.{◌≡◌, ◌≢◌, ℕ, zero, suc, ◌+◌, ◌<◌, ◌≤◌, ◌^◌, true, List, [], ◌∷◌, length, Option, Some, None, Ok, Err, Result, arith, inl, inr, sym, ◌∙◌, ap, subst, refl}
-use Rattle.lower_proof.proofs.Common.{◌++◌, drop, cond, is_some, codes, decimal, slice_index_or, count_by, option_map, ext_get_or, append-nil, eq-eqb, lt-ltb, le-leb, IfOk, OnOk, result_err}
-use Rattle.lower_proof.proofs.Common.{max-le, sum_by-cons, drop_all, cases_eq, nanos_text, last_printable, table_of, row_count, Query, NetworkModel, NameLists, NamesFit, AreNames, IsValid, count}
-use Rattle.lower_proof.proofs.Common.{run_of, step_of, rises, run_name, row_of_fields, text_of_records, text_step, split_at, LowerBounds, BoundsRow, ValueRow, ProofFault, bound_of, bounds_record}
-use Rattle.lower_proof.proofs.Common.{value_record, value_records, certificate_text, entry_text, bounds_row_in, bounds_in, value_row_in, connection_in, nanos_in, reported_in, value_row}
-use Rattle.lower_proof.proofs.Common.{connection_before, value_fault, AreValuesReported, IsProofReported, IsProofRead, IsReadBack, AllFit}
+use Rattle.lower_proof.proofs.Common.{◌≡◌, ◌≢◌, ℕ, zero, suc, ◌+◌, ◌<◌, ◌≤◌, ◌^◌, true, List, [], ◌∷◌, length, Option, Some, None, Ok, Err, Result, arith, inl, inr, sym, ◌∙◌, ap, subst, refl, ◌++◌}
+use Rattle.lower_proof.proofs.Common.{drop, cond, is_some, codes, decimal, slice_index_or, count_by, option_map, ext_get_or, append-nil, eq-eqb, lt-ltb, le-leb, IfOk, OnOk, result_err, max-le}
+use Rattle.lower_proof.proofs.Common.{sum_by-cons, drop_all, cases_eq, last_printable, table_of, row_count, Query, NetworkModel, NameLists, NamesFit, AreNames, IsValid, count, step_of, rises}
+use Rattle.lower_proof.proofs.Common.{row_of_fields, text_of_records, text_step, split_at, LowerBounds, BoundsRow, ValueRow, ProofFault, bound_of, bounds_record, value_record, value_records}
+use Rattle.lower_proof.proofs.Common.{certificate_text, entry_text, bounds_in, value_row_in, connection_in, nanos_in, reported_in, value_row, connection_before, value_fault, AreValuesReported}
+use Rattle.lower_proof.proofs.Common.{IsProofReported, IsProofRead, IsReadBack, AllFit}
 use Rattle.clock_text.proofs.Walk.{text_reports}
 use Rattle.clock_text.proofs.NanosLemmas.{nanos_report}
 use Rattle.printed_rows.proofs.Found.{connection_back}
@@ -50,14 +50,9 @@ module _ (n : NetworkModel) (names : NameLists) where
       × (bound_of values (offset_at values k) ≡ Some v) × (slice_index_or (value_records n names c values) k [] ≡ value_record n names
       (c + offset_at values k) v)
   row_at c [] k within = absurd (omega (arith, within))
-  row_at c (None ∷ values) k within =
-      let (v, inside, value, row) = row_at (c + 1) values k within in
-      (v, omega (arith, inside), value, row ∙ shifted c (offset_at values k) v)
-  row_at c (Some w ∷ values) zero within =
-      (w, omega arith, refl, let e : c ≡ c + 0 = omega arith in ap (λ (d : ℕ). value_record n names d w) e)
-  row_at c (Some w ∷ values) (suc k) within =
-      let (v, inside, value, row) = row_at (c + 1) values k (omega (arith, within)) in
-      (v, omega (arith, inside), value, row ∙ shifted c (offset_at values k) v)
+  row_at c (None ∷ values) k within = grind (arith, shifted, offset_at, row_at (c + 1) values k within)
+  row_at c (Some w ∷ values) zero within = grind arith
+  row_at c (Some w ∷ values) (suc k) within = grind (arith, shifted, offset_at, row_at (c + 1) values k (omega (arith, within)))
 
   -- offsets rise
   offsets_rise : (c : ℕ) (values : List (Option ℕ)) (k : ℕ) → suc k < length (value_records n names c values) → offset_at values k < offset_at values (suc k)
@@ -69,12 +64,8 @@ module _ (n : NetworkModel) (names : NameLists) where
   -- each value that is there has a row
   row_of_value : (c : ℕ) (values : List (Option ℕ)) (offset v : ℕ) → bound_of values offset ≡ Some v
       → (k : ℕ) × (k < length (value_records n names c values)) × (slice_index_or (value_records n names c values) k [] ≡ value_record n names (c + offset) v)
-  row_of_value c (None ∷ values) (suc offset) v is =
-      let own = row_of_value (c + 1) values offset v is in (own.0, own.1, own.2 ∙ shifted c offset v)
-  row_of_value c (Some w ∷ values) zero v is =
-      let same : w ≡ v = cc in
-      let e : c ≡ c + 0 = omega arith in
-      (0, omega arith, ap (λ (d : ℕ). value_record n names d w) e ∙ ap (value_record n names (c + 0)) same)
+  row_of_value c (None ∷ values) (suc offset) v is = grind (arith, shifted, row_of_value (c + 1) values offset v is)
+  row_of_value c (Some w ∷ values) zero v is = grind arith
   row_of_value c (Some w ∷ values) (suc offset) v is =
       let own = row_of_value (c + 1) values offset v is in (suc own.0, omega (arith, own.1), own.2 ∙ shifted c offset v)
   row_of_value c _ _ v is = absurd (cc)
@@ -83,8 +74,7 @@ module _ (n : NetworkModel) (names : NameLists) (valid : IsValid n) (fit : Names
   -- ---- a value row
 
   record_kept : (c v : ℕ) → c < count n → IsKept (value_record n names c v)
-  record_kept c v there =
-      four_kept (codes "value") (run_name names (run_of n c)) (decimal (step_of n c)) (nanos_text v) refl (run_kept n names fit c there) (step_kept n valid c there) (nanos_kept v)
+  record_kept c v there = grind (arith, four_kept, codes, decimal, run_kept, step_kept, nanos_kept)
 
   records_kept : (c : ℕ) (values : List (Option ℕ)) → c + length values ≤ count n → AreKept (value_records n names c values)
   records_kept c [] within = tt
@@ -134,9 +124,7 @@ module _ (n : NetworkModel) (names : NameLists) (valid : IsValid n) (fit : Names
 
     row_rises : (i : ℕ) → i < length rows → rises (connection_before n names table i) (offset_at values i) ≡ true
     row_rises zero within = refl
-    row_rises (suc i) within =
-        ap (λ (last : Option ℕ). rises last (offset_at values (suc i))) (row_connection i (omega (arith, within)))
-        ∙ lt-ltb (offset_at values i) (offset_at values (suc i)) (offsets_rise n names 0 values i within)
+    row_rises (suc i) within = grind (arith, offset_at, row_connection, lt-ltb, offsets_rise)
 
     row_faultless : (stated i : ℕ) → i < stated → i < length rows → value_fault n names table stated i ≡ None
     row_faultless stated i inside within =
@@ -154,9 +142,7 @@ module _ (n : NetworkModel) (names : NameLists) (valid : IsValid n) (fit : Names
 
     never_reported : (c : ℕ) → ((i : ℕ) → i < length rows → connection_in n names (value_row table i) ≢ Some c) → (own_value : Option ℕ) → bound_of values c ≡ own_value → own_value ≡ None
     never_reported c never None is = refl
-    never_reported c never (Some v) is =
-        let at = row_for c v is in
-        absurd (never at.0 at.1 (ap (connection_in n names) at.2 ∙ named_back c v (omega (arith, as_many, present values c v is)) (small c v is)))
+    never_reported c never (Some v) is = grind (arith, row_for, named_back, present)
 
     -- and no other values are given
     only : (stated : ℕ) (others : List (Option ℕ)) → AreValuesReported n names table stated others → others ≡ values
@@ -205,12 +191,8 @@ module _ (n : NetworkModel) (names : NameLists) (valid : IsValid n) (fit : Names
     abbrev bounds : BoundsRow
     bounds = record { start = q.start; deadline = q.deadline; number = count_by is_some values }
 
-    bounds_row_back : bounds_row_in (bounds_record names q values) ≡ Some bounds
-    bounds_row_back =
-        rw (text_reports q.start.0 start, text_reports q.deadline.0 deadline, whole_back (count_by is_some values) few, le-leb q.start.0 q.deadline.0 in_time) refl
-
     bounds_back : bounds_in names q.source.0 q.target.0 q.start.0 (bounds_record names q values) ≡ Ok bounds
-    bounds_back = grind (arith, bounds_row_back, place_back, eq-eqb)
+    bounds_back = grind (arith, text_reports, whole_back, le-leb, place_back, eq-eqb)
 
     table_is : length values ≡ count n → table_of (certificate_text n names q values) ≡ bounds_record names q values ∷ value_records n names 0 values
     unfolding row_of_fields
@@ -256,8 +238,7 @@ values_step n names values i new old all within is before =
 -- after the last one
 pub values_done : (n : NetworkModel) (names : NameLists) (values : List (Option ℕ)) (i : ℕ) (new all : List ℕ) → length values ≤ i
     → new ++ text_of_records (value_records n names i (drop i values)) ≡ all → new ≡ all
-values_done n names values i new all whole is =
-    sym (append-nil new) ∙ ap (λ (list : List (Option ℕ)). new ++ text_of_records (value_records n names i list)) (sym (drop_all i values whole)) ∙ is
+values_done n names values i new all whole is = grind (arith, append-nil, drop_all)
 
 -- one more fits
 pub fit_more : (values : List (Option ℕ)) (i : ℕ) → AllFit i values → ((v : ℕ) → slice_index_or values i None ≡ Some v → v < 2 ^ 64) → AllFit (i + 1) values

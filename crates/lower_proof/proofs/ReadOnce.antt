@@ -1,9 +1,8 @@
 -- A text gives one certificate, or has one first fault, and that is never that memory ran out.
 use Rattle.lower_proof.proofs.Common.{◌≡◌, ◌≢◌, ℕ, zero, suc, ◌+◌, ◌<◌, ◌⊎◌, Bool, true, false, List, Option, Some, None, Ok, Err, Result, arith, inl, inr, sym, ◌∙◌, ap, subst, ext_get_or}
-use Rattle.lower_proof.proofs.Common.{if◌then◌else◌, result_err, cases_eq, cases_lt, cases_order, table_of, row_count, header, Query, NetworkModel, NameLists, field, number_of, connection_of}
-use Rattle.lower_proof.proofs.Common.{rises, is_query, LowerBounds, BoundsRow, RowValue, ProofFault, Row, UnknownName, NoConnection, NotRising, OtherQuery, NoMemory, bound_of, bounds_row_in}
-use Rattle.lower_proof.proofs.Common.{bounds_in, value_row_in, connection_in, reported_in, value_row, connection_before, value_fault, IsFirstLineFault, IsFaultAfter, AreValuesReported}
-use Rattle.lower_proof.proofs.Common.{IsProofReported, IsProofRead}
+use Rattle.lower_proof.proofs.Common.{if◌then◌else◌, result_err, cases_eq, cases_lt, cases_order, table_of, row_count, header, Query, NetworkModel, NameLists, field, number_of, connection_of, rises}
+use Rattle.lower_proof.proofs.Common.{is_query, LowerBounds, BoundsRow, RowValue, ProofFault, Row, UnknownName, NoConnection, NotRising, OtherQuery, NoMemory, bound_of, bounds_row_in, bounds_in}
+use Rattle.lower_proof.proofs.Common.{value_row_in, connection_in, reported_in, value_row, connection_before, IsFirstLineFault, IsFaultAfter, AreValuesReported, IsProofReported, IsProofRead}
 use Rattle.plan_model.specs.Results.{require}
 
 -- ---- memory is enough for each line
@@ -99,16 +98,7 @@ module _ (n : NetworkModel) (names : NameLists) (t : List (List (List ℕ))) whe
       ]
 
   one_fault : (stated : ℕ) (f g : ProofFault) → IsFirstLineFault n names t stated f → IsFirstLineFault n names t stated g → f ≡ g
-  one_fault stated f g one two = elim (cases_order one.i two.i) [
-    | inl same ↦
-        let here : value_fault n names t stated two.i ≡ Some f = subst (λ (k : ℕ). value_fault n names t stated k ≡ Some f) same one.here in
-        let both : ◌≡◌ {A = Option ProofFault} (Some f) (Some g) = sym here ∙ two.here in
-        cc
-    | inr apart ↦ elim apart [
-      | inl sooner ↦ let both : ◌≡◌ {A = Option ProofFault} (Some f) None = sym one.here ∙ two.first one.i sooner in absurd (cc)
-      | inr later ↦ let both : ◌≡◌ {A = Option ProofFault} (Some g) None = sym two.here ∙ one.first two.i later in absurd (cc)
-    ]
-  ]
+  one_fault stated f g one two = grind (arith, cases_order)
 
   after_one : (first : Result BoundsRow ProofFault) (f g : ProofFault) → IsFaultAfter n names t first f → IsFaultAfter n names t first g → f ≡ g
   after_one (Ok bounds) f g one two = one_fault bounds.number f g one two
@@ -116,11 +106,7 @@ module _ (n : NetworkModel) (names : NameLists) (t : List (List (List ℕ))) whe
 
   not_both : (first : Result BoundsRow ProofFault) (bounds : BoundsRow) (values : List (Option ℕ)) (f : ProofFault) → first ≡ Ok bounds
       → AreValuesReported n names t bounds.number values → IsFaultAfter n names t first f → ⊥
-  not_both (Ok own) bounds values f is reported late =
-      let same : own ≡ bounds = cc in
-      let first : IsFirstLineFault n names t bounds.number f = subst (λ (b : BoundsRow). IsFirstLineFault n names t b.number f) same late in
-      let both : ◌≡◌ {A = Option ProofFault} (Some f) None = sym first.here ∙ reported.faultless first.i first.within in
-      absurd (cc)
+  not_both (Ok own) bounds values f is reported late = grind arith
   not_both (Err fault) bounds values f is reported late = absurd (cc)
 
 module _ (n : NetworkModel) (names : NameLists) (source target start : ℕ) where

@@ -1,8 +1,8 @@
 -- What is read of the value rows so far.
-use Rattle.lower_proof.proofs.Common.{◌≡◌, ◌≢◌, ℕ, suc, ◌+◌, ◌<◌, ◌≤◌, ◌⊎◌, true, List, [], length, set, Option, Some, None, Ok, Err, Result, arith, inl, inr, sym, ◌∙◌, ap, subst, refl}
-use Rattle.lower_proof.proofs.Common.{get_or-set_other, get_or-set_same, max, option_map, option_and_then, lt-ltb, ltb-true, le-ltb, length-set, result_err, le-max_left, cases_lt, get_or_past}
-use Rattle.lower_proof.proofs.Common.{row_count, require-ok, if-value, NetworkModel, NameLists, count, field, number_of, connection_of, rises, ValueRow, RowValue, ProofFault, Row, bound_of}
-use Rattle.lower_proof.proofs.Common.{value_row_in, connection_in, nanos_in, reported_in, value_row, connection_before, value_fault, IsFirstLineFault, AreValuesReported}
+use Rattle.lower_proof.proofs.Common.{◌≡◌, ◌≢◌, ℕ, suc, ◌+◌, ◌<◌, ◌≤◌, ◌⊎◌, true, List, length, set, Option, Some, None, Ok, Err, Result, arith, inl, inr, sym, ◌∙◌, ap, subst, refl, get_or-set_other}
+use Rattle.lower_proof.proofs.Common.{get_or-set_same, max, option_map, option_and_then, lt-ltb, ltb-true, le-ltb, length-set, result_err, le-max_left, cases_lt, get_or_past, row_count, require-ok}
+use Rattle.lower_proof.proofs.Common.{if-value, NetworkModel, NameLists, count, field, number_of, connection_of, rises, ValueRow, RowValue, ProofFault, Row, bound_of, value_row_in, connection_in}
+use Rattle.lower_proof.proofs.Common.{nanos_in, reported_in, value_row, connection_before, value_fault, IsFirstLineFault, AreValuesReported}
 
 -- ---- a row that is well formed
 
@@ -51,8 +51,7 @@ read_first n names t stated values as_many none = grind arith
 -- the fault of row i, by what it gives after the row before
 fault_is : (n : NetworkModel) (names : NameLists) (t : List (List (List ℕ))) (stated i : ℕ) (last : Option ℕ) (reported : Result RowValue ProofFault) → i < stated → last ≡ connection_before n names t i
     → reported ≡ reported_in n names (i + 2) last (value_row t i) → value_fault n names t stated i ≡ result_err reported
-fault_is n names t stated i last reported inside before is =
-    rw (lt-ltb i stated inside, ← before) (ap result_err (sym is))
+fault_is n names t stated i last reported inside before is = grind (arith, lt-ltb, result_err)
 
 module _ (n : NetworkModel) (names : NameLists) (t : List (List (List ℕ))) (stated i : ℕ) (values : List (Option ℕ)) (last : Option ℕ) (so_far : IsReadTo n names t stated i values last) where
   below_or_here : (k : ℕ) → k < i + 1 → (k < i) ⊎ (k ≡ i)
@@ -115,13 +114,7 @@ module _ (n : NetworkModel) (names : NameLists) (t : List (List (List ℕ))) (st
   ends_here within ends = record {
     i = i;
     within = within;
-    here = elim (cases_lt i stated) [
-      | inr too_many ↦ rw (le-ltb i stated too_many) refl
-      | inl inside ↦ elim ends [
-        | inl past ↦ rw (lt-ltb i stated inside, get_or_past t (i + 1) [] (omega (arith, past))) refl
-        | inr more ↦ absurd (omega (arith, more, inside))
-      ]
-    ];
+    here = grind (arith, cases_lt, le-ltb, lt-ltb, get_or_past);
     first = so_far.faultless;
   }
 

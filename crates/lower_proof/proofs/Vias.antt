@@ -1,7 +1,7 @@
 -- The value of leaving by a connection.
 use Rattle.lower_proof.proofs.Common.{◌≡◌, ℕ, zero, suc, ◌+◌, ◌*◌, ◌/◌, ◌<◌, ◌≤◌, List, [], ◌∷◌, ◌++◌, length, take, drop, get_or, Option, Some, None, IsTrue, arith, sym, ◌∙◌, ap, subst, refl}
-use Rattle.lower_proof.proofs.Common.{sum_by, mul-le-mul_left, mul-add, mul_comm, cases_eq, take_more, sum_by-cons, Outcome, Query, NetworkModel, IsValid, count, connection, to_of, arr_of}
-use Rattle.lower_proof.proofs.Common.{outcomes, boards_later, weighted, IsLeastOf, IsLeastValue, IsLeastAt, AreLeast, IsVia, NoneAfter}
+use Rattle.lower_proof.proofs.Common.{sum_by, mul-le-mul_left, mul-add, mul_comm, cases_eq, take_more, sum_by-cons, Outcome, Query, NetworkModel, IsValid, count, connection, to_of, arr_of, outcomes}
+use Rattle.lower_proof.proofs.Common.{boards_later, weighted, IsLeastOf, IsLeastValue, IsLeastAt, AreLeast, IsVia, NoneAfter}
 use Rattle.std.proofs.Math.Seq.{drop-cons}
 use Rattle.lower_proof.proofs.Leasts.{IsLeastOf-unique}
 
@@ -32,10 +32,7 @@ module _ (n : NetworkModel) (q : Query) (values : List (Option ℕ)) (p arrival 
   -- and only one after each outcome
   pub AreLeast-unique : (row : List Outcome) (vs ws : List ℕ) → AreLeast n q values p arrival row vs → AreLeast n q values p arrival row ws → vs ≡ ws
   AreLeast-unique [] [] [] h k = refl
-  AreLeast-unique (o ∷ row) (v ∷ vs) (w ∷ ws) h k =
-      let first = IsLeast-unique n q values _ p (arrival + o.delay) (Some v) (Some w) h.0 k.0 in
-      let rest = AreLeast-unique row vs ws h.1 k.1 in
-      cc
+  AreLeast-unique (o ∷ row) (v ∷ vs) (w ∷ ws) h k = grind (arith, IsLeast-unique, AreLeast-unique row vs ws h.1 k.1)
   AreLeast-unique _ _ _ h k = absurd (assumption (h, k))
 
   -- the sum by weight of the least values after the outcomes
@@ -71,16 +68,12 @@ module _ (n : NetworkModel) (q : Query) (values : List (Option ℕ)) (p arrival 
   pub never_least : (row : List Outcome) (vs : List ℕ) (k : ℕ) → k < length row → IsLeastAt n q values p (arrival + (outcome_at row k).delay) None → AreLeast n q values p arrival row vs → ⊥
   never_least [] vs k within none all = absurd (omega arith)
   never_least (e ∷ row) [] k within none all = all
-  never_least (e ∷ row) (v ∷ vs) zero within none all =
-      let both = IsLeast-unique n q values _ p (arrival + e.delay) None (Some v) none all.0 in
-      absurd (cc)
+  never_least (e ∷ row) (v ∷ vs) zero within none all = grind (arith, IsLeast-unique)
   never_least (e ∷ row) (v ∷ vs) (suc k) within none all = never_least row vs k (omega arith) none all.1
 
 module _ (n : NetworkModel) (q : Query) (values : List (Option ℕ)) (j : ℕ) where
   IsVia-unique : (v w : ℕ) → IsVia n q values j v → IsVia n q values j w → v ≡ w
-  IsVia-unique v w h k =
-      let same = AreLeast-unique n q values (to_of n j) (arr_of n j) (outcomes n j) h.least k.least h.are_least k.are_least in
-      sym h.mean ∙ ap (λ (vs : List ℕ). weighted (outcomes n j) vs / 10000) same ∙ k.mean
+  IsVia-unique v w h k = grind (arith, AreLeast-unique)
 
   -- where it is there, it is the least, since there is only one
   pub least_via : (v : ℕ) → IsVia n q values j v → IsLeastOf (IsVia n q values j) (Some v)

@@ -1,5 +1,4 @@
-use Rattle.lower_proof.proofs.Common.{◌≡◌, ◌+◌, ◌-◌, ◌<◌, ◌∙◌, length, slice_get, Some, arith, subst, ap, length-set, get_or_default, Connection, from_of, dep_of, ways_into, way_takes}
-use Rattle.lower_proof.proofs.Common.{way_of-listed}
+use Rattle.lower_proof.proofs.Common.{◌≡◌, ◌+◌, ◌-◌, ◌<◌, ◌∙◌, length, slice_get, Some, arith, subst, ap, length-set, get_or_default, Connection, from_of, dep_of, ways_into, way_takes, way_of-listed}
 use Rattle.lower_proof.proofs.Entries.{no_board, no_ways, all_ways, way_passed, way_added}
 use Rattle.lower_proof.proofs.board.add_entries.Goals as goal
 use Rattle.lower_proof.proofs.board.add_entries.Goals.{then-seconds-connection+in_ok-add, else-seconds-connection}
