@@ -1,7 +1,7 @@
 -- Answers and faults, one from another.
-use Rattle.meat_engine.proofs.Common.{◌≡◌, ℕ, List, Option, None, Result, inl, inr, refl, ap, sym, ◌∙◌, subst, ◌≢◌, option_map, RoseAt, FilesState, TimetableModel, JourneyModel, AskModel, Safe}
-use Rattle.meat_engine.proofs.Common.{Expand, Plan, Replay, Certify, CheckProof, CheckGraph, Punctual, Departures, Latest, Input, Fault, Read, NoSafe, NoMemory, unread_input, NamedParts, HasSite}
-use Rattle.meat_engine.proofs.Common.{IsStageBeforeSearch, Problem, path_of, HasCauses, OrNoMemory, own_paths, parts_of, IsRefusalBy}
+use Rattle.meat_engine.proofs.Common.{arith, ◌≡◌, ℕ, List, Option, None, Result, inl, inr, refl, subst, ◌≢◌, RoseAt, FilesState, TimetableModel, JourneyModel, AskModel, Safe, Expand, Plan, Replay}
+use Rattle.meat_engine.proofs.Common.{Certify, CheckProof, CheckGraph, Punctual, Departures, Latest, Input, Fault, Read, NoSafe, NoMemory, unread_input, NamedParts, HasSite, IsStageBeforeSearch}
+use Rattle.meat_engine.proofs.Common.{path_of, HasCauses, OrNoMemory, own_paths, IsRefusalBy}
 use Rattle.journey_model.specs.declared.faults.Input.TheVariants as input
 use Rattle.journey_model.proofs.Sited.{has_site}
 use Rattle.journey_problem.specs.FaultsBeforeSearch.{IsBeforeSearch}
@@ -20,24 +20,13 @@ pub record IsUnsafeReported (Fails : Fault → Type 0) (known : Option NamedPart
 
 pub unsafe_reported : (Fails : Fault → Type 0) → ((fault : Fault) → Fails fault → fault ≡ NoSafe) → (known : Option NamedParts) (fault : Fault)
     → OrNoMemory Fails fault → IsUnsafeReported Fails known fault
-unsafe_reported Fails unsafe known fault (inl why) = record {
-  why = λ other. why;
-  has_site = subst (HasSite known) (sym (unsafe fault why)) tt;
-  unread = ap unread_input (unsafe fault why);
-}
-unsafe_reported Fails unsafe known fault (inr memory) = record {
-  why = λ other. absurd (other memory);
-  has_site = subst (HasSite known) (sym memory) tt;
-  unread = ap unread_input memory;
-}
+unsafe_reported Fails unsafe known fault (inl why) = grind (arith, has_site)
+unsafe_reported Fails unsafe known fault (inr memory) = grind (arith, has_site)
 
 -- a refusal before there is a problem
 pub plain_refusal : (cause : Option NamedParts → Fault → Type 0) (r : Refusal) (fault : Fault) → r.fault ≡ fault → r.problem ≡ None → HasSite None fault
     → (fault ≢ NoMemory → cause None fault) → IsRefusalBy cause r
-plain_refusal cause r fault is none reports holds = record {
-  has_site = subst (λ (o : Option Problem). HasSite (option_map parts_of o) r.fault) (sym none) (subst (HasSite None) (sym is) reports);
-  holds = λ other. subst (λ (o : Option Problem). cause (option_map parts_of o) r.fault) (sym none) (subst (cause None) (sym is) (holds (λ same. other (is ∙ same))));
-}
+plain_refusal cause r fault is none reports holds = grind (arith, has_site)
 
 -- where no file fails to be read
 pub never_unread : (fault : Fault) → ((input : Input) → fault ≡ Read input → ⊥) → unread_input fault ≡ None
@@ -48,14 +37,7 @@ never_unread _ never = refl
 pub causes-paths : {T : Type 0} {path other : Input → Option (List ℕ)} {before now : FilesState} (r : Result T Fault)
     → ((file : Input) → RoseAt (path file) before.faults_of now.faults_of → RoseAt (other file) before.faults_of now.faults_of)
     → HasCauses path before now r → HasCauses other before now r
-causes-paths r rises h = record {
-  same = h.same;
-  later = h.later;
-  later_of = h.later_of;
-  read = h.read;
-  read_path = λ t file is. rises file (h.read_path t file is);
-  grew = h.grew;
-}
+causes-paths r rises h = grind arith
 
 -- the paths that an ask has are those of its job beside the files of the journey
 beside_graph : (graph : List ℕ) (j : JourneyModel) (before_of now_of : List ℕ → ℕ) (file : Input) → RoseAt (graph_path graph file) before_of now_of

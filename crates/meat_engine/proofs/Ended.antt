@@ -1,28 +1,16 @@
 -- A question about a problem ends as the problem says.
-use Rattle.meat_engine.proofs.Common.{◌≡◌, ℕ, refl, sym, ap, ◌∙◌, subst, inl, inr, List, Option, Some, ◌⊎◌, FileMap, file_at, Limits, JourneyModel, AskModel, Safe, Expand, Plan, Replays, Certify}
-use Rattle.meat_engine.proofs.Common.{CheckProof, CheckGraph, Punctual, Departures, Latest, Input, Fault, Read, status_of, NamedParts, Problem, IsProblem, IsProblemFault, bytes_of, none_unread}
-use Rattle.meat_engine.proofs.Common.{IsQueryOf, IsNoSafe, AnswersAsk, FailsAsk, EndsAsk, FailsJourney, FailsCheck, FailsReplay, FailsScore, HasSafe, EndsBySafety, EndsByGraphFile}
-use Rattle.meat_engine.proofs.Common.{EndsByCertificateFile, EndsByScore, Findings}
+use Rattle.meat_engine.proofs.Common.{arith, ◌≡◌, ℕ, refl, ap, subst, inl, inr, List, Option, Some, ◌⊎◌, FileMap, Limits, JourneyModel, AskModel, Safe, Expand, Plan, Replays, Certify, CheckProof}
+use Rattle.meat_engine.proofs.Common.{CheckGraph, Punctual, Departures, Latest, Input, Fault, Read, status_of, NamedParts, Problem, IsProblem, IsProblemFault, none_unread, IsQueryOf, IsNoSafe}
+use Rattle.meat_engine.proofs.Common.{AnswersAsk, FailsAsk, EndsAsk, FailsJourney, FailsCheck, FailsReplay, FailsScore, EndsBySafety, EndsByGraphFile, EndsByCertificateFile, EndsByScore, Findings}
 use Rattle.plan_model.specs.declared.model.Query.{Query}
 use Rattle.plan_model.specs.declared.model.Moment.{Moment}
-use Rattle.plan_model.specs.NetworkModel.{NetworkModel}
-use Rattle.plan_model.specs.Strategy.{Reaches, IsLeastWorst}
 use Rattle.journey_model.specs.declared.faults.Input.TheVariants as input
 use Rattle.journey_problem.proofs.OneProblem.{one_problem}
-use Rattle.journey_problem.specs.CertificateFiles.{FailsFile}
-use Rattle.journey_problem.specs.GraphFiles.{graph_in}
-
--- a least worst arrival is that of a strategy
-has_tree : (n : NetworkModel) (source target start a b c : ℕ) (w : Moment) → a ≡ source → b ≡ target → c ≡ start → IsLeastWorst n a b c (Some w) → HasSafe n source target start
-has_tree n source target start a b c w e f g l =
-    let t = l.0 in
-    (t.0, subst (λ x. Reaches n x target start t.0) e (subst (λ y. Reaches n a y start t.0) f (subst (λ z. Reaches n a b z t.0) g t.1)))
 
 module _ (p : Problem) (start : ℕ) where
   -- a journey with a query has a safe strategy
   pub asked_ends : (alpha : ℕ) (q : Query) (w : Moment) → IsQueryOf p start alpha q w → EndsBySafety p start 0
-  asked_ends alpha q w a =
-      inl (refl, has_tree p.timetable.network p.source.0 p.target.0 start q.source.0 q.target.0 q.start.0 w a.source a.target a.start_is a.least)
+  asked_ends alpha q w a = grind arith
 
   pub unsafe_ends : (fault : Fault) → IsNoSafe p start fault → EndsBySafety p start (status_of (Some fault))
   unsafe_ends fault (is, none) = inr (ap (λ (f : Fault). status_of (Some f)) is, λ h. none h.0 h.1)
@@ -33,8 +21,7 @@ module _ (limits : Limits) (files : FileMap) (start : ℕ) (p : Problem) where
   answers_end (Safe alpha) found text (q, w, asked, reports) = asked_ends p start alpha q w asked
   answers_end (Expand alpha) found text (q, w, asked, reports) = asked_ends p start alpha q w asked
   answers_end (Plan alpha) found text (q, w, asked, reports) = asked_ends p start alpha q w asked
-  answers_end (Replays graph late) found text (head, plan, file, reported) =
-      inl (head, plan, file.reads, inl (reported.trace, reported.trip, refl))
+  answers_end (Replays graph late) found text (head, plan, file, reported) = grind arith
   answers_end (Certify alpha) found text (q, w, asked, reports) = asked_ends p start alpha q w asked
   answers_end (CheckProof path) found text (q, certificate, file, held) = inl (q, certificate, file, inl (held.accepted, refl))
   answers_end (CheckGraph path) found text (head, plan, file, reported) = inl (head, plan, file.reads, inl (refl, reported.scored.safe))
@@ -44,24 +31,19 @@ module _ (limits : Limits) (files : FileMap) (start : ℕ) (p : Problem) where
 
   replay_ends : (graph late : List ℕ) (fault : Fault) → ((i : Input) → fault ≡ Read i → ⊥)
       → FailsReplay (Some files) limits start graph late p fault → EndsByGraphFile limits files start graph late p (status_of (Some fault))
-  replay_ends graph late fault never (inl (of, fails)) =
-      inr (fault, ap (λ (u : Option Input). graph_in limits p start u (file_at files graph)) (sym (none_unread fault never)) ∙ fails, refl)
+  replay_ends graph late fault never (inl (of, fails)) = grind (arith, none_unread)
   replay_ends graph late fault never (inr (head, plan, file, trip)) =
       inl (head, plan, file.reads, inr (trip.stop, trip.trip, ap (λ (f : Fault). status_of (Some f)) trip.fault_is))
 
   check_ends : (path : List ℕ) (fault : Fault) → ((i : Input) → fault ≡ Read i → ⊥) → FailsCheck (Some files) limits start path p fault
       → EndsByCertificateFile limits files start path p (status_of (Some fault))
-  check_ends path fault never (inl (of, fails)) =
-      inr (fault, subst (λ (u : Option Input). FailsFile p start (bytes_of limits.bytes input.Proof u (file_at files path)) fault) (none_unread fault never) fails, refl)
-  check_ends path fault never (inr (q, certificate, file, (connection, is, last))) =
-      inl (q, certificate, file, inr (connection.0, last, ap (λ (f : Fault). status_of (Some f)) is))
+  check_ends path fault never (inl (of, fails)) = grind (arith, none_unread)
+  check_ends path fault never (inr (q, certificate, file, (connection, is, last))) = grind arith
 
   score_ends : (path : List ℕ) (fault : Fault) → ((i : Input) → fault ≡ Read i → ⊥)
       → FailsScore (Some files) limits start path p fault → EndsByScore limits files start path p (status_of (Some fault))
-  score_ends path fault never (inl (of, fails)) =
-      inr (fault, ap (λ (u : Option Input). graph_in limits p start u (file_at files path)) (sym (none_unread fault never)) ∙ fails, refl)
-  score_ends path fault never (inr (head, plan, file, (place, moment, is, why))) =
-      inl (head, plan, file.reads, inr (ap (λ (f : Fault). status_of (Some f)) is, why.unsafe))
+  score_ends path fault never (inl (of, fails)) = grind (arith, none_unread)
+  score_ends path fault never (inr (head, plan, file, (place, moment, is, why))) = grind arith
 
   -- a question with no answer
   pub fails_end : (ask : AskModel) (fault : Fault) → ((i : Input) → fault ≡ Read i → ⊥) → FailsAsk (Some files) limits start p ask fault

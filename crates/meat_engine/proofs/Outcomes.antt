@@ -1,8 +1,8 @@
 -- What a run comes to.
-use Rattle.meat_engine.proofs.Common.{◌≡◌, ℕ, List, Option, Some, None, Ok, inl, inr, refl, ap, sym, subst, ⊎_elim, ◌∙◌, ◌≢◌, ◌⊎◌, Keeps, FileMap, Limits, AskModel, Safe, Expand, Plan, Replays}
+use Rattle.meat_engine.proofs.Common.{arith, ◌≡◌, ℕ, List, Option, Some, None, Ok, inl, inr, refl, sym, subst, ⊎_elim, ◌∙◌, ◌≢◌, ◌⊎◌, Keeps, FileMap, Limits, AskModel, Safe, Expand, Plan, Replays}
 use Rattle.meat_engine.proofs.Common.{Certify, CheckProof, CheckGraph, Punctual, Departures, Latest, JobModel, Ask, Sample, job_of, Input, Fault, Missing, Limit, Read, Write, NoMemory, line_of}
-use Rattle.meat_engine.proofs.Common.{IsFormatted, NamedParts, stage_of_input, stage_of_limit, Problem, Report, FailsAsk, Findings, findings_of, no_findings, Ending, Refused, ending_at, ending_of}
-use Rattle.meat_engine.proofs.Common.{AnswersJob, FailsJob, IsExplained, IsRefused, IsRefusedWith, IsWritten, IsWrittenBy, IsLineWritten, Outcome, OutcomeBy}
+use Rattle.meat_engine.proofs.Common.{IsFormatted, NamedParts, stage_of_input, stage_of_limit, Problem, Report, FailsAsk, Findings, findings_of, no_findings, Refused, ending_at, ending_of}
+use Rattle.meat_engine.proofs.Common.{AnswersJob, FailsJob, IsExplained, IsRefused, IsRefusedWith, IsWritten, IsLineWritten, Outcome}
 use Rattle.std.proofs.lemmas.Option.{same_Some}
 use Rattle.journey_model.specs.declared.faults.Input.TheVariants as input
 use Rattle.journey_model.specs.declared.faults.LimitKind.{LimitKind}
@@ -63,8 +63,7 @@ module _ (contents : Option FileMap) (limits : Limits) (words : List (List ℕ))
 
   module _ (report : Report) (old new : Option (List ℕ)) (IsLine : List ℕ → Type 0) where
     outcome_by : (fault : Fault) → fault ≢ Write → Keeps old new → IsRefused contents limits words report IsLine fault → Outcome contents limits words report old new IsLine (Some fault)
-    outcome_by fault other keeps refused =
-        subst (λ (e : Ending). OutcomeBy e contents limits words report old new IsLine (Some fault)) (sym (refused_ending fault other)) (keeps, refused)
+    outcome_by fault other keeps refused = grind (arith, refused_ending)
 
   -- a refusal whose line was written
   pub refused_outcome : (report : Report) (old new before after : Option (List ℕ)) (was now : ℕ) (known : Option NamedParts) (wanted : Fault) (found : Option Fault)
@@ -86,12 +85,10 @@ module _ (contents : Option FileMap) (limits : Limits) (words : List (List ℕ))
       → job_of words ≡ Ok wanted → findings_of report ≡ answer
       → AnswersJob contents limits wanted answer text → IsWritten old new text found → ((known : Option NamedParts) → found ≡ Some Write → IsLine (line_of known Write))
       → Outcome contents limits words report old new IsLine found
-  answered_outcome wanted answer report text old new IsLine None is same answers written reports =
-      (text, (wanted, is, subst (λ (f : Findings). AnswersJob contents limits wanted f text) (sym same) answers), written)
+  answered_outcome wanted answer report text old new IsLine None is same answers written reports = grind arith
   answered_outcome wanted answer report text old new IsLine (Some Write) is same answers written reports =
       ((text, (wanted, is, subst (λ (f : Findings). AnswersJob contents limits wanted f text) (sym same) answers), written), λ known. reports known refl)
-  answered_outcome wanted answer report text old new IsLine (Some other) is same answers written reports =
-      absurd (subst (λ (e : Ending). IsWrittenBy e old new text) (refused_ending other (λ write. absurd (cc))) written)
+  answered_outcome wanted answer report text old new IsLine (Some other) is same answers written reports = grind (arith, refused_ending)
 
 module _ (before after : Option (List ℕ)) (was now : ℕ) (known : Option NamedParts) where
   pub refused_some : (wanted : Fault) (found : Option Fault) → IsRefusedWith before after was now known wanted found → found ≡ None → ⊥
@@ -102,14 +99,12 @@ module _ (before after : Option (List ℕ)) (was now : ℕ) (known : Option Name
   pub refused_is : (wanted : Fault) (found : Option Fault) (fault : Fault) → IsRefusedWith before after was now known wanted found → found ≡ Some fault → (fault ≡ wanted)
       ⊎ ((fault ≡ NoMemory) × IsFormatted wanted)
   refused_is wanted None fault refused is = absurd refused
-  refused_is wanted (Some other) fault refused is =
-      subst (λ (f : Fault). (f ≡ wanted) ⊎ ((f ≡ NoMemory) × IsFormatted wanted)) (same_Some other fault is) refused.0
+  refused_is wanted (Some other) fault refused is = grind (arith, same_Some)
 
   -- that a file cannot be read is always said
   pub refused_read : (wanted : Fault) (found : Option Fault) (file : Input) → IsRefusedWith before after was now known wanted found → wanted ≡ Read file → found ≡ Some (Read file)
   refused_read wanted None file refused is = absurd refused
-  refused_read wanted (Some fault) file refused is =
-      ⊎_elim (λ (same : fault ≡ wanted). ap (λ (f : Fault). Some f) (same ∙ is)) (λ (none : (fault ≡ NoMemory) × IsFormatted wanted). absurd (subst IsFormatted is none.1)) refused.0
+  refused_read wanted (Some fault) file refused is = grind arith
 
 pub keeps_same : (o : Option (List ℕ)) → Keeps o o
 keeps_same None = tt

@@ -1,7 +1,6 @@
 -- A run by its steps.
-use Rattle.meat_engine.proofs.Common.{◌≡◌, ◌<◌, ℕ, sym, subst, arith, ⊎_elim, List, Option, Some, None, Ok, ◌≢◌, IsSome, Keeps, Rose, RoseAt, FilesState, Limits, JobModel, job_of, Input, Fault}
-use Rattle.meat_engine.proofs.Common.{Read, Write, NoMemory, status_of, line_of, IsFormatted, NamedParts, Report, Findings, findings_of, no_findings, Ending, AnswersJob, IsExplained}
-use Rattle.meat_engine.proofs.Common.{IsRefusedWith, IsWritten, IsWrittenBy, Outcome, path_in}
+use Rattle.meat_engine.proofs.Common.{◌≡◌, ◌<◌, ℕ, arith, List, Option, Some, None, Ok, ◌≢◌, IsSome, Keeps, Rose, RoseAt, FilesState, Limits, JobModel, job_of, Input, Fault, Read, Write, NoMemory}
+use Rattle.meat_engine.proofs.Common.{status_of, line_of, NamedParts, Report, Findings, findings_of, no_findings, AnswersJob, IsExplained, IsRefusedWith, IsWritten, Outcome, path_in}
 use Rattle.meat_engine.specs.RunPromises.{SinkState, WritesLine, IsRun}
 use Rattle.meat_engine.proofs.Outcomes.{refused_ending, keeps_same, refused_outcome, answered_outcome, refused_some, refused_is, refused_read}
 use Rattle.meat_engine.proofs.Statuses.{complete}
@@ -11,9 +10,7 @@ use Rattle.meat_engine.proofs.Undisturbed.{one_job}
 module _ (limits : Limits) (words : List (List ℕ)) (report : Report) (before after : FilesState) (out err err_after : SinkState)
     (known : Option NamedParts) (wanted : Fault) (reported : IsRefusedWith err.written err_after.written err.faults err_after.faults known wanted report.fault) where
   wanted_is : (fault : Fault) → report.fault ≡ Some fault → fault ≢ NoMemory → wanted ≡ fault
-  wanted_is fault is other =
-      ⊎_elim (λ (same : fault ≡ wanted). sym same) (λ (none : (fault ≡ NoMemory) × IsFormatted wanted). absurd (other none.0))
-      (refused_is err.written err_after.written err.faults err_after.faults known wanted report.fault fault reported is)
+  wanted_is fault is other = grind (arith, refused_is)
 
   wanted_read : (input : Input) → report.fault ≡ Some (Read input) → wanted ≡ Read input
   wanted_read input is = wanted_is (Read input) is (λ (same : Read input ≡ NoMemory). cc)
@@ -53,8 +50,7 @@ module _ (limits : Limits) (words : List (List ℕ)) (report : Report) (before a
 written_fault : (old new : Option (List ℕ)) (text : List ℕ) (found : Option Fault) (fault : Fault) → IsWritten old new text found → found ≡ Some fault → fault ≡ Write
 written_fault old new text None fault written is = absurd (cc)
 written_fault old new text (Some Write) fault written is = (cc)
-written_fault old new text (Some other) fault written is =
-    absurd (subst (λ (e : Ending). IsWrittenBy e old new text) (refused_ending other (λ same. absurd (cc))) written)
+written_fault old new text (Some other) fault written is = grind (arith, refused_ending)
 
 -- what a run that is answered promises
 module _ (limits : Limits) (words : List (List ℕ)) (answer : Findings) (report : Report) (text : List ℕ) (before after : FilesState) (out out_after err err_after : SinkState)
@@ -92,6 +88,4 @@ module _ (limits : Limits) (words : List (List ℕ)) (answer : Findings) (report
 -- the words ask for one job
 pub path_of_job : (words : List (List ℕ)) (job other : JobModel) (before after : List ℕ → ℕ) (input : Input) → job_of words ≡ Ok job → job_of words ≡ Ok other
     → RoseAt (path_in other input) before after → RoseAt (path_in job input) before after
-path_of_job words job other before after input is asked rose =
-    let same : other ≡ job = one_job words other job asked is in
-    subst (λ (wanted : JobModel). RoseAt (path_in wanted input) before after) same rose
+path_of_job words job other before after input is asked rose = grind (arith, one_job)

@@ -1,6 +1,6 @@
 -- What an outcome says, where no file failed to be read and the answer was written.
-use Rattle.meat_engine.proofs.Common.{◌≡◌, ℕ, subst, inl, inr, List, Option, Some, None, Ok, ◌≢◌, FileMap, Limits, JobModel, job_of, Report, Fault, Write, NoMemory, NamedParts, findings_of}
-use Rattle.meat_engine.proofs.Common.{Ending, AnswersJob, FailsJob, IsExplained, IsRefused, Outcome, OutcomeBy}
+use Rattle.meat_engine.proofs.Common.{◌≡◌, ℕ, subst, inl, inr, List, Option, Some, None, Ok, ◌≢◌, FileMap, Limits, JobModel, job_of, Report, Fault, Write, NoMemory, NamedParts, findings_of, Ending}
+use Rattle.meat_engine.proofs.Common.{AnswersJob, FailsJob, IsExplained, IsRefused, Outcome, OutcomeBy}
 use Rattle.meat_engine.proofs.Outcomes.{refused_ending}
 
 pub one_job : (words : List (List ℕ)) (a b : JobModel) → job_of words ≡ Ok a → job_of words ≡ Ok b → a ≡ b
