@@ -7,16 +7,9 @@ pub use Rattle.std.proofs.lemmas.Bool.Decides.{nat_tests}
 pub use Rattle.std.proofs.lemmas.Grind.{common_steps}
 pub use Rattle.std.proofs.lemmas.List.{drop_more, length-replicate, length_push, take_more, take_more_set}
 pub use Rattle.std.proofs.lemmas.List.Elements.{All-cons, All-head, All-nil, All-tail}
-pub use Rattle.std.proofs.lemmas.List.Sums.{count_by-le-length, sum_by-append, sum_by-cons, sum_by_push}
+pub use Rattle.std.proofs.lemmas.List.Sums.{sum_by-append, sum_by-cons, sum_by_push}
 pub use Rattle.std.specs.Option.{option_or}
-pub use Rattle.meat_scan.specs.Rules.{FollowsRules, IsByRules, Kept, kept_after, kept_in, kept_leg, kept_next}
-pub use Rattle.meat_scan.specs.ScanResult.{ScanResult, chosen_at, chosen_by, found_in, found_rows, leg_choice}
-pub use Rattle.meat_scan.specs.ScanTables.{FitsTables, FitsTablesBy, HasRoom, HasRoomFor, IsEmpty, ShownTables, boardable, capacity_at, exit_at, has_way, is_boardable_by, no_profile}
-pub use Rattle.meat_scan.specs.ScanTables.{rows_of_profile, spare_at}
-pub use Rattle.meat_scan.specs.Solves.{HasAnswers, IsSafeAt, IsStartAnswer, SolvesEach, SolvesStart}
-pub use Rattle.meat_scan.specs.Step.{alighted_by, boarding_exit, exits_next, exits_with, leg_of, rows_next, rows_with, rows_with_leg, start_next, start_with, way_of_place, with_way}
-pub use Rattle.meat_scan.specs.Values.{in_front, value_after_arrival, values_after}
-pub use Rattle.plan_model.proofs.Boarding.{boards_later, earlier_by-is, limit_of-some, way_of-listed, way_takes, ways_into-distinct}
+pub use Rattle.plan_model.proofs.Boarding.{boards_later, limit_of-some, way_of-listed, way_takes, ways_into-distinct}
 pub use Rattle.plan_model.proofs.ScanOrders.{IsNext, Known, Never, all_known, count_in_order, has_each_id, next_of, whole_order}
 pub use Rattle.plan_model.specs.DelayRows.{EachKid, IsValidRow}
 pub use Rattle.plan_model.specs.Network.{IsValid, arr_of, count, dep_of, from_of, no_connection, outcomes, run_of, to_of}
@@ -40,3 +33,10 @@ pub use Rattle.stop_profile.specs.Shown.{ShownProfile}
 pub use Rattle.stop_profile.specs.declared.Row.{Row}
 pub use Rattle.trip_exit.specs.Offers.{Exit, exit_after_offer}
 pub use Rattle.value_laws.specs.ScoreLaws.{ScoreLaws, Scoring}
+pub use Rattle.meat_scan.specs.Rules.{FollowsRules, IsByRules, Kept, kept_after, kept_in, kept_leg, kept_next}
+pub use Rattle.meat_scan.specs.ScanResult.{ScanResult, chosen_at, chosen_by, found_in, found_rows, leg_choice}
+pub use Rattle.meat_scan.specs.ScanTables.{FitsTables, FitsTablesBy, HasRoom, HasRoomFor, IsEmpty, ShownTables, boardable, capacity_at, exit_at, has_way, is_boardable_by, no_profile, rows_of_profile}
+pub use Rattle.meat_scan.specs.ScanTables.{spare_at}
+pub use Rattle.meat_scan.specs.Solves.{HasAnswers, IsSafeAt, IsStartAnswer, SolvesEach, SolvesStart}
+pub use Rattle.meat_scan.specs.Step.{alighted_by, boarding_exit, exits_next, exits_with, leg_of, rows_next, rows_with, rows_with_leg, start_next, start_with, way_of_place, with_way}
+pub use Rattle.meat_scan.specs.Values.{in_front, value_after_arrival, values_after}

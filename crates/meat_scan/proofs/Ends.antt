@@ -1,8 +1,8 @@
 -- When all connections are scanned.
-use Rattle.meat_scan.proofs.Common.{◌≡◌, ◌≢◌, ℕ, zero, suc, ◌+◌, ◌-◌, ◌<◌, ◌≤◌, List, [], ◌∷◌, Option, Some, None, MatchOption, arith, sym, subst, refl, inl, inr, ◌∙◌, ap, option_map}
-use Rattle.meat_scan.proofs.Common.{common_steps, cases_lt, nat_tests, Leg, Outcome, Query, NetworkModel, count, to_of, arr_of, outcomes, Tree, Kids, Done, Ride, Stuck, Nil, Kid, height}
-use Rattle.meat_scan.proofs.Common.{height_of, IsSafe, AreSafe, IsSafeFor, end_of, kids_after, ride_of, ride_or_stuck, unfold_after, unfold_from, by_place, Scoring, Row, row_in_time, Exit}
-use Rattle.meat_scan.proofs.Common.{ScanResult, found_rows, leg_choice, chosen_at, chosen_by, IsSafeAt, HasAnswers, SolvesEach, IsStartAnswer, SolvesStart, picked_in_time}
+use Rattle.meat_scan.proofs.Common.{◌≡◌, ◌≢◌, ℕ, zero, suc, ◌+◌, ◌-◌, ◌<◌, ◌≤◌, List, [], ◌∷◌, Option, Some, None, MatchOption, arith, sym, subst, refl, inl, inr, ◌∙◌, ap, option_map, common_steps}
+use Rattle.meat_scan.proofs.Common.{cases_lt, nat_tests, Leg, Outcome, Query, NetworkModel, count, to_of, arr_of, outcomes, Tree, Kids, Done, Ride, Stuck, Nil, Kid, height, height_of, IsSafe}
+use Rattle.meat_scan.proofs.Common.{AreSafe, IsSafeFor, end_of, kids_after, ride_of, ride_or_stuck, unfold_after, unfold_from, by_place, Scoring, Row, row_in_time, Exit, ScanResult, found_rows}
+use Rattle.meat_scan.proofs.Common.{leg_choice, chosen_at, chosen_by, IsSafeAt, HasAnswers, SolvesEach, IsStartAnswer, SolvesStart, picked_in_time}
 use Rattle.meat_scan.proofs.Ways.{boards-limit_of}
 use Rattle.meat_scan.proofs.Claims.{IsChosen, ChosenChildren, by_ride, PlaceOk}
 use Rattle.meat_scan.proofs.Starts.{StartOk}
@@ -137,10 +137,7 @@ module _ {V : Type 0} (scoring : Scoring V) (n : NetworkModel) (q : Query) (scan
 
   -- the scan's answers
   pub solves_end : HasAnswers scoring n q found
-  solves_end = record {
-    begins = start_answers found.start ok.begins;
-    goes_on = λ place arrival away. answers place arrival away (row_in_time arrival (found_rows found place)) refl (ok.places place arrival);
-  }
+  solves_end = grind (arith, start_answers, answers)
 
 -- before any connection is scanned
 module _ {V : Type 0} (scoring : Scoring V) (network : NetworkModel) (query : Query) (scanned : ℕ → Type 0)
@@ -148,19 +145,6 @@ module _ {V : Type 0} (scoring : Scoring V) (network : NetworkModel) (query : Qu
     (no_exits : (run : ℕ) → exits run ≡ None) where
   pub scan_ok_start : ScanOk scoring network query scanned 0 rows exits None
   scan_ok_start = grind (arith, common_steps, nat_tests)
-
--- the tree that the start leg chooses is the one
-start_solved : {V : Type 0} (scoring : Scoring V) (n : NetworkModel) (q : Query) (found : ScanResult V) (start : Option (V × Leg))
-    → MatchOption start ((tree : Tree) → IsSafeFor n q tree → ⊥) (IsStartAnswer scoring n q found)
-    → SolvesStart scoring n q (option_map (λ s. s.0) start)
-start_solved scoring n q found None none = none
-start_solved scoring n q found (Some start) answer = record {
-  tree = chosen_by n q found start.1;
-  safe = answer.safe;
-  covers_tree = answer.covers_chosen;
-  below_safe = answer.below_safe;
-  gap_within = answer.gap_within;
-}
 
 pub value_solved : {V : Type 0} (scoring : Scoring V) (n : NetworkModel) (q : Query) (found : ScanResult V) (start : Option (V × Leg))
     (value : Option V) → MatchOption start ((tree : Tree) → IsSafeFor n q tree → ⊥) (IsStartAnswer scoring n q found)

@@ -1,18 +1,14 @@
 -- The memory of a scan.
-use Rattle.meat_scan.proofs.Common.{Bool, ◌≡◌, ℕ, zero, suc, ◌+◌, ◌<◌, ◌≤◌, List, [], ◌∷◌, ◌++◌, length, get_or, take, replicate, Option, None, arith, ◌∙◌, refl, cond, length-take-le, count_by}
-use Rattle.meat_scan.proofs.Common.{All, ap, sym, append-nil, nat_tests, common_steps, length-replicate, All-nil, All-tail, count_by-le-length, sum_by-append, sum_by-cons, Connection}
-use Rattle.meat_scan.proofs.Common.{ConnectionId, NetworkModel, count, connection, dep_of, from_of, run_of, no_connection, IsValid, IsScanOrder, IsPrefixUpTo, count_in_order, has_each_id}
-use Rattle.meat_scan.proofs.Common.{ShownProfile, Exit, rows_of_profile, spare_at, exit_at, has_way, is_boardable_by, boardable, HasRoom, FitsTables, FitsTablesBy, ShownTables, capacity_at}
-use Rattle.meat_scan.proofs.Common.{IsEmpty}
+use Rattle.meat_scan.proofs.Common.{Bool, ◌≡◌, ℕ, zero, suc, ◌+◌, ◌<◌, ◌≤◌, List, [], ◌∷◌, ◌++◌, length, get_or, take, replicate, Option, None, arith, ◌∙◌, refl, cond, count_by, All, ap, sym}
+use Rattle.meat_scan.proofs.Common.{append-nil, nat_tests, common_steps, length-replicate, All-nil, All-tail, sum_by-append, sum_by-cons, Connection, ConnectionId, NetworkModel, count, connection}
+use Rattle.meat_scan.proofs.Common.{dep_of, from_of, run_of, no_connection, IsValid, IsScanOrder, IsPrefixUpTo, count_in_order, has_each_id, ShownProfile, Exit, rows_of_profile, spare_at, exit_at}
+use Rattle.meat_scan.proofs.Common.{has_way, is_boardable_by, boardable, HasRoom, FitsTables, FitsTablesBy, ShownTables, capacity_at, IsEmpty}
 use Rattle.plan_model.specs.Bounds.{end_of_arrivals}
 
 -- one connection more is counted, where it passes
 pub count_by-take_more : (p : Connection → Bool) (connections : List Connection) (i : ℕ) → i < length connections
     → count_by p (take (i + 1) connections) ≡ count_by p (take i connections) + cond (p (get_or connections i no_connection)) 1 0
 count_by-take_more p connections i within = grind (arith, common_steps, nat_tests)
-
-pub count_by-take-le : (p : Connection → Bool) (connections : List Connection) (i : ℕ) → i ≤ length connections → count_by p (take i connections) ≤ i
-count_by-take-le p connections i within = omega (arith, count_by-le-length p (take i connections), length-take-le i connections within)
 
 -- an empty profile more
 pub rows_pushed : {V : Type 0} (profiles : List (ShownProfile V)) (profile : ShownProfile V) → ((place : ℕ) → rows_of_profile profiles place ≡ []) → profile.rows ≡ []

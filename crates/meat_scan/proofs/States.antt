@@ -1,10 +1,9 @@
 -- What holds while the scan runs.
 use Rattle.meat_scan.proofs.Common.{◌≡◌, ◌≢◌, ℕ, zero, suc, get_or, map, ◌+◌, ◌<◌, ◌≤◌, List, [], ◌∷◌, ◌++◌, length, Option, None, arith, sym, refl, ◌∙◌, ap, append_assoc, cond, Bool, true, false}
-use Rattle.meat_scan.proofs.Common.{All, subst, append-nil, nat_tests, common_steps, sum_by_push, ConnectionId, Leg, Outcome, Query, NetworkModel, count, from_of, run_of, IsValid, connection}
-use Rattle.meat_scan.proofs.Common.{to_of, dep_of, arr_of, outcomes, IsScanOrder, IsPrefixUpTo, has_each_id, Known, Never, whole_order, next_of, all_known, Scoring, ScoreLaws, Row, ShownProfile}
-use Rattle.meat_scan.proofs.Common.{Exit, exits_next, rows_next, start_next, alighted_by, boarding_exit, exits_with, rows_with, start_with, Kept, kept_in, kept_next, kept_after, FollowsRules}
-use Rattle.meat_scan.proofs.Common.{rows_of_profile, spare_at, exit_at, has_way, boardable, HasRoom, HasRoomFor, IsEmpty, ScanResult, found_rows, HasAnswers, All-tail, All-head}
-use Rattle.meat_scan.proofs.Common.{value_after_arrival, values_after, in_front}
+use Rattle.meat_scan.proofs.Common.{All, append-nil, nat_tests, common_steps, sum_by_push, ConnectionId, Leg, Outcome, Query, NetworkModel, count, from_of, run_of, IsValid, connection, dep_of}
+use Rattle.meat_scan.proofs.Common.{IsScanOrder, IsPrefixUpTo, has_each_id, Known, Never, whole_order, next_of, all_known, Scoring, ScoreLaws, Row, ShownProfile, Exit, exits_next, rows_next}
+use Rattle.meat_scan.proofs.Common.{start_next, alighted_by, boarding_exit, exits_with, rows_with, start_with, Kept, kept_in, kept_next, kept_after, FollowsRules, rows_of_profile, spare_at, exit_at}
+use Rattle.meat_scan.proofs.Common.{has_way, boardable, HasRoom, HasRoomFor, IsEmpty, ScanResult, found_rows, HasAnswers, All-tail, All-head, values_after}
 use Rattle.meat_scan.proofs.ScanStep.{ScanOk, scan_ok_step}
 use Rattle.meat_scan.proofs.Ends.{scan_ok_start, solves_end}
 
@@ -44,16 +43,6 @@ kept_by scoring network query id run value exit profiles profiles' exits exits' 
 
 module _ {V : Type 0} {scoring : Scoring V} (laws : ScoreLaws scoring) (network : NetworkModel) (good : IsValid network) (query : Query)
     (order : List ConnectionId) (whole : IsScanOrder network order) where
-  -- before the first
-  pub first_state : (profiles : List (ShownProfile V)) (exits : List (Option (Exit V))) → IsEmpty profiles exits
-      → ScanState scoring network query order order profiles exits None
-  first_state profiles exits empty = record {
-    taken = [];
-    split = append-nil order;
-    ok = scan_ok_start scoring network query (Known Never []) (λ id known. known) (rows_of_profile profiles) empty.no_rows (exit_at exits) empty.no_exits;
-    kept = kept_same (same_function (rows_of_profile profiles) (λ place. []) empty.no_rows) (same_function (exit_at exits) (λ run. None) empty.no_exits) refl;
-  }
-
   -- one more
   pub next_state : (rest : List ConnectionId) (id : ConnectionId) (profiles profiles' : List (ShownProfile V)) (exits exits' : List (Option (Exit V)))
       (start start' : Option (V × Leg)) → ScanState scoring network query order
@@ -128,18 +117,10 @@ found_rows-profiles {V} start target profiles = same_function _ (rows_of_profile
     at (profile ∷ more) zero = refl
     at (profile ∷ more) (suc place) = at more place
 
--- Connections that depart after the deadline change nothing.
--- no value after an arrival past the deadline, where no place has rows
-no_value : {V : Type 0} (arrived : ℕ → V) (target deadline : ℕ) (rows : ℕ → List (Row V)) (place arrival : ℕ) → rows place ≡ [] → deadline < arrival
-    → value_after_arrival arrived target deadline rows place arrival ≡ None
-no_value arrived target deadline rows place arrival none late = grind (arith, common_steps, nat_tests)
-
 no_values : {V : Type 0} (arrived : ℕ → V) (target deadline : ℕ) (rows : ℕ → List (Row V)) (place scheduled : ℕ) (row : List Outcome) → 0 < length row
     → rows place ≡ [] → deadline < scheduled → values_after arrived target deadline rows place scheduled row ≡ None
 no_values arrived target deadline rows place scheduled [] some none late = absurd (omega arith)
-no_values {V} arrived target deadline rows place scheduled (outcome ∷ row) some none late =
-    ap (λ (value : Option V). in_front value (values_after arrived target deadline rows place scheduled row))
-    (no_value arrived target deadline rows place (scheduled + outcome.delay) none (omega arith))
+no_values {V} arrived target deadline rows place scheduled (outcome ∷ row) some none late = grind (arith, common_steps, nat_tests)
 
 cond_none : {X : Type 0} (b : Bool) → cond {A = Option X} b None None ≡ None
 cond_none true = refl
@@ -150,13 +131,7 @@ module _ {V : Type 0} (scoring : Scoring V) (network : NetworkModel)
     (rows : ℕ → List (Row V)) (exits : ℕ → Option (Exit V)) (no_rows : (place : ℕ) → rows place ≡ []) (no_exits : (run : ℕ) → exits run ≡ None) where
   -- no exit gives a value
   alighted_none : alighted_by scoring network query rows id ≡ None
-  alighted_none =
-      let row = good.rows (connection network id).class.0 (good.connections id there).class_in in
-      let after : query.deadline.0 < arr_of network id = omega (arith, late, (good.connections id there).forward) in
-      let none : values_after scoring.arrived query.target.0 query.deadline.0 rows (to_of network id) (arr_of network id) (outcomes network id) ≡ None =
-      no_values scoring.arrived query.target.0 query.deadline.0 rows (to_of network id) (arr_of network id) (outcomes network id) row.some
-      (no_rows (to_of network id)) after in
-      rw none (cond_none (connection network id).can_exit)
+  alighted_none = grind (arith, no_values, cond_none)
 
   pub exits_kept : (run : ℕ) → exits_next scoring network query id rows exits run ≡ exits run
   exits_kept run = rw alighted_none refl
@@ -170,20 +145,12 @@ module _ {V : Type 0} (scoring : Scoring V) (network : NetworkModel)
   pub start_kept : (start : Option (V × Leg)) → start_next scoring network query id rows exits start ≡ start
   start_kept start = rw boarded_none refl
 
--- the tables have room for less
-pub room_less : {V : Type 0} (network : NetworkModel) (rest skipped : List ConnectionId) (profiles : List (ShownProfile V)) (exits : List (Option (Exit V)))
-    → HasRoom network (rest ++ skipped) profiles exits → HasRoom network rest profiles exits
-room_less network rest skipped profiles exits room = grind (arith, common_steps, nat_tests)
-
 module _ {V : Type 0} {scoring : Scoring V} (laws : ScoreLaws scoring) (network : NetworkModel) (good : IsValid network) (query : Query)
     (order : List ConnectionId) (whole : IsScanOrder network order) (profiles : List (ShownProfile V)) (exits : List (Option (Exit V))) (empty : IsEmpty profiles exits) where
   -- after the skipped ones, by induction over them
   late_state : (rest skipped : List ConnectionId) → rest ++ skipped ≡ order → All (λ id. query.deadline.0 < dep_of network id.0) skipped
       → ScanState scoring network query order rest profiles exits None
-  late_state rest [] split late =
-      let same : order ≡ rest = sym split ∙ append-nil rest in
-      subst (λ (ids : List ConnectionId). ScanState scoring network query order ids profiles exits None) same
-      (first_state laws network good query order whole profiles exits empty)
+  late_state rest [] split late = grind (arith, append-nil, scan_ok_start, kept_same, same_function)
   late_state rest (id ∷ skipped) split late =
       let before = late_state (rest ++ id ∷ []) skipped (append_assoc rest (id ∷ []) skipped ∙ split) (All-tail (λ (i : ConnectionId). query.deadline.0 < dep_of network i.0) id skipped late) in
       let after : query.deadline.0 < dep_of network id.0 = All-head (λ (i : ConnectionId). query.deadline.0 < dep_of network i.0) id skipped late in

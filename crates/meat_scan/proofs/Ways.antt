@@ -1,13 +1,5 @@
 -- Who can board a leg: a traveller who arrives by its limit.
-use Rattle.meat_scan.proofs.Common.{◌≡◌, ℕ, ◌-◌, ◌<◌, ◌≤◌, Some, None, arith, nat_tests, common_steps, Leg, NetworkModel, count, from_of, dep_of, IsValid, limit_of, IsBoardable, way_takes}
-use Rattle.meat_scan.proofs.Common.{earlier_by-is, limit_of-some}
-
--- a traveller who can board has arrived by the limit
-pub limit_of-boards : (n : NetworkModel) (p x : ℕ) (leg : Leg) → IsBoardable n p x leg.enter.0 → (by : ℕ) × (limit_of n p leg ≡ Some by) × (x ≤ by)
-limit_of-boards n p x leg board =
-    let by = dep_of n leg.enter.0 - board.seconds in
-    let is : limit_of n p leg ≡ Some by = rw board.way (earlier_by-is (dep_of n leg.enter.0) board.seconds by (omega (arith, board.in_time))) in
-    (by, is, omega (arith, board.in_time))
+use Rattle.meat_scan.proofs.Common.{◌≡◌, ℕ, ◌<◌, ◌≤◌, Some, None, arith, nat_tests, common_steps, Leg, NetworkModel, count, dep_of, IsValid, limit_of, IsBoardable, way_takes, limit_of-some}
 
 pub boards_by : (n : NetworkModel) (p x by : ℕ) (leg : Leg) → limit_of n p leg ≡ Some by → IsBoardable n p x leg.enter.0 → x ≤ by
 boards_by n p x by leg is board = grind (arith, common_steps, nat_tests)
@@ -22,7 +14,4 @@ boards-limit_of n p x by leg is in_time = grind (arith, common_steps, nat_tests)
 
 -- the limit is before the departure
 pub limit_of-before : (n : NetworkModel) → IsValid n → (p by : ℕ) (leg : Leg) → leg.enter.0 < count n → limit_of n p leg ≡ Some by → by < dep_of n leg.enter.0
-limit_of-before n valid p by leg there is =
-    let (seconds, way, sum) = limit_of-some n p leg by is in
-    let takes = way_takes n valid p (from_of n leg.enter.0) seconds (valid.connections leg.enter.0 there).from_in way in
-    omega (arith, takes.1)
+limit_of-before n valid p by leg there is = grind (arith, limit_of-some, way_takes)
