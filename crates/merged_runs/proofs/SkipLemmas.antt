@@ -1,7 +1,7 @@
 -- What remains of the runs of a network up to a moment.
-use Rattle.merged_runs.proofs.Common.{◌≡◌, ℕ, suc, ◌+◌, ◌-◌, ◌<◌, ◌≤◌, inl, inr, ⊎_elim, Bool, true, false, cond, ltb, List, [], ◌∷◌, ◌++◌, length, get_or, set, All, AllPairs, arith, refl, sym}
-use Rattle.merged_runs.proofs.Common.{ap, ◌∙◌, filter, lt-ltb, ltb-true, common_steps, cases_lt, cases_Bool, nat_tests, All-tail, All-head, All-cons, All-weaker, filter_agree, filter_passes}
-use Rattle.merged_runs.proofs.Common.{ConnectionId, NetworkModel, IsValid, count, dep_of, run_of, IsPrefixUpTo, AllPairs-tail, in_order, rest_of, AreStretches, DepartsInOrder, IsParted}
+use Rattle.merged_runs.proofs.Common.{◌≡◌, ℕ, suc, ◌+◌, ◌<◌, ◌≤◌, inl, inr, Bool, true, false, cond, ltb, List, [], ◌∷◌, ◌++◌, length, get_or, All, AllPairs, arith, refl, ap, filter, lt-ltb}
+use Rattle.merged_runs.proofs.Common.{ltb-true, common_steps, cases_lt, cases_Bool, nat_tests, All-tail, All-head, All-cons, All-weaker, filter_agree, filter_passes, ConnectionId, NetworkModel}
+use Rattle.merged_runs.proofs.Common.{IsValid, count, dep_of, run_of, IsPrefixUpTo, AllPairs-tail, in_order, rest_of, AreStretches, DepartsInOrder, IsParted}
 use Rattle.plan_model.proofs.Skips.{dep_of_earlier}
 use Rattle.merged_runs.proofs.ScanLemmas.{IsScanOrder-in_order}
 use Rattle.merged_runs.proofs.StretchLemmas.{run_between, filter_none}
@@ -28,44 +28,17 @@ filter_parts p late (id ∷ ids) up = elim (cases_Bool (late id)) [
 
 -- departures do not fall along a run
 pub DepartsInOrder-run : (n : NetworkModel) → IsValid n → (starts remaining : List ℕ) → AreStretches n starts remaining → (r : ℕ) → r < length remaining → DepartsInOrder n (get_or starts r 0) (get_or remaining r 0)
-DepartsInOrder-run n v starts remaining s r h i j from up to =
-    let bounds = s.within r h in
-    let a = run_between n starts s.begin r i (omega (arith, s.size)) from (omega (arith, bounds.1)) in
-    let b = run_between n starts s.begin r j (omega (arith, s.size)) (omega arith) (omega (arith, bounds.1)) in
-    ⊎_elim (λ less. omega (arith, v.onward i j less b.0 (a.1 ∙ sym b.1), (v.connections i a.0).forward))
-    (λ ge. let e : i ≡ j = omega arith in omega (arith, ap (λ (k : ℕ). dep_of n k) e))
-    (cases_lt i j)
-
-pub remaining_within : (n : NetworkModel) (starts remaining : List ℕ) → AreStretches n starts remaining → (r : ℕ) → r < length remaining → get_or remaining r 0 ≤ count n
-remaining_within n starts remaining s r h = let next = s.begin.each (r + 1) (omega (arith, s.size)) in omega (arith, (s.within r h).1, next.within)
-
--- where the last one departs in time, all do
-pub IsParted-whole : (n : NetworkModel) (last from to : ℕ) → from ≤ to → DepartsInOrder n from to → (from < to → dep_of n (to - 1) ≤ last) → IsParted n last from to to to
-IsParted-whole n last from to ordered rising soon = grind (arith, common_steps, nat_tests)
+DepartsInOrder-run n v starts remaining s r h i j from up to = grind (arith, run_between, cases_lt)
 
 module _ (n : NetworkModel) (last from low high to : ℕ) (p : IsParted n last from low high to) (rising : DepartsInOrder n from to) where
   pub IsParted-up : (middle : ℕ) → low ≤ middle → middle < high → dep_of n middle ≤ last → IsParted n last from (middle + 1) high to
   IsParted-up middle ge less soon = grind (arith, common_steps, nat_tests)
-
-  pub IsParted-down : (middle : ℕ) → low ≤ middle → middle < high → last < dep_of n middle → IsParted n last from low middle to
-  IsParted-down middle ge less late = grind (arith, common_steps, nat_tests)
 
 -- the ends of the runs before this one are lowered to those that depart by a moment
 pub record AreLowered (n : NetworkModel) (last : ℕ) (starts remaining : List ℕ) (run : ℕ) (new : List ℕ) : Type 0 where
   pub size : length new ≡ length remaining
   pub done : (r : ℕ) → r < run → r < length remaining → IsParted n last (get_or starts r 0) (get_or new r 0) (get_or new r 0) (get_or remaining r 0)
   pub same : (r : ℕ) → run ≤ r → get_or new r 0 ≡ get_or remaining r 0
-
-module _ (n : NetworkModel) (last : ℕ) (starts remaining : List ℕ) where
-  pub AreLowered-none : AreLowered n last starts remaining 0 remaining
-  AreLowered-none = record { size = refl; done = λ r less h. absurd (omega arith); same = λ r ge. refl }
-
-  pub AreLowered-more : (run by : ℕ) (new : List ℕ) → run < length remaining → AreLowered n last starts remaining run new
-      → IsParted n last (get_or starts run 0) by by (get_or remaining run 0) → AreLowered n last starts remaining (run + 1) (set new run by)
-  AreLowered-more run by new h l parted = grind (arith, common_steps, nat_tests)
-
-same_tests : (i old new last dep : ℕ) → i < old → (i < new → dep ≤ last) → (new ≤ i → last < dep) → ltb i new ≡ cond (ltb last dep) false (ltb i old)
-same_tests i old new last dep before soon late = grind (arith, nat_tests)
 
 none_remain : (i old new : ℕ) (late : Bool) → old ≤ i → new ≤ old → ltb i new ≡ cond late false (ltb i old)
 none_remain i old new late past less = grind (arith, nat_tests)
@@ -79,9 +52,6 @@ when_false last dep b passes = grind (arith, nat_tests)
 module _ (n : NetworkModel) (last : ℕ) (starts remaining new : List ℕ) (run : ℕ) (s : AreStretches n starts remaining) (all : length remaining ≤ run) (l : AreLowered n last starts remaining run new) where
   parted : (r : ℕ) → r < length remaining → IsParted n last (get_or starts r 0) (get_or new r 0) (get_or new r 0) (get_or remaining r 0)
   parted r h = l.done r (omega arith) h
-
-  pub AreStretches-lowered : AreStretches n starts new
-  AreStretches-lowered = grind (arith, common_steps, nat_tests)
 
   own : (id : ConnectionId) → id.0 < get_or remaining (run_of n id.0) 0
       → IsParted n last (get_or starts (run_of n id.0) 0) (get_or new (run_of n id.0) 0) (get_or new (run_of n id.0) 0)

@@ -1,6 +1,5 @@
 -- Where the runs of a network start.
-use Rattle.merged_runs.proofs.Common.{◌≡◌, ℕ, ◌+◌, ◌<◌, ◌≤◌, ⊎_elim, List, [], ◌∷◌, ◌++◌, length, get_or, arith, nat_tests, common_steps, cases_lt, NetworkModel, IsValid, count, run_of, IsStart}
-use Rattle.merged_runs.proofs.Common.{AreStarts}
+use Rattle.merged_runs.proofs.Common.{◌≡◌, ℕ, ◌+◌, ◌<◌, ◌≤◌, ⊎_elim, List, [], ◌∷◌, ◌++◌, length, get_or, arith, common_steps, cases_lt, NetworkModel, IsValid, count, run_of, IsStart, AreStarts}
 use Rattle.std.proofs.Math.Logic.{∥∥₁_elim}
 use Rattle.std.specs.Coded.{le_prop}
 use Rattle.plan_model.proofs.Runs.{run_mono}
@@ -11,13 +10,6 @@ pub record AreStartsBelow (n : NetworkModel) (i : ℕ) (starts : List ℕ) : Typ
   pub few : length starts ≤ i
   pub passed : (j : ℕ) → j < i → run_of n j < length starts
   pub coming : (j : ℕ) → i ≤ j → j < count n → length starts ≤ run_of n j + 1
-
-pub AreStartsBelow-none : (n : NetworkModel) → AreStartsBelow n 0 []
-AreStartsBelow-none n = grind (arith, common_steps, nat_tests)
-
-each_push : (n : NetworkModel) (starts : List ℕ) (s : ℕ) → ((r : ℕ) → r < length starts → IsStart n r (get_or starts r 0)) → IsStart n (length starts) s
-    → (r : ℕ) → r < length (starts ++ s ∷ []) → IsStart n r (get_or (starts ++ s ∷ []) r 0)
-each_push n starts s each last r h = grind (arith, common_steps)
 
 pub AreStartsBelow-start : (n : NetworkModel) → IsValid n → (i : ℕ) (starts : List ℕ) → i < count n → run_of n i ≡ length starts
     → AreStartsBelow n i starts → AreStartsBelow n (i + 1) (starts ++ i ∷ [])
@@ -33,12 +25,7 @@ within n v i starts h other b =
     (cases_lt (run_of n i) (length starts))
 
 pub AreStartsBelow-within : (n : NetworkModel) → IsValid n → (i : ℕ) (starts : List ℕ) → i < count n → (run_of n i ≡ length starts → ⊥) → AreStartsBelow n i starts → AreStartsBelow n (i + 1) starts
-AreStartsBelow-within n v i starts h other b = record {
-  each = b.each;
-  few = omega (arith, b.few);
-  passed = λ j less. ⊎_elim (λ before. b.passed j before) (λ ge. let e : j ≡ i = omega arith in rw e (within n v i starts h other b)) (cases_lt j i);
-  coming = λ j ge less. b.coming j (omega arith) less;
-}
+AreStartsBelow-within n v i starts h other b = grind (arith, within, cases_lt)
 
 pub AreStarts-from_below : (n : NetworkModel) → IsValid n → (starts : List ℕ) → AreStartsBelow n (count n) starts → AreStarts n (starts ++ count n ∷ [])
 AreStarts-from_below n v starts b = grind (arith, common_steps)

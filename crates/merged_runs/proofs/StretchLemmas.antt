@@ -1,8 +1,8 @@
 -- What remains of the runs of a network.
-use Rattle.merged_runs.proofs.Common.{◌≡◌, ℕ, zero, suc, ◌+◌, ◌-◌, ◌<◌, ◌≤◌, ⊎_elim, Bool, true, false, cond, ltb, List, [], ◌∷◌, ◌++◌, length, get_or, set, take, drop, add-one, All, AllPairs}
-use Rattle.merged_runs.proofs.Common.{arith, refl, sym, ap, ◌∙◌, subst, Contains, filter, lt-ltb, le-ltb, ltb-true, get_or-set_same, get_or-set_other, length-set, take_all, nat_tests}
-use Rattle.merged_runs.proofs.Common.{common_steps, cases_lt, cases_eq, cond-true, cond-false, false_from_ne_true, get_or_past, All-tail, All-head, most_connections, ConnectionId, NetworkModel}
-use Rattle.merged_runs.proofs.Common.{IsValid, count, run_of, IsScanOrder, has_each_id, rank, in_order, rest_of, IsStart, AreStarts, AreStretches, key_of}
+use Rattle.merged_runs.proofs.Common.{◌≡◌, ℕ, zero, suc, ◌+◌, ◌-◌, ◌<◌, ◌≤◌, ⊎_elim, Bool, true, false, cond, ltb, List, [], ◌∷◌, ◌++◌, length, get_or, set, take, drop, add-one, All, AllPairs, arith}
+use Rattle.merged_runs.proofs.Common.{refl, sym, ap, ◌∙◌, subst, Contains, filter, lt-ltb, le-ltb, ltb-true, get_or-set_same, get_or-set_other, take_all, nat_tests, common_steps, cases_lt, cases_eq}
+use Rattle.merged_runs.proofs.Common.{cond-true, cond-false, false_from_ne_true, get_or_past, All-tail, All-head, most_connections, ConnectionId, NetworkModel, IsValid, count, run_of, IsScanOrder}
+use Rattle.merged_runs.proofs.Common.{has_each_id, rank, in_order, rest_of, IsStart, AreStarts, AreStretches, key_of}
 use Rattle.merged_runs.proofs.ScanLemmas.{IsScanOrder-in_order, All-in_order, AllPairs-in_order}
 
 -- a run is one of those that have a start, and its connections lie from there to the next start
@@ -39,18 +39,6 @@ module _ (n : NetworkModel) (starts remaining : List ℕ) (run : ℕ) where
   pub key_of-set_other : (end r : ℕ) → (r ≡ run → ⊥) → key_of n starts (set remaining run end) r ≡ key_of n starts remaining r
   unfolding key_of
   key_of-set_other end r other = rw (get_or-set_other remaining run r end 0 other)
-
-  pub AreStretches-set : AreStretches n starts remaining → run < length remaining → get_or starts run 0 < get_or remaining run 0 → AreStretches n starts (set remaining run (get_or remaining run 0 - 1))
-  AreStretches-set s h some =
-      let end : ℕ = get_or remaining run 0 in
-      let len = length-set remaining run (end - 1) in
-      record {
-        begin = s.begin;
-        size = omega (arith, s.size, len);
-        within = λ r k. ⊎_elim (λ (same : r ≡ run). let now : get_or (set remaining run (end - 1)) run 0 ≡ end - 1 =
-            get_or-set_same remaining run (end - 1) 0 h in let there = s.within run h in rw (same, now) (omega (arith, some), omega (arith, there.1)))
-            (λ other. rw (get_or-set_other remaining run r (end - 1) 0 other) (s.within r (omega (arith, len)))) (cases_eq r run);
-      }
 
 filter_all : (p : ConnectionId → Bool) (ids : List ConnectionId) → All (λ id. p id ≡ true) ids → filter p ids ≡ ids
 filter_all p [] all = refl
@@ -91,11 +79,7 @@ rest_of-all n v starts remaining s all =
 
 pub rest_of-none : (n : NetworkModel) (starts remaining : List ℕ) → AreStretches n starts remaining → ((r : ℕ) → r < length remaining → get_or remaining r 0 ≤ get_or starts r 0) → rest_of n remaining ≡ []
 unfolding rest_of
-rest_of-none n starts remaining s none =
-    filter_none (λ (id : ConnectionId). ltb id.0 (get_or remaining (run_of n id.0) 0)) (in_order n (count n)) (λ k d within.
-    let id : ConnectionId = get_or (in_order n (count n)) k d in
-    let own = of_run n starts s.begin id.0 (All-in_order n (count n) k d within) in
-    le-ltb id.0 (get_or remaining (run_of n id.0) 0) (omega (arith, own.from, none (run_of n id.0) (omega (arith, own.run, s.size)))))
+rest_of-none n starts remaining s none = grind (arith, filter_none, ltb, of_run, All-in_order, le-ltb)
 
 same_test : (i end : ℕ) → (i ≡ end - 1 → ⊥) → ltb i (end - 1) ≡ ltb i end
 same_test i end other = grind (arith, common_steps, nat_tests)

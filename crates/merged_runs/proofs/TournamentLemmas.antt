@@ -1,7 +1,7 @@
 -- A tournament over the runs of a network.
 use Rattle.merged_runs.proofs.Common.{◌≡◌, ℕ, zero, suc, ◌+◌, ◌-◌, ◌*◌, ◌/◌, ◌%◌, ◌<◌, ◌≤◌, ◌⊎◌, inl, inr, ⊎_elim, List, [], ◌∷◌, ◌++◌, length, get_or, set, arith, refl, sym, ap, ◌∙◌, subst}
-use Rattle.merged_runs.proofs.Common.{get_or-set_same, get_or-set_other, length-set, nat_tests, common_steps, cases_lt, cases_eq, most_connections, NetworkModel, count, run_of, rank, key_of}
-use Rattle.merged_runs.proofs.Common.{above, IsOver, IsWinner, IsTournament, IsMerge, rest_of}
+use Rattle.merged_runs.proofs.Common.{get_or-set_same, get_or-set_other, length-set, cases_lt, cases_eq, most_connections, NetworkModel, count, run_of, rank, key_of, above, IsOver, IsWinner}
+use Rattle.merged_runs.proofs.Common.{IsTournament, IsMerge, rest_of}
 use Rattle.merged_runs.proofs.StretchLemmas.{run_between, within_count, key_of-set_other, key_of-none, key_of-some, rest_of-none, rest_of-last}
 
 above_le : (rounds k : ℕ) → above rounds k ≤ k
@@ -49,10 +49,7 @@ IsOver-leaf runs k leaf h ge (suc rounds, e) = absurd (omega (arith, above_le ro
 
 -- of two nodes above a leaf the lesser is above the other
 pub IsOver-both : (a b leaf : ℕ) → IsOver a leaf → IsOver b leaf → a < b → a ≤ b / 2
-IsOver-both a b leaf over_a over_b less =
-    ⊎_elim (λ lower. let below = above_mono (suc over_b.0) over_a.0 leaf (omega arith) in omega (arith, below, over_a.1, over_b.1))
-    (λ ge. absurd (omega (arith, above_mono over_a.0 over_b.0 leaf ge, over_a.1, over_b.1)))
-    (cases_lt over_b.0 over_a.0)
+IsOver-both a b leaf over_a over_b less = grind (arith, above_mono, cases_lt)
 
 module _ (n : NetworkModel) (starts remaining : List ℕ) where
   pub IsWinner-leaf : (r : ℕ) → r < length remaining → IsWinner n starts remaining (length remaining + r) (key_of n starts remaining r)
@@ -105,12 +102,6 @@ pub record IsPlayedAround (n : NetworkModel) (starts remaining : List ℕ) (run 
   pub each : (k : ℕ) → 0 < k → k < 2 * length remaining → (IsOver k (length remaining + run) → node ≤ k) → IsWinner n starts remaining k (get_or keys k 0)
 
 module _ (n : NetworkModel) (starts remaining keys : List ℕ) where
-  pub AreRead-none : length keys ≡ 2 * length remaining → AreRead n starts remaining 0 keys
-  AreRead-none size = record { size = size; each = λ r h. absurd (omega arith) }
-
-  pub AreRead-more : (run key : ℕ) → run < length remaining → AreRead n starts remaining run keys → key ≡ key_of n starts remaining run → AreRead n starts remaining (run + 1) (set keys (length remaining + run) key)
-  AreRead-more run key h read own = grind (arith, common_steps, nat_tests)
-
   pub IsPlayedFrom-runs : (run : ℕ) → length remaining ≤ run → AreRead n starts remaining run keys → IsPlayedFrom n starts remaining (length remaining) keys
   IsPlayedFrom-runs run all read = record {
     size = read.size;
@@ -119,52 +110,14 @@ module _ (n : NetworkModel) (starts remaining keys : List ℕ) where
         rw leaf (subst (λ m. IsWinner n starts remaining m (key_of n starts remaining (k - length remaining))) e (IsWinner-leaf n starts remaining (k - length remaining) (omega arith)));
   }
 
-  pub IsPlayedFrom-more : (node key : ℕ) → 0 < node → node < length remaining → IsPlayedFrom n starts remaining (node + 1) keys
-      → IsWinner n starts remaining node key → IsPlayedFrom n starts remaining node (set keys node key)
-  IsPlayedFrom-more node key some few p won = grind (arith, common_steps, nat_tests)
-
   -- the final has the greatest key of all
   pub best_of_all : IsTournament n starts remaining keys → (r : ℕ) → r < length remaining → key_of n starts remaining r ≤ get_or keys 1 0
   best_of_all t r h = (t.each 1 (omega arith) (omega arith)).best r h (IsOver-final (length remaining + r) (omega arith))
 
--- a node that is not above a run keeps its key, whatever remains of the run
-IsWinner-apart : (n : NetworkModel) (starts remaining : List ℕ) (run end k key : ℕ) → (IsOver k (length remaining + run) → ⊥) → IsWinner n starts remaining k key → IsWinner n starts (set remaining run end) k key
-IsWinner-apart n starts remaining run end k key never won =
-    let len : length (set remaining run end) ≡ length remaining = length-set remaining run end in
-    let gone : won.run ≡ run → ⊥ = λ e. never (subst (λ m. IsOver k (length remaining + m)) e won.below) in
-    record {
-      run = won.run;
-      within = omega (arith, won.within, len);
-      below = rw len won.below;
-      own = won.own ∙ sym (key_of-set_other n starts remaining run end won.run gone);
-      best = λ r within over.
-          let below : IsOver k (length remaining + r) = subst (λ m. IsOver k (m + r)) len over in
-          let apart : r ≡ run → ⊥ = λ e. never (subst (λ m. IsOver k (length remaining + m)) e below) in
-          omega (arith, key_of-set_other n starts remaining run end r apart, won.best r (omega (arith, within, len)) below);
-    }
-
 -- where the last connection of a run is given and its key is read again, the nodes that are not above the run keep theirs
 pub IsPlayedAround-run : (n : NetworkModel) → (starts remaining keys : List ℕ) (run end key : ℕ) → IsTournament n starts remaining keys → run < length remaining
     → key ≡ key_of n starts (set remaining run end) run → IsPlayedAround n starts (set remaining run end) run (length remaining + run) (set keys (length remaining + run) key)
-IsPlayedAround-run n starts remaining keys run end key t h own =
-    let less : List ℕ = set remaining run end in
-    let leaf : ℕ = length remaining + run in
-    let len : length less ≡ length remaining = length-set remaining run end in
-    let at_run : IsWinner n starts less leaf key = rw own (subst (λ m. IsWinner n starts less (m + run) (key_of n starts less run)) len (IsWinner-leaf n starts less run (omega (arith, len)))) in
-    let others : (k : ℕ) → 0 < k → k < 2 * length less → (IsOver k (length less + run) → leaf ≤ k) → (k ≡ leaf → ⊥) → IsWinner n starts less k (get_or keys k 0) = λ k some few outside apart.
-    IsWinner-apart n starts remaining run end k (get_or keys k 0)
-    (λ over. apart (omega (arith, above_le over.0 leaf, over.1, outside (subst (λ m. IsOver k (m + run)) (sym len) over))))
-    (t.each k some (omega (arith, few, len))) in
-    record {
-      size = omega (arith, t.size, len, length-set keys leaf key);
-      some = omega arith;
-      few = omega (arith, len);
-      over = (0, ap (λ m. m + run) len);
-      each = λ k some few outside.
-          ⊎_elim (λ (same : k ≡ leaf). rw (same, get_or-set_same keys leaf key 0 (omega (arith, t.size))) at_run)
-          (λ apart. rw (get_or-set_other keys leaf k key 0 apart) (others k some few outside apart))
-          (cases_eq k leaf);
-    }
+IsPlayedAround-run n starts remaining keys run end key t h own = grind (arith, set, length-set, IsWinner-leaf, key_of-set_other, above_le, get_or-set_same, get_or-set_other, cases_eq)
 
 module _ (n : NetworkModel) (starts remaining : List ℕ) (run node : ℕ) (keys : List ℕ) (p : IsPlayedAround n starts remaining run node keys) where
   -- both children of the node above this one have their keys
@@ -183,9 +136,6 @@ module _ (n : NetworkModel) (starts remaining : List ℕ) (run node : ℕ) (keys
         (p.each k some few (λ over. ⊎_elim (λ less. absurd
         (omega (arith, outside over, other, IsOver-both k node (length remaining + run) over p.over less))) (λ ge. ge) (cases_lt k node)))) (cases_eq k (node / 2));
   }
-
-  pub IsTournament-played : node ≤ 1 → IsTournament n starts remaining keys
-  IsTournament-played final = grind (arith, common_steps, nat_tests)
 
 -- the run that wins, by the key of the final
 pub record HasWon (n : NetworkModel) (starts remaining : List ℕ) (key : ℕ) : Type 0 where
@@ -226,6 +176,4 @@ module _ (n : NetworkModel) (starts remaining keys : List ℕ) (m : IsMerge n st
 
   -- the last connection that remains of the run that won is the last one of all
   pub rest_of-given : (h : HasWon n starts remaining key) → rest_of n remaining ≡ rest_of n (set remaining h.run (get_or remaining h.run 0 - 1)) ++ record { 0 = get_or remaining h.run 0 - 1 } ∷ []
-  rest_of-given h =
-      rest_of-last n m.stretches.begin.valid starts remaining m.stretches h.run h.within h.some
-      (λ r k. omega (arith, best_of_all n starts remaining keys m.tournament r k, final, h.last, h.some, key_of-some n starts remaining h.run h.some))
+  rest_of-given h = grind (arith, rest_of-last, best_of_all, key_of-some)
