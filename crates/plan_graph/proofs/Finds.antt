@@ -1,6 +1,6 @@
 -- What is found first in a list is what is picked.
-use Rattle.plan_graph.proofs.Common.{◌≡◌, ℕ, Bool, true, false, List, [], ◌∷◌, Option, Some, None, refl, ◌∙◌, ap, nat_le, find, if◌then◌else◌, Leg, GraphRow, Ride, PlaceTable, pick_row}
-use Rattle.plan_graph.proofs.Common.{rows_after, rows_of_place, is_ride_of, is_table_of}
+use Rattle.plan_graph.proofs.Common.{arith, ◌≡◌, ℕ, Bool, List, [], ◌∷◌, Option, Some, None, refl, ◌∙◌, ap, nat_le, find, if◌then◌else◌, Leg, GraphRow, Ride, PlaceTable, pick_row, rows_after}
+use Rattle.plan_graph.proofs.Common.{rows_of_place, is_ride_of, is_table_of}
 
 -- F looks for the first that passes, and gives what g makes of it, and `miss` where none does
 module _ {X Y : Type 0} (F : List X → Y) (p : X → Bool) (g : X → Y) (miss : Y) (none : F [] ≡ miss) (step : (x : X) (xs : List X) → F (x ∷ xs) ≡ (if p x then g x else F xs)) where
@@ -10,11 +10,7 @@ module _ {X Y : Type 0} (F : List X → Y) (p : X → Bool) (g : X → Y) (miss 
 
   found : (xs : List X) → F xs ≡ made (find p xs)
   found [] = none
-  found (x ∷ xs) = step x xs ∙ by_test (p x) (found xs)
-    where
-      by_test : (test : Bool) → F xs ≡ made (find p xs) → (if test then g x else F xs) ≡ made (if test then Some x else find p xs)
-      by_test true rest = refl
-      by_test false rest = rest
+  found (x ∷ xs) = grind (arith, made, found xs)
 
   found_is : (xs : List X) (o : Option X) → find p xs ≡ o → F xs ≡ made o
   found_is xs o is = found xs ∙ ap made is

@@ -1,7 +1,7 @@
 -- A graph of the rides that were walked is ready, where what is chosen is kept.
-use Rattle.plan_graph.proofs.Common.{◌≡◌, ◌≢◌, ℕ, List, Option, Some, Contains, All, AllPairs, sym, subst, inl, inr, ◌∙◌, ap, cases_eq, All-contains, Leg, Outcome, Query, NetworkModel, IsValid}
-use Rattle.plan_graph.proofs.Common.{arr_of, Tree, limit_of, end_of, arrival_of, outcomes_of, unfolding_of, GraphRow, Ride, pick_row, IsLegOf, IsReady, IsReadyRide, IsReadyRow, MayPrecede, IsBusy}
-use Rattle.plan_graph.proofs.Common.{IsPickedAfter, IsSafeForSome, IsFirstInTime, Stands, pick_in_time, row_by, table_after, IsWalked, AllPairs-nil, All-from_contains}
+use Rattle.plan_graph.proofs.Common.{arith, ◌≡◌, ◌≢◌, ℕ, List, Option, Some, Contains, All, AllPairs, sym, subst, inl, inr, ◌∙◌, ap, cases_eq, All-contains, Leg, Outcome, Query, NetworkModel}
+use Rattle.plan_graph.proofs.Common.{IsValid, arr_of, Tree, limit_of, end_of, arrival_of, outcomes_of, unfolding_of, GraphRow, Ride, pick_row, IsLegOf, IsReady, IsReadyRide, IsReadyRow, MayPrecede}
+use Rattle.plan_graph.proofs.Common.{IsBusy, IsPickedAfter, IsSafeForSome, IsFirstInTime, Stands, pick_in_time, row_by, table_after, IsWalked, AllPairs-nil, All-from_contains}
 use Rattle.plan_graph.specs.declared.ExpandedGraph.{ExpandedGraph}
 use Rattle.plan_graph.proofs.Tables.{IsChosenAt, IsTableRow, Sooner, table_row, table_away, table_there, first_in_table, first_pick, in_time_for, before_for, one_found}
 use Rattle.plan_graph.proofs.Walks.{delays_rise}
@@ -35,9 +35,7 @@ module _ (n : NetworkModel) (valid : IsValid n) (q : Query) (choice : Leg → �
     -- the first row at an outcome's arrival is what is chosen
     pub first_row : end_of n r.leg ≢ target → (o : Outcome) → Contains (outcomes_of n r.leg) o → (next : Leg)
         → choice r.leg (arrival_of n r.leg o.delay) ≡ Some next → IsFirstInTime r.after (arrival_of n r.leg o.delay) (row_by (arrival_of n r.leg o.delay) next)
-    first_row away o has next is =
-        subst (λ (list : List GraphRow). IsFirstInTime list (arrival_of n r.leg o.delay) (row_by (arrival_of n r.leg o.delay) next)) (sym (table_of_ride r there))
-        (first_in_table n target choice r.leg delays away o has next is)
+    first_row away o has next is = grind (arith, table_of_ride, first_in_table, target, delays)
 
     -- and what is picked
     pub picks_taken : (away : end_of n r.leg ≢ target) (o : Outcome) (outcome : Contains (outcomes_of n r.leg) o)

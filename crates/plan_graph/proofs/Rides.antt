@@ -1,6 +1,6 @@
 -- The rides of legs.
-use Rattle.plan_graph.proofs.Common.{◌≡◌, ℕ, Bool, true, false, List, [], ◌∷◌, Some, AllPairs, Contains, refl, inl, inr, ◌∙◌, ap, ◌==◌, ◌&&◌, if◌then◌else◌, Leg, Ride, pick_row, pick_after}
-use Rattle.plan_graph.proofs.Common.{rows_after, Precedes, Contains-nil, Contains-head, Contains-tail, Contains-cons_cases, AllPairs-head, AllPairs-tail}
+use Rattle.plan_graph.proofs.Common.{arith, ◌≡◌, ℕ, List, [], ◌∷◌, Some, AllPairs, Contains, inl, inr, ◌∙◌, ap, Leg, Ride, pick_after, rows_after, Precedes, Contains-nil, Contains-head}
+use Rattle.plan_graph.proofs.Common.{Contains-tail, Contains-cons_cases, AllPairs-head, AllPairs-tail}
 use Rattle.plan_graph.proofs.Searches.{leg_test, rows_here, rows_further, precedes_itself}
 
 -- a ride of the leg, with its rows
@@ -13,26 +13,7 @@ pub record IsRideOf (rides : List Ride) (leg : Leg) : Type 0 where
 -- where a leg is picked there is a ride
 pub ride_there : (rides : List Ride) (leg : Leg) (x : ℕ) (next : Leg) → pick_after rides leg x ≡ Some next → IsRideOf rides leg
 ride_there [] leg x next picks = absurd (cc)
-ride_there (r ∷ rides) leg x next picks = by_test ((r.leg.enter.0 == leg.enter.0) && (r.leg.exit.0 == leg.exit.0)) refl (ride_there rides leg x next) picks
-  where
-    by_test : (test : Bool) → ((r.leg.enter.0 == leg.enter.0) && (r.leg.exit.0 == leg.exit.0)) ≡ test
-        → (pick_after rides leg x ≡ Some next → IsRideOf rides leg) → pick_row (if test then r.after else rows_after rides leg) x ≡ Some next → IsRideOf (r ∷ rides) leg
-    by_test true is more picks = record {
-      found = r;
-      has = Contains-head r rides;
-      same_leg = leg_test r.leg leg is;
-      same_rows = ap
-          (λ (test : Bool). if test then r.after else rows_after rides leg) is;
-    }
-    by_test false is more picks =
-        let rest = more picks in
-        record {
-          found = rest.found;
-          has = Contains-tail r rides rest.found rest.has;
-          same_leg = rest.same_leg;
-          same_rows = ap
-              (λ (test : Bool). if test then r.after else rows_after rides leg) is ∙ rest.same_rows;
-        }
+ride_there (r ∷ rides) leg x next picks = grind (arith, Contains-head, leg_test, Contains-tail, ride_there rides leg x next)
 
 -- where rides rise, the rows after a ride's leg are its own
 pub rows_after-own : (rides : List Ride) → AllPairs (λ a b. Precedes a.leg b.leg) rides → (r : Ride) → Contains rides r → rows_after rides r.leg ≡ r.after

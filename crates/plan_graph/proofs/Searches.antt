@@ -37,16 +37,10 @@ pub leg_test : (a b : Leg) → ((a.enter.0 == b.enter.0) && (a.exit.0 == b.exit.
 leg_test a b is = same_leg a b (grind (arith, nat_tests)) (grind (arith, nat_tests))
 
 pub leg_tested : (a b : Leg) → a ≡ b → ((a.enter.0 == b.enter.0) && (a.exit.0 == b.exit.0)) ≡ true
-leg_tested a b is =
-    let first : a.enter.0 ≡ b.enter.0 = ap (λ (l : Leg). l.enter.0) is in
-    let second : a.exit.0 ≡ b.exit.0 = ap (λ (l : Leg). l.exit.0) is in
-    grind (arith, nat_tests)
+leg_tested a b is = grind arith
 
 other_leg : (a b : Leg) → (a ≡ b → ⊥) → ((a.enter.0 == b.enter.0) && (a.exit.0 == b.exit.0)) ≡ false
-other_leg a b other = elim (cases_Bool ((a.enter.0 == b.enter.0) && (a.exit.0 == b.exit.0))) [
-  | inl is ↦ absurd (other (leg_test a b is))
-  | inr differs ↦ differs
-]
+other_leg a b other = grind (arith, cases_Bool, leg_test)
 
 -- the rows after a leg, where the first ride is its
 pub rows_here : (r : Ride) (rides : List Ride) (leg : Leg) → r.leg ≡ leg → rows_after (r ∷ rides) leg ≡ r.after
@@ -82,9 +76,7 @@ rows_after-none rides leg i rise point other = found_nowhere (λ rs. rows_after 
 pub pick_after-at : (own rides : List Ride) (leg : Leg) (x i : ℕ) (r : Ride) → rides ≡ own
     → IsPartitionPoint (λ r. leg_lt r.leg leg ≡ true) (λ r. leg_lt r.leg leg ≡ false) rides i → i < length rides → r ≡ slice_index_or rides i r
     → r.leg ≡ leg → pick_row (rows_after own leg) x ≡ pick_row r.after x
-pick_after-at own rides leg x i r same point within is here =
-    ap (λ (list : List Ride). pick_row (rows_after list leg) x) (sym same)
-    ∙ ap (λ (rows : List GraphRow). pick_row rows x) (rows_after-at rides leg i r point.0 within (ap (λ (s : Ride). s.leg) (sym is) ∙ here) ∙ ap (λ (s : Ride). s.after) (sym is))
+pick_after-at own rides leg x i r same point within is here = grind (arith, rows_after-at)
 
 pub pick_after-none : (own rides : List Ride) (leg : Leg) (x i : ℕ) → rides ≡ own → AllPairs (λ a b. Precedes a.leg b.leg) own
     → IsPartitionPoint (λ r. leg_lt r.leg leg ≡ true) (λ r. leg_lt r.leg leg ≡ false) rides i
@@ -95,10 +87,7 @@ pick_after-none own rides leg x i same rise point other =
 
 -- two legs that are not unequal by their parts
 pub leg_same : (a b : Leg) (test : Bool) → test ≡ not ((a.enter.0 == b.enter.0) && (a.exit.0 == b.exit.0)) → test ≡ false → a ≡ b
-leg_same a b test is unequal = elim (cases_Bool ((a.enter.0 == b.enter.0) && (a.exit.0 == b.exit.0))) [
-  | inl same ↦ leg_test a b same
-  | inr differ ↦ absurd (false≢true (sym unequal ∙ is ∙ ap not differ))
-]
+leg_same a b test is unequal = grind (arith, cases_Bool, leg_test, false≢true, not)
 
 pub leg_other : (a b : Leg) (test : Bool) → test ≡ not ((a.enter.0 == b.enter.0) && (a.exit.0 == b.exit.0)) → test ≡ true → a ≡ b → ⊥
 leg_other a b test is unequal same = false≢true (ap not (sym (leg_tested a b same)) ∙ sym is ∙ unequal)

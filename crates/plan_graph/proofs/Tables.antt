@@ -68,15 +68,7 @@ module _ (choice : ℕ → Option Leg) (scheduled : ℕ) where
 
   pub member : (os : List Outcome) (row : GraphRow) → Contains (rows_for choice scheduled os) row → IsRowOf choice scheduled os row
   member [] row has = absurd (Contains-nil row has)
-  member (head ∷ os) row has = by_found (choice (scheduled + head.delay)) refl (member os row) has
-    where
-      by_found : (found : Option Leg) → choice (scheduled + head.delay) ≡ found → (Contains (rows_for choice scheduled os) row → IsRowOf choice scheduled os row)
-          → Contains (with_row (scheduled + head.delay) found (rows_for choice scheduled os)) row → IsRowOf choice scheduled (head ∷ os) row
-      by_found None is more there = wider head os row (more there)
-      by_found (Some next) is more there = elim (Contains-cons_cases (row_by (scheduled + head.delay) next) (rows_for choice scheduled os) row there) [
-        | inl same ↦ record { o = head; has = Contains-head head os; next = next; is_chosen = is; is = sym same }
-        | inr later ↦ wider head os row (more later)
-      ]
+  member (head ∷ os) row has = grind (arith, wider, Contains-cons_cases, Contains-head, member os row)
 
   -- the table's rows are picked at their own arrivals
   pub first_for : (os : List Outcome) → AllPairs Sooner os → (o : Outcome) → Contains os o → (leg : Leg)
@@ -169,18 +161,10 @@ module _ (n : NetworkModel) (target : ℕ) (choice : Leg → ℕ → Option Leg)
     pub from_outcome : IsRowOf (choice leg) (arr_of n leg.exit.0) (outcomes_of n leg) row
 
   pub table_row : (row : GraphRow) → Contains (table_after n target choice leg) row → IsTableRow row
-  table_row row has = elim (cases_eq (end_of n leg) target) [
-    | inl at_target ↦ absurd (Contains-nil row (subst (λ (list : List GraphRow). Contains list row) (table_there at_target) has))
-    | inr away ↦ record {
-      away = away;
-      from_outcome = member (choice leg) (arr_of n leg.exit.0) (outcomes_of n leg) row (subst (λ (list : List GraphRow). Contains list row) (table_away away) has);
-    }
-  ]
+  table_row row has = grind (arith, cases_eq, Contains-nil, table_there, member, table_away)
 
   -- the table picks what is chosen after an outcome
   pub first_in_table : AllPairs Sooner (outcomes_of n leg) → end_of n leg ≢ target → (o : Outcome) → Contains (outcomes_of n leg) o
       → (next : Leg) → choice leg (arr_of n leg.exit.0 + o.delay) ≡ Some next
       → IsFirstInTime (table_after n target choice leg) (arr_of n leg.exit.0 + o.delay) (row_by (arr_of n leg.exit.0 + o.delay) next)
-  first_in_table rising away o has next is =
-      subst (λ (list : List GraphRow). IsFirstInTime list (arr_of n leg.exit.0 + o.delay) (row_by (arr_of n leg.exit.0 + o.delay) next)) (sym (table_away away))
-      (first_for (choice leg) (arr_of n leg.exit.0) (outcomes_of n leg) rising o has next is)
+  first_in_table rising away o has next is = grind (arith, table_away, first_for)

@@ -1,8 +1,8 @@
 -- The rides of the legs that were reached.
-use Rattle.plan_graph.proofs.Common.{◌≡◌, ◌≢◌, ℕ, List, map, Option, Some, Contains, All, AllPairs, sym, subst, refl, ◌∙◌, ap, zero, suc, ◌+◌, ◌-◌, [], ◌∷◌, None, inl, inr, slice_index_or, ne_eqb}
-use Rattle.plan_graph.proofs.Common.{All-map, All-contains, Less-from_sorted, Leg, Outcome, Query, NetworkModel, IsValid, count, arr_of, Tree, end_of, arrival_of, outcomes_of, unfolding_of}
-use Rattle.plan_graph.proofs.Common.{kids_after, ride_or_stuck, unfold_after, unfold_from, GraphRow, Ride, pick_row, pick_after, Precedes, IsLegOf, Stands, StandsIn, row_by, table_after}
-use Rattle.plan_graph.proofs.Common.{ride_of_leg, leg_cmp, IsReached, IsWalked, IsTaken, HasRideOf, Contains-map, AllPairs-map, All-from_contains, cases_eq}
+use Rattle.plan_graph.proofs.Common.{arith, ◌≡◌, ◌≢◌, ℕ, List, map, Option, Some, Contains, All, AllPairs, sym, subst, refl, ◌∙◌, ap, zero, suc, ◌+◌, [], ◌∷◌, None, inl, inr, slice_index_or, ne_eqb}
+use Rattle.plan_graph.proofs.Common.{All-map, All-contains, Less-from_sorted, Leg, Outcome, Query, NetworkModel, IsValid, Tree, end_of, arrival_of, outcomes_of, unfolding_of, kids_after}
+use Rattle.plan_graph.proofs.Common.{ride_or_stuck, unfold_after, unfold_from, GraphRow, Ride, pick_row, pick_after, Precedes, IsLegOf, Stands, StandsIn, row_by, table_after, ride_of_leg, leg_cmp}
+use Rattle.plan_graph.proofs.Common.{IsReached, IsWalked, IsTaken, HasRideOf, Contains-map, AllPairs-map, All-from_contains, cases_eq}
 use Rattle.std.proofs.Common.{eq-eqb}
 use Rattle.plan_graph.proofs.Orders.{leg_cmp-Less}
 use Rattle.plan_graph.proofs.Places.{IsPlacedNext, next_after}
@@ -32,18 +32,12 @@ module _ (n : NetworkModel) (target : ℕ) (rides : List Ride)
       → ((own : Leg) (y : ℕ) → Stands leg (next own y) → HasRideOf rides leg)
       → Stands leg (ride_or_stuck n next first p x) → HasRideOf rides leg
   ride_of_first leg next p x None begins goes there = absurd there
-  ride_of_first leg next p x (Some own) begins goes (inl both) =
-      subst (λ (l : Leg). HasRideOf rides l) (sym (same_leg leg own both.0 both.1)) (begins own refl)
-  ride_of_first leg next p x (Some own) begins goes (inr there) =
-      let later = stands_after leg (next own) (arr_of n own.exit.0) (outcomes_of n own) there in
-      goes own later.0 later.1
+  ride_of_first leg next p x (Some own) begins goes (inl both) = grind (arith, same_leg)
+  ride_of_first leg next p x (Some own) begins goes (inr there) = grind (arith, stands_after)
 
   -- after a leg
   ride_after : (leg : Leg) (more : ℕ) (own : Leg) (x : ℕ) → Stands leg (unfold_after n target (pick_after rides) more own x) → HasRideOf rides leg
-  ride_after leg zero own x there = elim (cases_eq (end_of n own) target) [
-    | inl is ↦ absurd (rw (eq-eqb (end_of n own) target is) at there)
-    | inr away ↦ absurd (rw (ne_eqb (end_of n own) target away) at there)
-  ]
+  ride_after leg zero own x there = grind (arith, cases_eq, eq-eqb, ne_eqb)
   ride_after leg (suc more) own x there = elim (cases_eq (end_of n own) target) [
     | inl is ↦ absurd (rw (eq-eqb (end_of n own) target is) at there)
     | inr away ↦ ride_of_first leg (unfold_after n target (pick_after rides) more) (end_of n own) x (pick_after rides own x) (picked_ride own x)
@@ -54,11 +48,7 @@ module _ (n : NetworkModel) (target : ℕ) (rides : List Ride)
   -- from a first leg on, where that has a ride
   pub ride_from : (leg : Leg) (first : Option Leg) (p x : ℕ) → ((own : Leg) → first ≡ Some own → HasRideOf rides own)
       → Stands leg (unfold_from n target (pick_after rides) first p x) → HasRideOf rides leg
-  ride_from leg first p x begins there = elim (cases_eq p target) [
-    | inl is ↦ absurd (rw (eq-eqb p target is) at there)
-    | inr away ↦ ride_of_first leg (unfold_after n target (pick_after rides) (count n - 1)) p x first begins (ride_after leg (count n - 1))
-        (rw (ne_eqb p target away) at there)
-  ]
+  ride_from leg first p x begins there = grind (arith, cases_eq, eq-eqb, ride_of_first, ride_after, ne_eqb)
 
 -- the delays after a leg rise
 pub delays_rise : (n : NetworkModel) → IsValid n → (leg : Leg) → IsLegOf n leg → AllPairs Sooner (outcomes_of n leg)
