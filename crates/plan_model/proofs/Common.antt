@@ -1,9 +1,9 @@
 -- The names that most proofs of this crate cite, passed on from one place. Declares nothing.
-pub use Rattle.std.proofs.Common.{All, AllPairs, Bool, Contains, Err, Global, IfNone, IfSome, IsPermutation, IsSorted, IsUtf8, List, None, Ok, Option, Ordering, Result, Some, String, [], add-mul}
-pub use Rattle.std.proofs.Common.{ap, append-nil, append_assoc, arith, cond, count_by, drop, eqb, ext_get_or, false, get_or, get_or-drop, get_or-take, if◌then◌else◌, inl, inr, is_lt, is_some}
-pub use Rattle.std.proofs.Common.{length, length-append, length-drop, length-take, length-take-le, map, mul-add, mul-le-mul_right, mul_assoc, mul_comm, nat_cmp, nat_lt, option_and_then, refl}
-pub use Rattle.std.proofs.Common.{rules, slice_get, slice_index_or, string_bytes, subst, suc, sum_by, sym, take, take-append-drop, take_all, true, zero, ℕ, ⊎_elim, ◌&&◌, ◌*◌, ◌++◌, ◌+◌, ◌-◌, ◌/◌}
-pub use Rattle.std.proofs.Common.{◌<◌, ◌==◌, ◌^◌, ◌||◌, ◌∙◌, ◌∷◌, ◌≡◌, ◌≢◌, ◌≤◌, ◌⊎◌}
+pub use Rattle.std.proofs.Common.{All, AllPairs, Bool, Contains, Err, Global, IfNone, IfSome, IsPermutation, IsSorted, IsUtf8, List, None, Ok, Option, Ordering, Result, Some, String, [], add-mul, ap}
+pub use Rattle.std.proofs.Common.{append-nil, append_assoc, arith, cond, count_by, drop, eqb, ext_get_or, false, get_or, get_or-drop, get_or-take, if◌then◌else◌, inl, inr, is_lt, is_some, length}
+pub use Rattle.std.proofs.Common.{length-append, length-drop, length-take, length-take-le, map, mul-add, mul-le-mul_right, mul_assoc, mul_comm, nat_cmp, nat_lt, option_and_then, refl, rules}
+pub use Rattle.std.proofs.Common.{slice_get, slice_index_or, string_bytes, subst, suc, sum_by, sym, take, take-append-drop, take_all, true, zero, ℕ, ⊎_elim, ◌&&◌, ◌*◌, ◌++◌, ◌+◌, ◌-◌, ◌/◌, ◌<◌, ◌==◌}
+pub use Rattle.std.proofs.Common.{◌^◌, ◌||◌, ◌∙◌, ◌∷◌, ◌≡◌, ◌≢◌, ◌≤◌, ◌⊎◌}
 pub use Rattle.std.proofs.lemmas.Bool.{cases_eq, cases_lt, cases_order, false≢true}
 pub use Rattle.std.proofs.lemmas.Bool.Decides.{Decides-eqb, nat_tests}
 pub use Rattle.std.proofs.lemmas.Grind.{common_steps, pow_more}
@@ -11,8 +11,7 @@ pub use Rattle.std.proofs.lemmas.List.{get_or-append_right, get_or-map, get_or_a
 pub use Rattle.std.proofs.lemmas.List.{take_more}
 pub use Rattle.std.proofs.lemmas.List.Elements.{All-append, All-cons, All-contains, All-map, All-nil, All-tail, Contains-append_cases, Contains-append_right, Contains-get_or}
 pub use Rattle.std.proofs.lemmas.List.Kept.{AllPairs-cons}
-pub use Rattle.std.proofs.lemmas.List.Sorted.{All-permutation, Contains-permutation, IsPartitionPoint-from_clause, IsPermutation-map, length_permutation, ranks_by, sorted_far}
-pub use Rattle.std.proofs.lemmas.List.Sorted.{sum_by-IsPermutation}
+pub use Rattle.std.proofs.lemmas.List.Sorted.{All-permutation, Contains-permutation, IsPartitionPoint-from_clause, IsPermutation-map, length_permutation, ranks_by, sorted_far, sum_by-IsPermutation}
 pub use Rattle.std.proofs.lemmas.List.Sums.{sum_by-cons, sum_by_push}
 pub use Rattle.std.proofs.lemmas.Option.{get_or_from_slice_get, slice_get-get_or, slice_get_within}
 pub use Rattle.plan_model.specs.Bounds.{most_connections, seconds_per_day}

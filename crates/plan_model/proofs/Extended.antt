@@ -1,6 +1,6 @@
 -- The network with a place more is one, and an extension.
-use Rattle.plan_model.proofs.Common.{◌≡◌, ◌≢◌, ℕ, zero, suc, ◌+◌, ◌<◌, ◌≤◌, true, false, Some, None, List, [], ◌∷◌, ◌++◌, length, All, arith, refl, sym, ap, ◌∙◌, subst, inl, inr, length-append}
-use Rattle.plan_model.proofs.Common.{◌==◌, if◌then◌else◌, append-nil, cases_lt, cases_eq, nat_tests, get_or_append_left, get_or-append_right, get_or_past, All-cons, Way, NetworkModel, IsValid}
+use Rattle.plan_model.proofs.Common.{◌≡◌, ◌≢◌, ℕ, zero, suc, ◌+◌, ◌<◌, ◌≤◌, true, false, Some, None, List, [], ◌∷◌, ◌++◌, length, All, arith, refl, sym, ap, ◌∙◌, subst, inl, inr, length-append, ◌==◌}
+use Rattle.plan_model.proofs.Common.{if◌then◌else◌, append-nil, cases_lt, cases_eq, nat_tests, get_or_append_left, get_or-append_right, get_or_past, All-cons, Way, NetworkModel, IsValid}
 use Rattle.plan_model.proofs.Common.{AreLinksInto, change_of, row_of, connection, links_into, own_way, ways_into, way_in, way_of, first_way, links_from_added, extended, IsSeen, IsExtension}
 use Rattle.plan_model.proofs.Common.{common_steps}
 use Rattle.std.proofs.lemmas.List.FromFn.{length-map-range_with_len, get_or-map-range_with_len}
@@ -11,10 +11,7 @@ use Rattle.plan_model.proofs.MoreLinks.{AreLinksInto-wider, AreLinksInto-push}
 -- a way is looked for in the first list, and then in the second
 way_in-first : (ways more : List Way) (p : ℕ) → way_in more p ≡ None → way_in (ways ++ more) p ≡ way_in ways p
 way_in-first [] more p none = none
-way_in-first (way ∷ ways) more p none = elim (cases_eq way.from.0 p) [
-  | inl here ↦ way_in-here way (ways ++ more) p here ∙ sym (way_in-here way ways p here)
-  | inr away ↦ way_in-away way (ways ++ more) p away ∙ way_in-first ways more p none ∙ sym (way_in-away way ways p away)
-]
+way_in-first (way ∷ ways) more p none = grind (arith, cases_eq, way_in-here, way_in-away, way_in-first ways more p none)
 
 way_in-second : (ways more : List Way) (p : ℕ) → All (λ way. way.from.0 ≢ p) ways → way_in (ways ++ more) p ≡ way_in more p
 way_in-second [] more p away = refl
@@ -68,16 +65,13 @@ module _ (m : NetworkModel) (v : IsValid m) (source : ℕ) (there : source < len
   link : way_of n last source ≡ Some 1
   link = from_last source there ∙ ap (λ (ways : List Way). way_in ways last) more_here ∙ way_in-here (first_way m) [] last refl
 
-  only_link : (r seconds : ℕ) → r < last → way_of n last r ≡ Some seconds → r ≡ source
-  only_link r seconds h way = grind (arith, common_steps, nat_tests, cases_eq, from_last, more_away)
-
   -- a connection is seen as it is
   all_seen : (i : ℕ) → IsSeen 0 0 (connection n i) (connection m i)
   unfolding connection
   all_seen i = grind arith
 
   pub is_extension : IsExtension n m source
-  is_extension = grind (arith, all_seen, same_ways, places, link, only_link)
+  is_extension = grind (arith, all_seen, same_ways, places, link, common_steps, nat_tests, cases_eq, from_last, more_away)
 
   links_valid : (r : ℕ) → r < last + 1 → AreLinksInto (last + 1) r (links_into m r ++ more r)
   links_valid r h = elim (cases_eq r source) [

@@ -104,8 +104,7 @@ module _ (n : NetworkModel) (v : IsValid n) (target : ℕ) (by : Option ℕ) (sh
     worsts-later (Kid w tree (Kid v t kids)) (o ∷ o' ∷ os) p a some h = omega (arith, worst-later tree p (a + o.delay) h.1, worsts-later (Kid v t kids) (o' ∷ os) p a (omega arith) h.2)
 
 one_child : (w a c p b s : ℕ) → w * (a + c * p) + (b + c * p * s) ≡ w * a + b + c * p * (w + s)
-one_child w a c p b s =
-    omega (arith, mul-add w a (c * p), mul-add (c * p) w s, mul_comm w (c * p))
+one_child w a c p b s = grind (arith, mul-add, mul_comm)
 
 whole_row : (c p q s : ℕ) → s ≡ 10000 → q ≡ p * 10000 → c * p * s ≡ c * q
 whole_row c p q s e f = rw (e, f) (mul_assoc c p 10000)

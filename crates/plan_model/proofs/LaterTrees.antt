@@ -1,16 +1,11 @@
 -- What choices unfold to in a network, and what the same choices unfold to in a view of it.
-use Rattle.plan_model.proofs.Common.{◌≡◌, ℕ, zero, suc, ◌+◌, ◌-◌, Bool, true, false, Option, Some, None, List, [], ◌∷◌, refl, sym, ap, ◌∙◌, arith, ◌==◌, if◌then◌else◌, Outcome, Leg, NetworkModel}
-use Rattle.plan_model.proofs.Common.{IsValid, count, arr_of, Tree, Done, Ride, Stuck, IsLeg, end_of, outcomes_of, kids_after, ride_of, ride_or_stuck, unfold_after, unfold_from, later_by}
-use Rattle.plan_model.proofs.Common.{all_later_by, IsView}
+use Rattle.plan_model.proofs.Common.{◌≡◌, ℕ, zero, suc, ◌+◌, Bool, true, false, Option, Some, None, List, [], ◌∷◌, refl, arith, if◌then◌else◌, Outcome, Leg, NetworkModel, IsValid, arr_of, Tree, Done}
+use Rattle.plan_model.proofs.Common.{IsLeg, end_of, outcomes_of, kids_after, ride_of, ride_or_stuck, unfold_after, unfold_from, later_by, all_later_by, IsView}
 use Rattle.plan_model.proofs.Views.{leg_there, arrives, seen, same_outcomes}
 
 kids_after-later : (shift : ℕ) (f g : ℕ → Tree) (a : ℕ) (row : List Outcome) → ((y : ℕ) → g (y + shift) ≡ later_by shift (f y)) → kids_after g (a + shift) row ≡ all_later_by shift (kids_after f a row)
 kids_after-later shift f g a [] same = refl
-kids_after-later shift f g a (o ∷ row) same =
-    let turned : a + shift + o.delay ≡ a + o.delay + shift = omega arith in
-    let one = ap g turned ∙ same (a + o.delay) in
-    let others = kids_after-later shift f g a row same in
-    rw (one, others) refl
+kids_after-later shift f g a (o ∷ row) same = grind (arith, kids_after-later shift f g a row same)
 
 module _ (n m : NetworkModel) (shift first : ℕ) (view : IsView n m shift first) (valid : IsValid m) (target : ℕ) where
   pub same_end : (leg : Leg) → IsLeg n leg.enter.0 leg.exit.0 → end_of n leg ≡ end_of m leg
@@ -26,12 +21,7 @@ module _ (n m : NetworkModel) (shift first : ℕ) (view : IsView n m shift first
 
   -- the ride of a leg, after which each goes on alike
   ride_later : (f g : Leg → ℕ → Tree) (leg : Leg) → IsLeg n leg.enter.0 leg.exit.0 → ((y : ℕ) → g leg (y + shift) ≡ later_by shift (f leg y)) → ride_of m g leg ≡ later_by shift (ride_of n f leg)
-  ride_later f g leg is same =
-      let kids = kids_after-later shift (f leg) (g leg) (arr_of n leg.exit.0) (outcomes_of n leg) same in
-      ap (Ride leg.enter.0 leg.exit.0)
-      (ap (λ (a : ℕ). kids_after (g leg) a (outcomes_of m leg)) (sym (same_arrival leg is))
-      ∙ ap (λ (row : List Outcome). kids_after (g leg) (arr_of n leg.exit.0 + shift) row) (sym (same_row leg is))
-      ∙ kids)
+  ride_later f g leg is same = grind (arith, kids_after-later, same_arrival, same_row)
 
   module _ (f g : Leg → ℕ → Option Leg)
       (agree : (leg : Leg) (x : ℕ) → IsLeg n leg.enter.0 leg.exit.0 → g leg (x + shift) ≡ f leg x)
@@ -47,19 +37,10 @@ module _ (n m : NetworkModel) (shift first : ℕ) (view : IsView n m shift first
     done_or false x t u same = same
 
     pub unfold_after-later : (k : ℕ) (leg : Leg) (x : ℕ) → IsLeg n leg.enter.0 leg.exit.0 → unfold_after m target g k leg (x + shift) ≡ later_by shift (unfold_after n target f k leg x)
-    unfold_after-later zero leg x is =
-        ap (λ (p : ℕ). if p == target then Done (x + shift) else Stuck p (x + shift)) (sym (same_end leg is))
-        ∙ done_or (end_of n leg == target) x (Stuck (end_of n leg) (x + shift)) (Stuck (end_of n leg) x) refl
-    unfold_after-later (suc k) leg x is =
-        ap (λ (p : ℕ). if p == target then Done (x + shift) else ride_or_stuck m (unfold_after m target g k) (g leg (x + shift)) p (x + shift)) (sym (same_end leg is))
-        ∙ done_or (end_of n leg == target) x _ _
-        (ap (λ (o : Option Leg). ride_or_stuck m (unfold_after m target g k) o (end_of n leg) (x + shift)) (agree leg x is)
-        ∙ goes_later (unfold_after n target f k) (unfold_after m target g k) (end_of n leg) x (f leg x) (legs leg x) (unfold_after-later k))
+    unfold_after-later zero leg x is = grind (arith, same_end, done_or)
+    unfold_after-later (suc k) leg x is = grind (arith, same_end, done_or, goes_later, unfold_after-later k)
 
     -- the same from a place, with one first leg
     pub unfold_from-later : (o : Option Leg) (p x : ℕ) → ((leg : Leg) → o ≡ Some leg → IsLeg n leg.enter.0 leg.exit.0)
         → unfold_from m target g o p (x + shift) ≡ later_by shift (unfold_from n target f o p x)
-    unfold_from-later o p x begins =
-        let many : count m - 1 ≡ count n - 1 = omega (arith, view.as_many) in
-        ap (λ (k : ℕ). if p == target then Done (x + shift) else ride_or_stuck m (unfold_after m target g k) o p (x + shift)) many
-        ∙ done_or (p == target) x _ _ (goes_later (unfold_after n target f (count n - 1)) (unfold_after m target g (count n - 1)) p x o begins (unfold_after-later (count n - 1)))
+    unfold_from-later o p x begins = grind (arith, done_or, goes_later, unfold_after-later)

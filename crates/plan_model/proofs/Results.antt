@@ -3,9 +3,6 @@ use Rattle.plan_model.proofs.Common.{◌≡◌, Option, Some, None, Result, Ok, 
 use Rattle.std.specs.Result.{result_err}
 use Rattle.plan_model.specs.Results.{and_then, require}
 
-pub and_then-ok : {A B E : Type 0} (r : Result A E) (a : A) (next : A → Result B E) → r ≡ Ok a → and_then r next ≡ next a
-and_then-ok r a next is = ap (λ z. and_then z next) is
-
 pub and_then-err : {A B E : Type 0} (r : Result A E) (fault : E) (next : A → Result B E) → r ≡ Err fault → and_then r next ≡ Err fault
 and_then-err r fault next is = ap (λ z. and_then z next) is
 

@@ -36,11 +36,6 @@ module _ (n : NetworkModel) (ids : List ConnectionId) (last remaining low high :
       record {
         skipped = drop low (take remaining ids);
         split = sym (take-append-drop low (take remaining ids)) ∙ ap (λ (xs : List ConnectionId). xs ++ drop low (take remaining ids)) front;
-        late = λ k d within.
-            let less : low + k < remaining = omega (arith, within, length-drop low (take remaining ids), long) in
-            let at : get_or (drop low (take remaining ids)) k d ≡ get_or ids (low + k) d = get_or-drop low (take remaining ids) k d ∙ get_or-take remaining ids (low + k) d less in
-            rw at (h.late (low + k) d (omega arith) less);
-        soon = λ k d within.
-            let less : k < low = omega (arith, within, length-take-le low ids (omega arith)) in
-            rw (get_or-take low ids k d less) (h.soon k d less);
+        late = grind (arith, length-drop, get_or-drop, get_or-take);
+        soon = grind (arith, length-take-le, get_or-take);
       }

@@ -24,12 +24,7 @@ module _ (n m : NetworkModel) (shift first : ℕ) (view : IsView n m shift first
   same_outcomes j h = let e = (seen j h).class in let f = view.classes in rw (e, f) refl
 
   pub same_way : (p i seconds : ℕ) → p < length m.change → i < count m → way_of n p (from_of n i) ≡ Some seconds → way_of m p (from_of m i) ≡ Some seconds
-  same_way p i seconds inside h way =
-      sym (view.ways p (from_of m i) inside (valid.connections i h).from_in) ∙ sym (ap (way_of n p) (seen i h).from) ∙ way
-
-  same_way_back : (p i seconds : ℕ) → p < length m.change → i < count m → way_of m p (from_of m i) ≡ Some seconds → way_of n p (from_of n i) ≡ Some seconds
-  same_way_back p i seconds inside h way =
-      ap (way_of n p) (seen i h).from ∙ view.ways p (from_of m i) inside (valid.connections i h).from_in ∙ way
+  same_way p i seconds inside h way = grind (arith, seen)
 
   -- a leg of the view is one of the network, which departs from the first moment on
   pub leg_there : (i j : ℕ) → IsLeg n i j → IsLeg m i j × (first ≤ dep_of m i)
@@ -62,12 +57,10 @@ module _ (n m : NetworkModel) (shift first : ℕ) (view : IsView n m shift first
     later = deadline_later_by shift by
 
     board_there : (p x i j : ℕ) → p < length m.change → IsLeg m i j → first ≤ dep_of m i → IsBoardable n p x i → IsBoardable m p (x + shift) i
-    board_there p x i j inside leg late b =
-        record { seconds = b.seconds; way = same_way p i b.seconds inside leg.enter b.way; in_time = omega (arith, b.in_time, departs i j leg late) }
+    board_there p x i j inside leg late b = grind (arith, same_way, departs)
 
     board_back : (p x i j : ℕ) → p < length m.change → IsLeg m i j → first ≤ dep_of m i → IsBoardable m p (x + shift) i → IsBoardable n p x i
-    board_back p x i j inside leg late b =
-        record { seconds = b.seconds; way = same_way_back p i b.seconds inside leg.enter b.way; in_time = omega (arith, b.in_time, departs i j leg late) }
+    board_back p x i j inside leg late b = grind (arith, seen, departs)
 
     mutual
       -- what is safe in the view is safe in the network by the shift later
@@ -127,11 +120,7 @@ module _ (n m : NetworkModel) (shift first : ℕ) (view : IsView n m shift first
     -- the same of who sets out at a start
     pub start_there : (tree : Tree) (source x : ℕ) → IsSafeFromStart n target by tree source x → IsSafeFromStart m target later (later_by shift tree) source (x + shift)
     start_there (Done a) source x h = (ap (λ (k : ℕ). k + shift) h.0, h.1, in_time_there shift by x h.2)
-    start_there (Ride i j kids) source x h =
-        let leg = leg_there i j h.1 in
-        let children_safe = all_there kids (outcomes n j) (to_of n j) (arr_of n j) (ends_inside j leg.0.exit) h.3 in
-        let board : IsBoardableAtStart m source (x + shift) i = (sym (seen i leg.0.enter).from ∙ h.2.0, omega (arith, h.2.1, departs i j leg.0 leg.1)) in
-        (h.0, leg.0, board, reported_there target later i j leg.0 leg.1 (all_later_by shift kids) children_safe)
+    start_there (Ride i j kids) source x h = grind (arith, leg_there, all_there, ends_inside, seen, departs, reported_there, later)
     start_there (Stuck q y) source x h = absurd h
 
     abbrev pub ComesFrom : Tree → (source x : ℕ) → Type 0

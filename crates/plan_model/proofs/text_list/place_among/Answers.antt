@@ -1,15 +1,10 @@
-use Rattle.plan_model.proofs.Common.{◌≡◌, ◌∙◌, ◌<◌, ◌≤◌, List, [], length, get_or, arith, sym, ap, ⊎_elim, String, Global, string_bytes, cases_lt, false≢true, length-map, texts}
+use Rattle.plan_model.proofs.Common.{◌≡◌, ◌∙◌, ◌<◌, ◌≤◌, List, [], length, get_or, arith, ap, ⊎_elim, String, Global, cases_lt, false≢true, length-map, texts}
 use Rattle.std.proofs.lemmas.Slice.Eq.{bytes_eq-Decides}
 use Rattle.plan_model.proofs.Texts.{texts-at}
 use Rattle.plan_model.proofs.text_list.place_among.Goals as goal
 
 pub returns-then-eq-clause-found : goal.returns-then-eq-clause-found
-returns-then-eq-clause-found c =
-    let ids : List (String Global) = c.args.strings.now in
-    let inside : c.loop-i.i < length ids = omega arith in
-    let read = texts-at ids c.loop-i.i c.index-strings-i.result c.as_str.result.now inside c.index-strings-i.is c.as_str.ensures.value in
-    let same : c.as_str.result.now ≡ c.args.text.now = (bytes_eq-Decides c.as_str.result.now c.args.text.now).0 (sym c.if-eq.ensures) in
-    (omega (arith, inside, length-map ids string_bytes), sym read ∙ same)
+returns-then-eq-clause-found c = grind (arith, texts-at, bytes_eq-Decides, length-map)
 
 pub loop-i-preserved : goal.loop-i-preserved
 loop-i-preserved c = λ k within same.

@@ -1,4 +1,4 @@
-use Rattle.plan_model.proofs.Common.{refl}
+use Rattle.plan_model.proofs.Common.{arith, refl}
 use Rattle.plan_model.proofs.TextLists.{there_by_number, absent_by_number}
 use Rattle.plan_model.proofs.text_list.TextList.add.Goals as goal
 
@@ -10,5 +10,4 @@ pub push-requires-clause-absent : goal.push-requires-clause-absent
 push-requires-clause-absent c = absent_by_number c.args.self.now c.args.text.now c.number.result c.if-is_some.ensures c.number.ensures.none
 
 pub returns-clause-added : goal.returns-clause-added
-returns-clause-added c =
-    (c.in_ok-push.ensures.ok, absent_by_number c.args.self.now c.args.text.now c.number.result c.if-is_some.ensures c.number.ensures.none)
+returns-clause-added c = grind (arith, absent_by_number)

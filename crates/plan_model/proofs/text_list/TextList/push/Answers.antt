@@ -1,4 +1,4 @@
-use Rattle.plan_model.proofs.Common.{◌∙◌, ◌-◌, ◌^◌, ◌<◌, ◌++◌, ◌∷◌, [], List, ℕ, Contains, length, sym, ap, subst, texts}
+use Rattle.plan_model.proofs.Common.{arith, ◌-◌, ◌^◌, ◌<◌, List, ℕ, Contains, length, sym, subst, texts}
 use Rattle.plan_model.proofs.TextLists.{AreTexts-push, texts_more}
 use Rattle.plan_model.proofs.text_list.TextList.push.Goals as goal
 
@@ -11,9 +11,7 @@ invariant_of-self-2 c =
     AreTexts-push old c.push.new.self.items c.in_ok-text.text text c.in_ok-text.ensures.ok c.in_ok-push.ensures.items c.self.invariant room absent
 
 pub returns-clause-ok : goal.returns-clause-ok
-returns-clause-ok c =
-    texts_more c.self.inside.strings.items c.push.new.self.items c.in_ok-text.text c.args.text.now c.in_ok-text.ensures.ok c.in_ok-push.ensures.items
-    ∙ ap (λ (w : List (List ℕ)). w ++ c.args.text.now ∷ []) c.self.view_is
+returns-clause-ok c = grind (arith, texts_more)
 
 pub returns-clause-texts : goal.returns-clause-texts
 returns-clause-texts c = invariant_of-self-2 c
