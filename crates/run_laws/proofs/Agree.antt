@@ -1,6 +1,6 @@
 -- Two choices that fix one tree, which is safe, choose the same after each leg in it.
-use Rattle.run_laws.proofs.Common.{◌≡◌, ◌≢◌, ℕ, zero, suc, ◌+◌, List, [], ◌∷◌, Option, Some, None, Contains, sym, subst, refl, inl, inr, ap, ◌-◌, cases_eq, eq-eqb, Leg, Outcome, NetworkModel}
-use Rattle.run_laws.proofs.Common.{arr_of, count, Tree, Done, Ride, Stuck, Kids, Nil, Kid, IsSafe, IsSafeFromStart, AreSafe, end_of, arrival_of, outcomes_of, kids_after, ride_of, ride_or_stuck}
+use Rattle.run_laws.proofs.Common.{arith, ◌≡◌, ◌≢◌, ℕ, zero, suc, ◌+◌, List, [], ◌∷◌, Option, Some, None, Contains, sym, subst, refl, inl, inr, ap, cases_eq, eq-eqb, Leg, Outcome, NetworkModel}
+use Rattle.run_laws.proofs.Common.{arr_of, Tree, Done, Ride, Stuck, Kids, Nil, Kid, IsSafe, IsSafeFromStart, AreSafe, end_of, arrival_of, outcomes_of, kids_after, ride_of, ride_or_stuck}
 use Rattle.run_laws.proofs.Common.{unfold_after, unfold_from, Stands, StandsIn, Contains-nil, Contains-head, Contains-tail, Contains-cons_cases}
 use Rattle.std.proofs.Common.{ne_eqb}
 use Rattle.plan_graph.proofs.Searches.{same_leg}
@@ -28,9 +28,7 @@ stands_after : (f : ℕ → Tree) (row : List Outcome) (scheduled : ℕ) (other 
     → (o : Outcome) × Contains row o × Stands other (f (scheduled + o.delay))
 stands_after f [] scheduled other there = absurd there
 stands_after f (head ∷ row) scheduled other (inl here) = (head, Contains-head head row, here)
-stands_after f (head ∷ row) scheduled other (inr more) =
-    let found = stands_after f row scheduled other more in
-    (found.0, Contains-tail head row found.0 found.1, found.2)
+stands_after f (head ∷ row) scheduled other (inr more) = grind (arith, Contains-tail, stands_after f row scheduled other more)
 
 abbrev enter_of : Tree → ℕ
 enter_of (Done moment) = 0
@@ -60,15 +58,13 @@ module _ (n : NetworkModel) (target : ℕ) (c d : Leg → ℕ → Option Leg) wh
   Agrees leg = end_of n leg ≢ target → (o : Outcome) → Contains (outcomes_of n leg) o → c leg (arrival_of n leg o.delay) ≡ d leg (arrival_of n leg o.delay)
 
   pub start_same : (a b : Option Leg) (p x : ℕ) → p ≢ target → unfold_from n target c a p x ≡ unfold_from n target d b p x → a ≡ b
-  start_same a b p x away same =
-      one_leg n (unfold_after n target c (count n - 1)) (unfold_after n target d (count n - 1)) a b p x (rw (ne_eqb p target away) at same)
+  start_same a b p x away same = grind (arith, one_leg, ne_eqb)
 
   module _ (by : Option ℕ) where
     next_same : (rides : ℕ) (leg : Leg) (x : ℕ) → end_of n leg ≢ target → unfold_after n target c rides leg x ≡ unfold_after n target d rides leg x
         → IsSafe n target by (unfold_after n target c rides leg x) (end_of n leg) x → c leg x ≡ d leg x
     next_same zero leg x away same safe = absurd (rw (ne_eqb (end_of n leg) target away) at safe)
-    next_same (suc rides) leg x away same safe =
-        one_leg n (unfold_after n target c rides) (unfold_after n target d rides) (c leg x) (d leg x) (end_of n leg) x (rw (ne_eqb (end_of n leg) target away) at same)
+    next_same (suc rides) leg x away same safe = grind (arith, one_leg, ne_eqb)
 
     -- over that number of further rides they agree after each leg in it
     abbrev AgreeOver : ℕ → Type 0
@@ -105,10 +101,7 @@ module _ (n : NetworkModel) (target : ℕ) (c d : Leg → ℕ → Option Leg) wh
         agree_ride rides over a (subst (λ (l : Leg). ride_of n f a ≡ ride_of n g l) leg same) safe.3 other stands
 
     pub agree_over : (rides : ℕ) → AgreeOver rides
-    agree_over zero leg x same safe other stands = elim (cases_eq (end_of n leg) target) [
-      | inl is ↦ absurd (rw (eq-eqb (end_of n leg) target is) at stands)
-      | inr away ↦ absurd (rw (ne_eqb (end_of n leg) target away) at stands)
-    ]
+    agree_over zero leg x same safe other stands = grind (arith, cases_eq, eq-eqb, ne_eqb)
     agree_over (suc rides) leg x same safe other stands = elim (cases_eq (end_of n leg) target) [
       | inl is ↦ absurd (rw (eq-eqb (end_of n leg) target is) at stands)
       | inr away ↦
@@ -120,7 +113,4 @@ module _ (n : NetworkModel) (target : ℕ) (c d : Leg → ℕ → Option Leg) wh
     pub agree_from : (start : Leg) (p x : ℕ) → p ≢ target → unfold_from n target c (Some start) p x ≡ unfold_from n target d (Some start) p x
         → IsSafeFromStart n target by (unfold_from n target c (Some start) p x) p x
         → (other : Leg) → Stands other (unfold_from n target c (Some start) p x) → Agrees other
-    agree_from start p x away same safe other stands =
-        let test = ne_eqb p target away in
-        let there = rw test at safe in
-        agree_ride (count n - 1) (agree_over (count n - 1)) start (rw test at same) there.3 other (rw test at stands)
+    agree_from start p x away same safe other stands = grind (arith, ne_eqb, agree_ride, agree_over)

@@ -1,9 +1,9 @@
 -- Two runs agree.
-use Rattle.run_laws.proofs.Common.{◌≡◌, ◌≢◌, ℕ, ◌≤◌, List, length, Option, None, Some, Result, Ok, Err, false, arith, nat_lt, ◌↔◌, inl, inr, refl, sym, subst, ap, ◌∙◌, Appends, FileMap, file_at}
-use Rattle.run_laws.proofs.Common.{Limits, Moment, Query, IsLeastWorst, PlanGraph, JobModel, JourneyModel, AskModel, Ask, Safe, Expand, Plan, Certify, CheckProof, CheckGraph, Punctual, Departures}
-use Rattle.run_laws.proofs.Common.{Latest, job_of, Fault, Problem, status_of, HasOneProblem, IsProblem, Findings, findings_of, Head, graph_of, NetworkModel, IsValid, nat_tests, bytes_of, graph_in}
-use Rattle.run_laws.proofs.Common.{graph_as, trip_by, AnswersPlan, head_of, AnswersCertify, query_until, AnswersAsk, EndsAsk, FailsJourney, FailsScore, EndsByGraphFile, EndsByWalk, AnswersJob}
-use Rattle.run_laws.proofs.Common.{WritesLine, NamedParts, KnownRun, EndsWell, IsCalmRun, worst_kept, no_worse, of_last_row}
+use Rattle.run_laws.proofs.Common.{◌≡◌, ◌≢◌, ℕ, ◌≤◌, List, length, Option, None, Some, Result, Ok, Err, arith, ◌↔◌, inl, inr, refl, sym, subst, ap, ◌∙◌, Appends, FileMap, file_at, Limits, Moment}
+use Rattle.run_laws.proofs.Common.{Query, IsLeastWorst, PlanGraph, JobModel, JourneyModel, AskModel, Ask, Safe, Expand, Plan, Certify, CheckProof, CheckGraph, Punctual, Departures, Latest, job_of}
+use Rattle.run_laws.proofs.Common.{Fault, Problem, status_of, HasOneProblem, IsProblem, Findings, findings_of, Head, graph_of, NetworkModel, IsValid, graph_in, graph_as, trip_by, AnswersPlan}
+use Rattle.run_laws.proofs.Common.{head_of, AnswersCertify, query_until, AnswersAsk, EndsAsk, FailsJourney, FailsScore, EndsByGraphFile, EndsByWalk, AnswersJob, NamedParts, KnownRun, EndsWell}
+use Rattle.run_laws.proofs.Common.{IsCalmRun, worst_kept, no_worse, of_last_row}
 use Rattle.std.proofs.lemmas.List.{append_cancel_left}
 use Rattle.command_line.specs.Jobs.{Replay}
 use Rattle.journey_model.specs.declared.faults.Fault.TheVariants as fault
@@ -12,10 +12,9 @@ use Rattle.graph_text.specs.declared.reader.TextFault.{TextFault}
 use Rattle.graph_text.specs.declared.reader.TextFault.TheVariants as reader
 use Rattle.graph_text.specs.FirstFaults.{IsFirstFaultOf}
 use Rattle.plan_model.specs.NameLists.{NameLists}
-use Rattle.plan_model.specs.Results.{and_then}
-use Rattle.meat_engine.specs.Received.{Outcome}
 use Rattle.meat_engine.proofs.Undisturbed.{fails as job_fails}
-use Rattle.run_laws.specs.Pairs.{RunModel, IsRunWithin, IsUntroubled, AskBoth, IsSaved, OrStatus9, EndAlike, PlanIsAccepted, PlanIsReplayed, CertificateIsAccepted, LeaveAlike, LeaveByWorst, CertificateIsWithin, ShareStrategy, PromiseIsSure, WorstIsKept, LaterIsNoWorse, LatestIsOfLastRow, FaultIsFirst, Agree}
+use Rattle.run_laws.specs.Pairs.{RunModel, IsRunWithin, IsUntroubled, AskBoth, IsSaved, OrStatus9, EndAlike, PlanIsAccepted, PlanIsReplayed, CertificateIsAccepted, LeaveAlike, LeaveByWorst}
+use Rattle.run_laws.specs.Pairs.{CertificateIsWithin, ShareStrategy, PromiseIsSure, WorstIsKept, LaterIsNoWorse, LatestIsOfLastRow, FaultIsFirst, Agree}
 use Rattle.late_chance.proofs.Rounded.{no_chance}
 use Rattle.run_laws.proofs.Asks.{answer_of}
 use Rattle.run_laws.proofs.Certified.{printed_certificate, value_within}
@@ -67,8 +66,7 @@ walk_ends : (limits : Limits) (files : FileMap) (start : ℕ) (path late : List 
 walk_ends limits files start path late p status head graph reads (inl (h, g, at, ends)) =
     let same : (h, g) ≡ (head, graph) = one_ok (graph_in limits p start None (file_at files path)) (h, g) (head, graph) at reads in
     subst (λ (w : Head × PlanGraph). EndsByWalk (trip_by p w.0 w.1 late) status) same ends
-walk_ends limits files start path late p status head graph reads (inr (fault, at, reported)) =
-    absurd (never_both (graph_in limits p start None (file_at files path)) (head, graph) fault reads at)
+walk_ends limits files start path late p status head graph reads (inr (fault, at, reported)) = grind (arith, never_both)
 
 -- the fault that is read of a text is its first
 abbrev FaultsAreReported : Type 0
@@ -88,18 +86,7 @@ as_text (Err reader.NoMemory) f is = absurd (cc)
 module _ (limits : Limits) (files : FileMap) (old said : List ℕ) (r : RunModel) (run : IsRunWithin limits r) (calm : IsUntroubled files old said r) where
   -- the run, by its states
   known_run : KnownRun files limits r.words r.report old r.after.out.written
-  known_run = record {
-    before = r.before.files;
-    after = r.after.files;
-    out = r.before.out;
-    out_after = r.after.out;
-    err = r.before.err;
-    err_after = r.after.err;
-    run = run;
-    reports = calm.reports;
-    had = calm.had;
-    has = refl;
-  }
+  known_run = grind arith
 
   -- and that nothing failed in it
   calm_run : r.report.fault ≢ Some fault.NoMemory → IsCalmRun files limits r.words r.report old said r.after.out.written r.after.err.written
@@ -180,9 +167,7 @@ module _ (limits : Limits) (r s : RunModel) (first : IsRunWithin limits r) (seco
 
     -- the text that the first wrote is that which is kept
     kept_text : (path : List ℕ) (kept : IsSaved limits files path r) (w : First) → kept.text ≡ w.text
-    kept_text path kept w =
-        let appends : Appends (Some both.old) r.after.out.written kept.text = subst (λ (o : Option (List ℕ)). Appends o r.after.out.written kept.text) both.first.had kept.written in
-        one_text both.old kept.text w.text r.after.out.written appends w.written
+    kept_text path kept w = grind (arith, one_text)
 
     there : (path : List ℕ) (kept : IsSaved limits files path r) (w : First) → file_at files path ≡ Some w.text
     there path kept w = kept.there ∙ ap (λ (t : List ℕ). Some t) (kept_text path kept w)
@@ -288,18 +273,7 @@ module _ (limits : Limits) (r s : RunModel) (first : IsRunWithin limits r) (seco
       worst_kept p.timetable.network query graph bounds (rw (sym same_query, sym same_graph) planned) own_least
 
   later_is_no_worse : LaterIsNoWorse r s
-  later_is_no_worse files j alpha beta query other bounds later both well query_is other_is bounds_is later_is by =
-      let w = of_first files j (Plan alpha) (Plan beta) both well.first in
-      let x = second_over files j (Plan alpha) (Plan beta) both w.p w.is_problem (of_second files j (Plan alpha) (Plan beta) both well.second) in
-      let (q, v, asked, (graph, span, found, planned, printed, reads)) = w.answers in
-      let (t, u, also, (table, spans, found_too, planned_too, printed_too, reads_too)) = x in
-      let same_query = one_some q query r.report.query (ap (λ (f : Findings). f.query) found) query_is in
-      let same_other = one_some t other s.report.query (ap (λ (f : Findings). f.query) found_too) other_is in
-      let same_bounds = one_some span bounds r.report.bounds (ap (λ (f : Findings). f.bounds) found) bounds_is in
-      let same_later = one_some spans later s.report.bounds (ap (λ (f : Findings). f.bounds) found_too) later_is in
-      let same : (field : Query → ℕ) → field t ≡ field q → field other ≡ field query = λ field is. ap field (sym same_other) ∙ is ∙ ap field same_query in
-      no_worse w.p.timetable.network query other graph table bounds later (rw (sym same_query, sym same_bounds) planned) (rw (sym same_other, sym same_later) planned_too)
-      (same (λ z. z.source.0) (also.source ∙ sym asked.source)) (same (λ z. z.target.0) (also.target ∙ sym asked.target)) (same (λ z. z.start.0) (also.start_is ∙ sym asked.start_is)) by
+  later_is_no_worse files j alpha beta query other bounds later both well query_is other_is bounds_is later_is by = grind (arith, of_first, second_over, of_second, one_some, no_worse)
 
   latest_is_of_last_row : LatestIsOfLastRow r s
   latest_is_of_last_row files j until last query latest rows both well query_is differ before latest_is rows_is =
@@ -321,11 +295,7 @@ module _ (limits : Limits) (r s : RunModel) (first : IsRunWithin limits r) (seco
     IsFirst = IsFirstFaultOf p.timetable.network p.timetable.names p.source.0 p.target.0 j.start text f
 
     of_text : file_at files path ≡ Some text → length text ≤ limits.bytes → graph_in limits p j.start None (file_at files path) ≡ Err (fault.GraphFile f) → IsFirst
-    of_text there small fails =
-        let few : nat_lt limits.bytes (length text) ≡ false = grind (arith, nat_tests) in
-        let bytes : bytes_of limits.bytes input.Graph None (file_at files path) ≡ Ok text = rw (there, few) refl in
-        let is = subst (λ (b : Result (List ℕ) Fault). and_then b (λ read. graph_as (graph_of read p.timetable.network p.timetable.names p.source.0 p.target.0 j.start)) ≡ Err (fault.GraphFile f)) bytes fails in
-        (reported p.timetable.network p.timetable.names p.source.0 p.target.0 j.start text f p.timetable.valid).0 (as_text _ f is)
+    of_text there small fails = grind (arith, as_text)
 
     of_score : FailsScore (Some files) limits j.start path p (fault.GraphFile f) → file_at files path ≡ Some text → length text ≤ limits.bytes → IsFirst
     of_score (inl fails) there small = of_text there small fails.1
@@ -333,16 +303,11 @@ module _ (limits : Limits) (r s : RunModel) (first : IsRunWithin limits r) (seco
 
     of_journey : (known : Option NamedParts) → IsProblem limits files j p → FailsJourney (Some files) limits j (CheckGraph path) known (fault.GraphFile f)
         → file_at files path ≡ Some text → length text ≤ limits.bytes → IsFirst
-    of_journey known is (inl (q, has, also, (named, fails))) there small =
-        of_score (subst (λ (x : Problem). FailsScore (Some files) limits j.start path x (fault.GraphFile f)) (one_problem limits files j q p also is) fails) there small
+    of_journey known is (inl (q, has, also, (named, fails))) there small = grind (arith, of_score)
     of_journey known is (inr early) there small = absurd (early.0.stage)
 
   first_fault : FaultsAreReported → FaultIsFirst limits r
-  first_fault reported files old said j path text p f calm asks is there small fails =
-      let by : Option FileMap → Option Fault → Type 0 = λ contents e. Outcome contents limits r.words r.report r.before.out.written r.after.out.written (WritesLine r.before.err r.after.err) e in
-      let outcome = subst (by (Some files)) fails (subst (λ (c : Option FileMap). by c r.report.fault) calm.reports first.outcome) in
-      let (known, why) = job_fails (Some files) limits r.words r.report r.before.out.written r.after.out.written (WritesLine r.before.err r.after.err) (fault.GraphFile f) outcome (λ e. cc) (λ e. cc) (Ask j (CheckGraph path)) asks in
-      of_journey reported files j path text p f known is why there small
+  first_fault reported files old said j path text p f calm asks is there small fails = grind (arith, job_fails, of_journey)
 
   pub agree : FaultsAreReported → Agree limits r s
   agree reported = record {

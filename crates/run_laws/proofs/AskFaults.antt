@@ -1,10 +1,9 @@
 -- What is asked about a problem has an answer or one first fault.
-use Rattle.run_laws.proofs.Common.{◌≡◌, ◌≢◌, ℕ, ◌<◌, ◌⊎◌, List, Option, Some, Result, Ok, Err, inl, inr, sym, subst, ap, ◌∙◌, arith, cases_eq, cases_order, FileMap, file_at, table_of, Limits}
-use Rattle.run_laws.proofs.Common.{Query, NetworkModel, IsValid, count, dep_of, IsEarlier, PlanGraph, Head, ReplayFault, LowerBounds, ProofFault, IsLastFault, read_once, never_memory, AskModel}
-use Rattle.run_laws.proofs.Common.{Safe, Expand, Plan, Replays, Certify, CheckProof, CheckGraph, Punctual, Departures, Latest, Input, Fault, Replay, ProofFile, ProofFails, Unsafe, Problem}
-use Rattle.run_laws.proofs.Common.{Findings, none_unread, bytes_of, AnswersReplay, IsTripFault, trip_by, IsEnclosed, IsUnsafeGraph, IsHeld, IsBroken, graph_in, InGraphFile, FailsGraph, FailsText}
-use Rattle.run_laws.proofs.Common.{FailsFile, FailsCertificate, InCertificateFile, IsNoSafe, AnswersAsk, FailsAsk, FailsCheck, FailsReplay, FailsScore}
-use Rattle.graph_score.specs.Failures.{IsNotAfter, IsFirstFailure}
+use Rattle.run_laws.proofs.Common.{◌≡◌, ◌≢◌, ℕ, ◌<◌, ◌⊎◌, List, Option, Some, Result, Ok, Err, inl, inr, sym, subst, ap, ◌∙◌, arith, cases_eq, cases_order, FileMap, file_at, table_of, Limits, Query}
+use Rattle.run_laws.proofs.Common.{NetworkModel, IsValid, count, dep_of, IsEarlier, PlanGraph, Head, LowerBounds, ProofFault, IsLastFault, read_once, never_memory, AskModel, Safe, Expand, Plan}
+use Rattle.run_laws.proofs.Common.{Replays, Certify, CheckProof, CheckGraph, Punctual, Departures, Latest, Input, Fault, ProofFile, ProofFails, Problem, Findings, none_unread, bytes_of}
+use Rattle.run_laws.proofs.Common.{AnswersReplay, IsTripFault, trip_by, IsEnclosed, IsUnsafeGraph, IsHeld, IsBroken, graph_in, InGraphFile, FailsGraph, FailsText, FailsFile, FailsCertificate}
+use Rattle.run_laws.proofs.Common.{InCertificateFile, IsNoSafe, AnswersAsk, FailsAsk, FailsCheck, FailsReplay, FailsScore}
 use Rattle.lower_proof.specs.declared.reader.ProofFault.TheVariants.{NoMemory as NoRoom}
 use Rattle.journey_model.specs.declared.faults.Input.TheVariants as input
 use Rattle.run_laws.proofs.FirstFaults.{NotRead}
@@ -12,15 +11,6 @@ use Rattle.run_laws.proofs.OneFile.{one_err, never_both, read_graph, in_graph, r
 use Rattle.run_laws.proofs.Queries.{not_none}
 
 -- ---- of two failures one is first
-
-one_failure : (F : ℕ → ℕ → Type 0) (p x r y : ℕ) → IsFirstFailure F p x → IsFirstFailure F r y → (p ≡ r) × (x ≡ y)
-one_failure F p x r y a b = both (a.first r y b.fails) (b.first p x a.fails)
-  where
-    both : IsNotAfter p x r y → IsNotAfter r y p x → (p ≡ r) × (x ≡ y)
-    both (inl less) (inl more) = absurd (omega (arith, less, more))
-    both (inl less) (inr more) = absurd (omega (arith, less, more.0))
-    both (inr less) (inl more) = absurd (omega (arith, less.0, more))
-    both (inr less) (inr more) = (omega (arith, less.1, more.1), less.0)
 
 -- ---- of two connections one is earlier
 
@@ -79,8 +69,7 @@ module _ (p : Problem) (files : FileMap) (limits : Limits) (start : ℕ) where
     of_graph P fault never fails (head, graph, is, holds) = never_both graph_read (head, graph) fault is.reads (graph_fault fault never fails)
 
     one_trip_fault : (late : List ℕ) (a b : Fault) (head : Head) (graph : PlanGraph) → IsTripFault p late a head graph → IsTripFault p late b head graph → a ≡ b
-    one_trip_fault late a b head graph is also =
-        is.fault_is ∙ ap (λ (stop : ReplayFault). Replay stop) (one_err (trip_by p head graph late) is.stop also.stop is.trip also.trip) ∙ sym also.fault_is
+    one_trip_fault late a b head graph is also = grind (arith, one_err)
 
     one_replay_fault : (late : List ℕ) (a b : Fault) → NotRead a → NotRead b → FailsReplay (Some files) limits start path late p a → FailsReplay (Some files) limits start path late p b → a ≡ b
     one_replay_fault late a b m n =
@@ -96,10 +85,7 @@ module _ (p : Problem) (files : FileMap) (limits : Limits) (start : ℕ) where
     replayed late found text a m reported (inr is) = in_graph p files limits start path (AnswersReplay p late found text) (IsTripFault p late a) ⊥ (reported_or_stopped late found text a) reported is
 
     one_unsafe : (a b : Fault) (head : Head) (graph : PlanGraph) → IsUnsafeGraph p a head graph → IsUnsafeGraph p b head graph → a ≡ b
-    one_unsafe a b head graph (place, moment, is, unsafe) (other, later, also, more) =
-        let both = one_failure _ place.0 moment.0 other.0 later.0 unsafe.first more.first in
-        let same : Unsafe place moment ≡ Unsafe other later = λ i. Unsafe (record { 0 = both.0 i }) (record { 0 = both.1 i }) in
-        is ∙ same ∙ sym also
+    one_unsafe a b head graph (place, moment, is, unsafe) (other, later, also, more) = grind arith
 
     one_score_fault : (a b : Fault) → NotRead a → NotRead b → FailsScore (Some files) limits start path p a → FailsScore (Some files) limits start path p b → a ≡ b
     one_score_fault a b m n =
@@ -135,12 +121,7 @@ module _ (p : Problem) (files : FileMap) (limits : Limits) (start : ℕ) where
 
     -- a text with a fault has no certificate
     text_or_fault : (r : Result (List ℕ) Fault) (text : List ℕ) (q : Query) (certificate : LowerBounds) (a : Fault) → r ≡ Ok text → Reported text (Ok (q, certificate)) → FailsFile p start r a → ⊥
-    text_or_fault (Ok other) text q certificate a there reported (first, is, late) =
-        let same : other ≡ text = cc in
-        let never = never_memory p.timetable.network p.timetable.names p.source.0 p.target.0 start (table_of other) first late in
-        let both = read_once p.timetable.network p.timetable.names p.source.0 p.target.0 start other (Ok (q, certificate)) (Err first) (subst (λ (t : List ℕ). Reported t (Ok (q, certificate))) (sym same) reported) (inr late)
-        (λ e. cc) (free other first never) in
-        cc
+    text_or_fault (Ok other) text q certificate a there reported (first, is, late) = grind (arith, never_memory, read_once, free)
     text_or_fault (Err e) text q certificate a there reported fails = cc
 
     of_certificate : (P : Query → LowerBounds → Type 0) (a : Fault) → NotRead a → FailsCertificate (Some files) limits start path p a → InCertificateFile (Some files) limits start path p P → ⊥

@@ -1,8 +1,7 @@
 -- The answers of two runs are one.
-use Rattle.run_laws.proofs.Common.{◌≡◌, ℕ, ◌++◌, List, Option, None, Some, Ok, sym, subst, ap, ap₂, ◌∙◌, Interval, Appends, FileMap, Limits, Moment, Query, count, PlanGraph, JobModel, Ask, Sample}
-use Rattle.run_laws.proofs.Common.{AskModel, Safe, Expand, Plan, Certify, CheckProof, CheckGraph, Punctual, Departures, Latest, Problem, Fault, HasOneProblem, same_feed_problem, Findings}
-use Rattle.run_laws.proofs.Common.{findings_of, sample_findings, leg_count, sample_text, Report, query_until, AnswersAsk, AnswersJob, AnswersWords, HasAnswer, sample_journey, sample_alpha}
-use Rattle.run_laws.proofs.Common.{AnswersSampled, IsSampled, WritesLine, IsOneAnswer, KnownRun, EndsWell, HasOneRun}
+use Rattle.run_laws.proofs.Common.{arith, ◌≡◌, ℕ, ◌++◌, List, Option, None, Some, sym, subst, ap, ◌∙◌, Appends, FileMap, Limits, Moment, Query, JobModel, Ask, Sample, AskModel, Safe, Expand, Plan}
+use Rattle.run_laws.proofs.Common.{Certify, CheckProof, CheckGraph, Punctual, Departures, Latest, Problem, HasOneProblem, same_feed_problem, Findings, findings_of, Report, query_until, AnswersAsk}
+use Rattle.run_laws.proofs.Common.{AnswersJob, AnswersWords, HasAnswer, sample_journey, sample_alpha, AnswersSampled, IsSampled, WritesLine, IsOneAnswer, KnownRun, EndsWell, HasOneRun}
 use Rattle.command_line.specs.Jobs.{Replay}
 use Rattle.meat_engine.specs.Received.{Outcome}
 use Rattle.run_laws.proofs.Plans.{one_planned}
@@ -31,12 +30,7 @@ module _ (found others : Findings) (text other : List ℕ) where
   one_ask files limits start p (Latest until) = one_latest_answer p found others text other (query_until p start until)
 
   one_sample_reported : (size : ℕ) (p : Problem) (q : Query) (w : Moment) → AnswersSampled size p found text q w → AnswersSampled size p others other q w → One
-  one_sample_reported size p q w (graph, bounds, is, plan, text_is) (graphs, spans, is_other, plan_other, text_other) =
-      let both = one_planned p.timetable.network q graph graphs bounds spans plan plan_other in
-      record {
-        found = is ∙ ap₂ (λ (g : PlanGraph) (b : Interval). sample_findings q w g b (count p.timetable.network)) both.0 both.1 ∙ sym is_other;
-        text_is = text_is ∙ ap₂ (λ (g : PlanGraph) (b : Interval). sample_text size (count p.timetable.network) (leg_count g) b) both.0 both.1 ∙ sym text_other;
-      }
+  one_sample_reported size p q w (graph, bounds, is, plan, text_is) (graphs, spans, is_other, plan_other, text_other) = grind (arith, one_planned)
 
   one_sample : (size : ℕ) (p : Problem) → IsSampled size p found text → IsSampled size p others other → One
   one_sample size p (q, w, is, reports) (r, v, also, reported) =
@@ -44,18 +38,13 @@ module _ (found others : Findings) (text other : List ℕ) where
 
   module _ (one_problem : HasOneProblem) where
     one_job : (files : FileMap) (limits : Limits) (job : JobModel) → AnswersJob (Some files) limits job found text → AnswersJob (Some files) limits job others other → One
-    one_job files limits (Ask j a) (p, has, is, answers) (q, has_other, also, reported) =
-        one_ask files limits j.start p a answers
-        (subst (λ (r : Problem). AnswersAsk (Some files) limits j.start r a others other) (one_problem limits files j q p also is) reported)
+    one_job files limits (Ask j a) (p, has, is, answers) (q, has_other, also, reported) = grind (arith, one_ask)
     one_job files limits (Sample size) (folder, same, (p, has, is, answers)) (other_folder, same_other, (q, has_other, also, reported)) =
         let here = same_feed_problem limits other_folder folder (λ path. same_other path ∙ sym (same path)) _ _ sample_journey q also in
         one_sample size p answers (subst (λ (r : Problem). IsSampled size r others other) (one_problem limits folder sample_journey q p here is) reported)
 
     pub one_words : (files : FileMap) (limits : Limits) (words : List (List ℕ)) → AnswersWords (Some files) limits words found text → AnswersWords (Some files) limits words others other → One
-    one_words files limits words (wanted, is, answers) (wants, also, reported) =
-        let both : Ok wants ≡ Ok wanted = sym also ∙ is in
-        let same : wants ≡ wanted = cc in
-        one_job files limits wanted answers (subst (λ (w : JobModel). AnswersJob (Some files) limits w others other) same reported)
+    one_words files limits words (wanted, is, answers) (wants, also, reported) = grind (arith, one_job)
 
 -- what is written after the same bytes is the same
 pub one_written : (old text other : List ℕ) (new now : Option (List ℕ)) → text ≡ other → Appends (Some old) new text → Appends (Some old) now other → new ≡ now
@@ -66,19 +55,12 @@ one_written old text other (Some new) (Some now) same first second = ap (λ (xs 
 -- what a run comes to, by what the files hold and the sink received
 pub outcome_of : (files : FileMap) (limits : Limits) (words : List (List ℕ)) (report : Report) (old : List ℕ) (new : Option (List ℕ)) (run : KnownRun files limits words report old new)
     → Outcome (Some files) limits words report (Some old) new (WritesLine run.err run.err_after) report.fault
-outcome_of files limits words report old new run =
-    let by : Option FileMap → Option (List ℕ) → Option (List ℕ) → Type 0 = λ contents had has.
-    Outcome contents limits words report had has (WritesLine run.err run.err_after) report.fault in
-    let over = subst (λ (c : Option FileMap). by c run.out.written run.out_after.written) run.reports run.run.outcome in
-    let from = subst (λ (w : Option (List ℕ)). by (Some files) w run.out_after.written) run.had over in
-    subst (λ (w : Option (List ℕ)). by (Some files) (Some old) w) run.has from
+outcome_of files limits words report old new run = grind arith
 
 -- the answer of a run that ends well
 pub answer_of : (files : FileMap) (limits : Limits) (words : List (List ℕ)) (report : Report) (old : List ℕ) (new : Option (List ℕ)) → EndsWell files limits words report old new
     → HasAnswer (Some files) limits words report (Appends (Some old) new)
-answer_of files limits words report old new ends =
-    subst (λ (f : Option Fault). Outcome (Some files) limits words report (Some old) new (WritesLine ends.known.err ends.known.err_after) f) ends.no_fault
-    (outcome_of files limits words report old new ends.known)
+answer_of files limits words report old new ends = grind (arith, outcome_of)
 
 pub one_run : HasOneProblem → HasOneRun
 one_run one_problem files limits words report second old new now ends other =

@@ -1,6 +1,6 @@
 -- The answers about a certificate, and about a certificate file, follow from the problem and the files.
-use Rattle.run_laws.proofs.Common.{◌≡◌, ℕ, List, Option, Some, sym, ap, ◌∙◌, FileMap, Limits, Moment, Query, IsBoardableAtStart, LowerBounds, IsLeast-unique, place_name, Problem, Findings}
-use Rattle.run_laws.proofs.Common.{certify_findings, check_findings, holds_text, IsHeld, InCertificateFile, InQuery, AnswersCertify, IsOneAnswer}
+use Rattle.run_laws.proofs.Common.{arith, ◌≡◌, ℕ, List, Option, Some, sym, ap, ◌∙◌, FileMap, Limits, Moment, Query, LowerBounds, IsLeast-unique, Problem, Findings, certify_findings, IsHeld}
+use Rattle.run_laws.proofs.Common.{InCertificateFile, InQuery, AnswersCertify, IsOneAnswer}
 use Rattle.lower_proof.specs.CertificateTexts.{certificate_text}
 use Rattle.run_laws.proofs.Queries.{in_one_query}
 use Rattle.run_laws.proofs.OneFile.{in_certificate}
@@ -27,12 +27,7 @@ module _ (p : Problem) (found others : Findings) (text other : List ℕ) where
       one_certified q w reports (in_one_query p start alpha (AnswersCertify p others other) q r w v is also reported)
 
   one_held : (q : Query) (certificate : LowerBounds) → IsHeld p found text q certificate → IsHeld p others other q certificate → One
-  one_held q certificate reports reported =
-      let same = IsLeast-unique p.timetable.network q certificate.values (IsBoardableAtStart p.timetable.network q.source.0 q.start.0) q.source.0 q.start.0 reports.least reported.least reports.least_is reported.least_is in
-      record {
-        found = reports.found_is ∙ ap (check_findings q certificate) same ∙ sym reported.found_is;
-        text_is = reports.text_is ∙ ap (holds_text (place_name p.timetable.names p.source.0) (place_name p.timetable.names p.target.0) q) same ∙ sym reported.text_is;
-      }
+  one_held q certificate reports reported = grind (arith, IsLeast-unique)
 
   pub one_check_answer : (files : FileMap) (limits : Limits) (start : ℕ) (path : List ℕ) → InCertificateFile (Some files) limits start path p (IsHeld p found text)
       → InCertificateFile (Some files) limits start path p (IsHeld p others other) → One

@@ -1,16 +1,14 @@
 -- What `certify` prints is read as a certificate file, and its certificate is accepted; and its value is within the bounds of a plan.
-use Rattle.run_laws.proofs.Common.{◌≡◌, ℕ, ◌+◌, ◌≤◌, false, refl, subst, arith, inl, inr, List, Option, None, Some, Result, Ok, Err, length, nat_lt, nat_tests, FileMap, file_at, Limits, table_of}
-use Rattle.run_laws.proofs.Common.{Interval, Query, NetworkModel, count, IsBoardableAtStart, PlanGraph, unfold_plan, IsPlanned, below_covers, IsAccepted, IsLeastAtStart, never_memory}
-use Rattle.run_laws.proofs.Common.{IsLeast-unique, Fault, Problem, Findings, bytes_of, FailsFile, IsCertificateText, InQuery, AnswersCertify, EndsByCertificateFile, EndsByVerdict}
+use Rattle.run_laws.proofs.Common.{◌≡◌, ℕ, ◌+◌, ◌≤◌, subst, arith, inl, inr, List, Option, None, Some, Result, Ok, Err, length, FileMap, file_at, Limits, table_of, Interval, Query, NetworkModel}
+use Rattle.run_laws.proofs.Common.{count, IsBoardableAtStart, PlanGraph, unfold_plan, IsPlanned, below_covers, IsAccepted, IsLeastAtStart, never_memory, IsLeast-unique, Fault, Problem, Findings}
+use Rattle.run_laws.proofs.Common.{bytes_of, FailsFile, IsCertificateText, InQuery, AnswersCertify, EndsByCertificateFile, EndsByVerdict}
 use Rattle.lower_proof.specs.Promises.{IsBestCertificate}
 use Rattle.lower_proof.proofs.Best.{sound}
 use Rattle.journey_model.specs.declared.faults.Input.TheVariants as input
 
 -- the bytes of a file that is there and short enough
 pub bytes_there : (most : ℕ) (files : FileMap) (path text : List ℕ) → file_at files path ≡ Some text → length text ≤ most → bytes_of most input.Proof None (file_at files path) ≡ Ok text
-bytes_there most files path text there small =
-    let few : nat_lt most (length text) ≡ false = grind (arith, nat_tests) in
-    rw (there, few) refl
+bytes_there most files path text there small = grind arith
 
 same_text : (a b : List ℕ) (r : Result (List ℕ) Fault) → r ≡ Ok a → r ≡ Ok b → a ≡ b
 same_text a b r x y = cc

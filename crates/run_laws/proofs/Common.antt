@@ -1,6 +1,6 @@
 -- The names that most proofs of this crate cite, passed on from one place. Declares nothing.
-pub use Rattle.std.proofs.Common.{All, AllPairs, Contains, Err, IsOk, IsTrue, List, MatchOption, None, Ok, Option, Result, Some, [], ap, ap₂, arith, ext_get_or, false, inl, inr, length, map}
-pub use Rattle.std.proofs.Common.{nat_lt, refl, subst, suc, sym, zero, ℕ, ◌++◌, ◌+◌, ◌-◌, ◌<◌, ◌↔◌, ◌∙◌, ◌∷◌, ◌≡◌, ◌≢◌, ◌≤◌, ◌⊎◌}
+pub use Rattle.std.proofs.Common.{All, AllPairs, Contains, Err, IsOk, IsTrue, List, MatchOption, None, Ok, Option, Result, Some, [], ap, ap₂, arith, ext_get_or, false, inl, inr, length, map, nat_lt}
+pub use Rattle.std.proofs.Common.{refl, subst, suc, sym, zero, ℕ, ◌++◌, ◌+◌, ◌-◌, ◌<◌, ◌↔◌, ◌∙◌, ◌∷◌, ◌≡◌, ◌≢◌, ◌≤◌, ◌⊎◌}
 pub use Rattle.std.proofs.lemmas.Bool.{both_ways, cases_Bool, cases_eq, cases_lt, cases_order, eq-eqb, ne_eqb}
 pub use Rattle.std.proofs.lemmas.Bool.Decides.{nat_tests}
 pub use Rattle.std.proofs.lemmas.List.Elements.{All-contains, All-head, All-nil}
@@ -17,7 +17,7 @@ pub use Rattle.decision_graph.proofs.Deadlines.{below_covers, no_worse, worst_ke
 pub use Rattle.decision_graph.specs.Planned.{IsPlanned}
 pub use Rattle.departure_table.proofs.Latest.{of_last_row, safe_sooner}
 pub use Rattle.file_ports.specs.Ports.{FileMap, file_at}
-pub use Rattle.graph_text.specs.GraphTexts.{expanded_text, plan_text}
+pub use Rattle.graph_text.specs.GraphTexts.{plan_text}
 pub use Rattle.graph_text.specs.Reading.{IsReadAs, graph_of}
 pub use Rattle.graph_text.specs.declared.Head.{Head}
 pub use Rattle.gtfs_tables.specs.Feeds.{FeedParts, IsFeedOf, tables_from}
@@ -26,28 +26,27 @@ pub use Rattle.interval_fixed.specs.Interval.{Interval}
 pub use Rattle.journey_answers.specs.Answers.{AnswersExpand, AnswersPlan, AnswersSafe, HasNoSafe, InQuery, IsNoSafe, IsQueryOf, head_of}
 pub use Rattle.journey_answers.specs.Certified.{AnswersCertify}
 pub use Rattle.journey_answers.specs.Checks.{IsBroken, IsHeld}
-pub use Rattle.journey_answers.specs.Departures.{AnswersDepartures, AnswersLatest, AreDepartures, HasSafeFor, SafeOf, query_until}
+pub use Rattle.journey_answers.specs.Departures.{AnswersDepartures, AnswersLatest, AreDepartures, HasSafeFor, query_until}
 pub use Rattle.journey_answers.specs.Scores.{IsEnclosed, IsUnsafeGraph}
 pub use Rattle.journey_answers.specs.Trips.{AnswersReplay, IsTripFault, trip_by}
 pub use Rattle.journey_model.specs.Faults.{status_of, unread_input}
 pub use Rattle.journey_model.specs.Sites.{NamedParts}
 pub use Rattle.journey_model.specs.declared.faults.Fault.{Fault}
-pub use Rattle.journey_model.specs.declared.faults.Fault.TheVariants.{NoMemory, ProofFails, ProofFile, Read, Replay, Unsafe, Words, Write}
+pub use Rattle.journey_model.specs.declared.faults.Fault.TheVariants.{NoMemory, ProofFails, ProofFile, Read, Replay, Unsafe, Write}
 pub use Rattle.journey_model.specs.declared.faults.Input.{Input}
 pub use Rattle.journey_model.specs.declared.problem.Problem.{Problem}
 pub use Rattle.journey_problem.proofs.NoFaults.{no_fault, no_folder_fault, none_unread, not_feed, table_read}
 pub use Rattle.journey_problem.proofs.SameFiles.{same_feed_problem, same_folder}
 pub use Rattle.journey_problem.specs.CertificateFiles.{FailsCertificate, FailsFile, FailsText, InCertificateFile, IsCertificateText}
-pub use Rattle.journey_problem.specs.FeedProblems.{GtfsFolder, IsFaultAfterFolder, IsFeedProblemFault, IsFolderFault, IsLaterTableFault, IsWindowFault, feed_as, feed_stop_fault, window_fault_of}
+pub use Rattle.journey_problem.specs.FeedProblems.{GtfsFolder, IsFaultAfterFolder, IsFeedProblemFault, IsFolderFault, IsLaterTableFault, IsWindowFault, feed_as, feed_stop_fault}
 pub use Rattle.journey_problem.specs.Files.{bytes_of}
 pub use Rattle.journey_problem.specs.GraphFiles.{FailsGraph, InGraphFile, graph_as, graph_in}
 pub use Rattle.journey_problem.specs.InputTables.{delay_fault}
 pub use Rattle.journey_problem.specs.OneProblem.{HasOneProblem}
 pub use Rattle.journey_problem.specs.Problems.{IsProblem, IsProblemFault, IsProblemFaultOver}
-pub use Rattle.journey_report.specs.AnswerTexts.{encloses_text, holds_text, leg_count, punctual_row, sample_text, trace_text}
-pub use Rattle.journey_report.specs.DepartureTexts.{departures_text, latest_text}
-pub use Rattle.journey_report.specs.Findings.{Findings, certify_findings, check_findings, departures_findings, expand_findings, findings_of, latest_findings, no_findings, plan_findings}
-pub use Rattle.journey_report.specs.Findings.{punctual_findings, replay_findings, sample_findings, score_findings}
+pub use Rattle.journey_report.specs.AnswerTexts.{punctual_row}
+pub use Rattle.journey_report.specs.DepartureTexts.{departures_text}
+pub use Rattle.journey_report.specs.Findings.{Findings, certify_findings, departures_findings, findings_of, no_findings, plan_findings, punctual_findings}
 pub use Rattle.journey_report.specs.declared.report.Report.{Report}
 pub use Rattle.lower_proof.proofs.ReadOnce.{never_memory, read_once}
 pub use Rattle.lower_proof.proofs.Vias.{IsLeast-unique}
@@ -70,22 +69,20 @@ pub use Rattle.plan_graph.specs.declared.GraphRow.{GraphRow}
 pub use Rattle.plan_graph.specs.declared.PlanGraph.{PlanGraph}
 pub use Rattle.plan_model.proofs.Laws.{reaches_from_safe, safe_exists}
 pub use Rattle.plan_model.proofs.Lists.{AllPairs-head, AllPairs-tail, Contains-cons_cases, Contains-from_map, Contains-head, Contains-map, Contains-nil, Contains-tail}
-pub use Rattle.plan_model.specs.Network.{IsValid, arr_of, connection, count, dep_of, outcomes, to_of}
+pub use Rattle.plan_model.specs.Network.{IsValid, arr_of, connection, count, dep_of}
 pub use Rattle.plan_model.specs.NetworkModel.{NetworkModel}
 pub use Rattle.plan_model.specs.Order.{IsEarlier, IsScanOrder}
-pub use Rattle.plan_model.specs.Strategy.{AreSafe, IsBoardable, IsBoardableAtStart, IsLeastWorst, IsLeg, IsSafe, IsSafeFor, IsSafeFromStart, Reaches, deadline_of}
-pub use Rattle.plan_model.specs.Tree.{Done, Kid, Kids, Nil, Ride, Stuck, Tree, worst}
+pub use Rattle.plan_model.specs.Strategy.{AreSafe, IsBoardable, IsBoardableAtStart, IsLeastWorst, IsLeg, IsSafe, IsSafeFor, IsSafeFromStart, deadline_of}
+pub use Rattle.plan_model.specs.Tree.{Done, Kid, Kids, Nil, Ride, Stuck, Tree}
 pub use Rattle.plan_model.specs.Unfold.{arrival_of, by_place, end_of, kids_after, outcomes_of, ride_of, ride_or_stuck, unfold_after, unfold_from, unfolding_of}
 pub use Rattle.plan_model.specs.declared.model.ConnectionId.{ConnectionId}
 pub use Rattle.plan_model.specs.declared.model.Leg.{Leg}
 pub use Rattle.plan_model.specs.declared.model.Moment.{Moment}
 pub use Rattle.plan_model.specs.declared.model.Outcome.{Outcome}
 pub use Rattle.plan_model.specs.declared.model.Query.{Query}
-pub use Rattle.printed_rows.specs.Writers.{place_name}
+unfoldable pub use Rattle.service_days.specs.Calendars.{calendars_in}
+pub use Rattle.trip_replay.specs.declared.ReplayFault.{ReplayFault}
+pub use Rattle.value_laws.specs.Means.{from_span, mean_scoring}
 pub use Rattle.run_laws.specs.OneAnswer.{IsOneAnswer}
 pub use Rattle.run_laws.specs.OneRun.{EndsWell, HasOneEnd, HasOneRun, IsCalmRun, IsOneEnd, KnownRun}
 pub use Rattle.run_laws.specs.Wholes.{HasEveryRow, IsOneStrategy}
-pub use Rattle.service_days.specs.Calendars.{calendar_from, calendars_from, dates_from}
-unfoldable pub use Rattle.service_days.specs.Calendars.{calendars_in}
-pub use Rattle.trip_replay.specs.declared.ReplayFault.{ReplayFault}
-pub use Rattle.value_laws.specs.Means.{from_span, mean_scoring, span_of}

@@ -16,9 +16,6 @@ alike p query latest departures (inr one) (inl two) = absurd (one.1 (now_is_late
 
 pub by_worst : (p : Problem) (start until : ℕ) (w : Moment) (status : ℕ) → IsLeastWorst p.timetable.network p.source.0 p.target.0 start (Some w) → EndsByLatest p (query_until p start until) status
     → (w.0 ≤ until → status ≡ 0) × (until < w.0 → status ≡ 1)
-by_worst p start until w status least (inl (zero, later)) =
-    let (tree, safe) = later_is_now p (query_until p start until) later in
-    let r = reaches_from_safe p.timetable.network p.source.0 p.target.0 start until tree safe in
-    (λ early. zero, λ late. absurd (omega (arith, least.1 tree r.0, r.1, late)))
+by_worst p start until w status least (inl (zero, later)) = grind (arith, later_is_now, reaches_from_safe)
 by_worst p start until w status least (inr (one, never)) =
     (λ early. absurd (never (now_is_later p (query_until p start until) (safe_exists p.timetable.network p.source.0 p.target.0 start until w least early))), λ late. one)

@@ -42,10 +42,7 @@ module _ (p : Problem) (q : Query) (last : ℕ) where
       (subst (λ (look : ℕ → Option DepartureRow). AreLooked look last q.start.0 ys) (λ i next. sym (same next) i) other.looked)
 
   one_departures : (xs ys : List DepartureRow) → AreDepartures p q last xs → AreDepartures p q last ys → xs ≡ ys
-  one_departures xs ys is other = elim (cases_eq q.source.0 q.target.0) [
-    | inl same ↦ is.at_once same ∙ sym (other.at_once same)
-    | inr differ ↦ one_by_rules xs ys (is.by_rules differ) (other.by_rules differ)
-  ]
+  one_departures xs ys is other = grind (arith, cases_eq, one_by_rules)
 
   pub one_departures_answer : (found others : Findings) (text other : List ℕ) → AnswersDepartures p q last found text → AnswersDepartures p q last others other
       → IsOneAnswer found others text other

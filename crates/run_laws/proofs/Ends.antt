@@ -1,8 +1,8 @@
 -- Two runs that nothing disturbs end in one way.
-use Rattle.run_laws.proofs.Common.{◌≡◌, ◌≢◌, ℕ, ◌⊎◌, List, Option, None, Some, Ok, Err, inl, inr, refl, sym, subst, ap, ◌∙◌, Appends, Keeps, FileMap, file_at, Limits, JobModel, Ask, Sample}
-use Rattle.run_laws.proofs.Common.{JourneyModel, AskModel, Plan, job_of, Fault, Words, Replay, ProofFails, Unsafe, Write, NoMemory, Problem, status_of, NamedParts, HasOneProblem, no_fault}
-use Rattle.run_laws.proofs.Common.{same_feed_problem, IsNoSafe, Findings, findings_of, no_findings, Report, FailsAsk, FailsJourney, Ending, AnswersJob, AnswersWords, FailsJob, IsExplained}
-use Rattle.run_laws.proofs.Common.{IsRefused, OutcomeBy, WritesLine, sample_journey, sample_alpha, IsCalmRun, IsOneEnd, HasOneEnd}
+use Rattle.run_laws.proofs.Common.{arith, ◌≡◌, ◌≢◌, ℕ, ◌⊎◌, List, Option, None, Some, Ok, Err, inl, inr, refl, sym, subst, ap, ◌∙◌, Appends, Keeps, FileMap, file_at, Limits, JobModel, Ask, Sample}
+use Rattle.run_laws.proofs.Common.{JourneyModel, AskModel, Plan, job_of, Fault, Replay, ProofFails, Unsafe, Write, NoMemory, Problem, status_of, NamedParts, HasOneProblem, no_fault}
+use Rattle.run_laws.proofs.Common.{same_feed_problem, IsNoSafe, Findings, findings_of, no_findings, Report, FailsJourney, Ending, AnswersJob, AnswersWords, FailsJob, IsExplained, IsRefused}
+use Rattle.run_laws.proofs.Common.{OutcomeBy, WritesLine, sample_journey, sample_alpha, IsCalmRun, IsOneEnd, HasOneEnd}
 use Rattle.command_line.specs.declared.job.WordsFault.{WordsFault}
 use Rattle.journey_model.specs.Known.{parts_of}
 use Rattle.journey_model.specs.Stages.{stage_of, IsStageBeforeSearch}
@@ -53,14 +53,10 @@ module _ (limits : Limits) (files : FileMap) where
   Fails j a known fault = FailsJourney (Some files) limits j a known fault
 
   one_journey_fault : (j : JourneyModel) (ask : AskModel) (known other : Option NamedParts) (a b : Fault) → IsCalm a → IsCalm b → Fails j ask known a → Fails j ask other b → IsOneFault known other a b
-  one_journey_fault j ask known other a b m n (inl (p, has, is, (named, fails))) (inl (q, has_other, also, (called, misses))) =
-      let one = one_problem limits files j q p also is in
-      let same = one_ask_fault p files limits j.start ask a b m.read n.read fails (subst (λ (r : Problem). FailsAsk (Some files) limits j.start r ask b) one misses) in
-      with_line known other a b same (ap (λ (k : Option NamedParts). line_of k a) (one_known p q known other named called (sym one)))
+  one_journey_fault j ask known other a b m n (inl (p, has, is, (named, fails))) (inl (q, has_other, also, (called, misses))) = grind (arith, one_problem, one_ask_fault, with_line, one_known)
   one_journey_fault j ask known other a b m n (inl (p, has, is, fails)) (inr early) = absurd (no_fault limits files j p b is n.read n.memory early.1)
   one_journey_fault j ask known other a b m n (inr early) (inl (q, has_other, also, misses)) = absurd (no_fault limits files j q a also m.read m.memory early.1)
-  one_journey_fault j ask known other a b m n (inr early) (inr soon) =
-      with_line known other a b (one_first_fault limits files j a b m.read n.read m.memory n.memory early.1 soon.1) (line_before known other a early.0.stage)
+  one_journey_fault j ask known other a b m n (inr early) (inr soon) = grind (arith, with_line, one_first_fault, line_before)
 
   -- what is refused over a made timetable is so over other files with the same bytes
   made_fault : (other : FileMap) (known : Option NamedParts) (fault : Fault) → ((path : List ℕ) → file_at other path ≡ file_at files path)
@@ -81,9 +77,7 @@ module _ (limits : Limits) (files : FileMap) where
       → IsExplained (Some files) limits words other b → IsOneFault known other a b
   one_cause words known other a b m n (inl none) also = absurd (m.memory none)
   one_cause words known other a b m n (inr is) (inl none) = absurd (n.memory none)
-  one_cause words known other a b m n (inr (inl (refusal, is, from))) (inr (inl (second, also, of))) =
-      let same = is ∙ ap (λ (r : WordsFault). Words r) (one_refusal words refusal second from of) ∙ sym also in
-      with_line known other a b same (subst (λ (f : Fault). line_of known f ≡ line_of other f) (sym is) refl)
+  one_cause words known other a b m n (inr (inl (refusal, is, from))) (inr (inl (second, also, of))) = grind (arith, one_refusal, with_line)
   one_cause words known other a b m n (inr (inl (refusal, is, from))) (inr (inr (job, of, misses))) = absurd (refused_or_not words refusal job from of)
   one_cause words known other a b m n (inr (inr (job, from, fails))) (inr (inl (second, also, of))) = absurd (refused_or_not words second job of from)
   one_cause words known other a b m n (inr (inr (job, from, fails))) (inr (inr (second, of, misses))) =
@@ -93,9 +87,7 @@ module _ (limits : Limits) (files : FileMap) where
 
   journey_answered : (j : JourneyModel) (ask : AskModel) (found : Findings) (text : List ℕ) (known : Option NamedParts) (a : Fault) → IsCalm a
       → AnswersJob (Some files) limits (Ask j ask) found text → FailsJourney (Some files) limits j ask known a → ⊥
-  journey_answered j ask found text known a m (p, has, is, answers) (inl (q, has_other, also, (called, fails))) =
-      answered_or_not p files limits j.start ask found text a m.read answers
-      (subst (λ (r : Problem). FailsAsk (Some files) limits j.start r ask a) (one_problem limits files j q p also is) fails)
+  journey_answered j ask found text known a m (p, has, is, answers) (inl (q, has_other, also, (called, fails))) = grind (arith, answered_or_not, one_problem)
   journey_answered j ask found text known a m (p, has, is, answers) (inr early) = no_fault limits files j p a is m.read m.memory early.1
 
   job_answered : (job : JobModel) (found : Findings) (text : List ℕ) (known : Option NamedParts) (a : Fault) → IsCalm a → AnswersJob (Some files) limits job found text
@@ -145,30 +137,19 @@ module _ (limits : Limits) (files : FileMap) where
       Reports = WritesLine run.known.err run.known.err_after
 
       outcome : (fault : Option Fault) → report.fault ≡ fault → Outcome (Some files) limits words report (Some old) new Reports fault
-      outcome fault is =
-          subst (λ (f : Option Fault). Outcome (Some files) limits words report (Some old) new Reports f) is (outcome_of files limits words report old new run.known)
-
-      keeps_err : report.fault ≡ None → Keeps (Some said) line
-      keeps_err none =
-          subst (λ (w : Option (List ℕ)). Keeps (Some said) w) run.has_said (subst (λ (w : Option (List ℕ)). Keeps w run.known.err_after.written) run.had_said (run.known.run.quiet none))
+      outcome fault is = grind (arith, outcome_of)
 
       reports_err : (text : List ℕ) → Reports text → Appends (Some said) line text
-      reports_err text reports =
-          subst (λ (w : Option (List ℕ)). Appends (Some said) w text) run.has_said (subst (λ (w : Option (List ℕ)). Appends w run.known.err_after.written text) run.had_said (reports.1 run.err_calm))
+      reports_err text reports = grind arith
 
       calm_fault : (fault : Fault) → report.fault ≡ Some fault → IsCalm fault
-      calm_fault fault is = record {
-        read = λ i read. run.files_calm (run.known.run.read i (is ∙ ap (λ (f : Fault). Some f) read));
-        memory = λ none. run.memory (is ∙ ap (λ (f : Fault). Some f) none);
-      }
+      calm_fault fault is = grind arith
 
       not_write : (fault : Fault) → report.fault ≡ Some fault → fault ≢ Write
       not_write fault is write = run.out_calm (run.known.run.write (is ∙ ap (λ (f : Fault). Some f) write))
 
       settled : (fault : Option Fault) → report.fault ≡ fault → Answers report new line ⊎ Refuses report new line
-      settled None is =
-          let (text, answers, out) = outcome None is in
-          inl (record { none = is; text = text; answers = answers; out = out; err = keeps_err is })
+      settled None is = grind (arith, outcome)
       settled (Some fault) is =
           let both = subst (λ (e : Ending). OutcomeBy e (Some files) limits words report (Some old) new Reports (Some fault)) (refused_ending fault (not_write fault is)) (outcome (Some fault) is) in
           let refused : IsRefused (Some files) limits words report Reports fault = both.1 in

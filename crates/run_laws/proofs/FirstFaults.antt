@@ -1,9 +1,8 @@
 -- The files of a journey have one first fault.
-use Rattle.run_laws.proofs.Common.{◌≡◌, ◌≢◌, ℕ, List, Option, None, Some, Result, Ok, Err, IsOk, inl, inr, sym, subst, ap, ◌∙◌, FileMap, file_at, Limits, Table, FeedFault, unread_table, FeedParts}
-use Rattle.run_laws.proofs.Common.{tables_in, calendars_in, transfers_in, TimetableModel, CutFile, FeedFolder, JourneyModel, Input, Fault, Read, NoMemory, unread_input, delay_fault, GtfsFolder}
-use Rattle.run_laws.proofs.Common.{feed_as, feed_stop_fault, window_fault_of, IsFolderFault, IsLaterTableFault, IsWindowFault, IsFaultAfterFolder, IsFeedProblemFault, IsProblemFault}
-use Rattle.run_laws.proofs.Common.{IsProblemFaultOver, none_unread, table_read, not_feed, no_folder_fault}
-use Rattle.journey_problem.specs.CutProblems.{cut_problem_fault}
+use Rattle.run_laws.proofs.Common.{arith, ◌≡◌, ◌≢◌, ℕ, List, Option, None, Some, Result, Ok, Err, IsOk, inl, inr, sym, subst, ap, ◌∙◌, FileMap, Limits, Table, FeedFault, unread_table, FeedParts}
+use Rattle.run_laws.proofs.Common.{tables_in, calendars_in, TimetableModel, CutFile, FeedFolder, JourneyModel, Input, Fault, Read, NoMemory, unread_input, GtfsFolder, feed_as, feed_stop_fault}
+use Rattle.run_laws.proofs.Common.{IsFolderFault, IsLaterTableFault, IsWindowFault, IsFaultAfterFolder, IsFeedProblemFault, IsProblemFault, IsProblemFaultOver, none_unread, table_read, not_feed}
+use Rattle.run_laws.proofs.Common.{no_folder_fault}
 use Rattle.journey_problem.proofs.OneFeed.{one_feed_of}
 use Rattle.journey_problem.proofs.OneFeedProblem.{SameGtfsFolder, one_folder, one_window_fault}
 
@@ -30,14 +29,10 @@ module _ (limits : Limits) (files : FileMap) where
 
   module _ (folder : List ℕ) where
     one_later : (f : FeedParts) (a b : FeedFault) → unread_table a ≡ None → unread_table b ≡ None → IsLaterTableFault limits files folder f a → IsLaterTableFault limits files folder f b → a ≡ b
-    one_later f a b u v (inl is) (inl also) =
-        one_err (calendars_in files folder limits None) a b (subst (λ (t : Option Table). calendars_in files folder limits t ≡ Err a) u is)
-        (subst (λ (t : Option Table). calendars_in files folder limits t ≡ Err b) v also)
+    one_later f a b u v (inl is) (inl also) = grind (arith, one_err)
     one_later f a b u v (inl is) (inr (ok, also)) = absurd (not_ok (calendars_in files folder limits None) a ok (subst (λ (t : Option Table). calendars_in files folder limits t ≡ Err a) u is))
     one_later f a b u v (inr (ok, is)) (inl also) = absurd (not_ok (calendars_in files folder limits None) b ok (subst (λ (t : Option Table). calendars_in files folder limits t ≡ Err b) v also))
-    one_later f a b u v (inr (ok, is)) (inr (good, also)) =
-        one_err (transfers_in files folder limits None f) a b (subst (λ (t : Option Table). transfers_in files folder limits t f ≡ Err a) u is)
-        (subst (λ (t : Option Table). transfers_in files folder limits t f ≡ Err b) v also)
+    one_later f a b u v (inr (ok, is)) (inr (good, also)) = grind (arith, one_err)
 
     of_tables : (fault : FeedFault) → unread_table fault ≡ None → tables_in files folder limits (unread_table fault) ≡ Err fault → tables_in files folder limits None ≡ Err fault
     of_tables fault u is = subst (λ (t : Option Table). tables_in files folder limits t ≡ Err fault) u is
@@ -46,25 +41,19 @@ module _ (limits : Limits) (files : FileMap) where
     one_table_fault a b u v (inl is) (inl also) = one_err (tables_in files folder limits None) a b (of_tables a u is) (of_tables b v also)
     one_table_fault a b u v (inl is) (inr (f, feed, later)) = absurd (not_feed (tables_in files folder limits None) f a feed (of_tables a u is))
     one_table_fault a b u v (inr (f, feed, later)) (inl also) = absurd (not_feed (tables_in files folder limits None) f b feed (of_tables b v also))
-    one_table_fault a b u v (inr (f, feed, later)) (inr (g, other, after)) =
-        let same = one_feed_of (tables_in files folder limits None) g f other feed in
-        one_later f a b u v later (subst (λ (x : FeedParts). IsLaterTableFault limits files folder x b) same after)
+    one_table_fault a b u v (inr (f, feed, later)) (inr (g, other, after)) = grind (arith, one_feed_of, one_later)
 
     module _ (horizon : ℕ) (j : JourneyModel) where
       one_window : (h g : GtfsFolder) (a b : Fault) → SameGtfsFolder h g → IsWindowFault limits horizon j h a → IsWindowFault limits horizon j g b → a ≡ b
       one_window h g a b same (inl is) (inl also) = one_some (feed_stop_fault h.feed j.from j.to) a b is (ap (λ (f : FeedParts). feed_stop_fault f j.from j.to) same.feed ∙ also)
       one_window h g a b same (inl is) (inr (none, also)) = absurd (not_both (feed_stop_fault h.feed j.from j.to) a (ap (λ (f : FeedParts). feed_stop_fault f j.from j.to) same.feed ∙ none) is)
       one_window h g a b same (inr (none, is)) (inl also) = absurd (not_both (feed_stop_fault h.feed j.from j.to) b none (ap (λ (f : FeedParts). feed_stop_fault f j.from j.to) same.feed ∙ also))
-      one_window h g a b same (inr (none, is)) (inr (free, also)) =
-          one_some (window_fault_of limits horizon j h) a b is (one_window_fault limits files folder horizon j h g same ∙ also)
+      one_window h g a b same (inr (none, is)) (inr (free, also)) = grind (arith, one_some, one_window_fault)
 
       one_after : (h g : GtfsFolder) (a b : Fault) → SameGtfsFolder h g → NotRead a → NotRead b → IsFaultAfterFolder limits files horizon j h a → IsFaultAfterFolder limits files horizon j g b → a ≡ b
-      one_after h g a b same m n (inl is) (inl also) =
-          one_some (delay_fault limits (file_at files j.delays) None) a b (quiet (delay_fault limits (file_at files j.delays)) a m is) (quiet (delay_fault limits (file_at files j.delays)) b n also)
-      one_after h g a b same m n (inl is) (inr (none, later)) =
-          absurd (not_both (delay_fault limits (file_at files j.delays) None) a none (quiet (delay_fault limits (file_at files j.delays)) a m is))
-      one_after h g a b same m n (inr (none, later)) (inl also) =
-          absurd (not_both (delay_fault limits (file_at files j.delays) None) b none (quiet (delay_fault limits (file_at files j.delays)) b n also))
+      one_after h g a b same m n (inl is) (inl also) = grind (arith, one_some, quiet)
+      one_after h g a b same m n (inl is) (inr (none, later)) = grind (arith, not_both, quiet)
+      one_after h g a b same m n (inr (none, later)) (inl also) = grind (arith, not_both, quiet)
       one_after h g a b same m n (inr (none, later)) (inr (free, after)) = one_window h g a b same later after
 
       one_feed_fault : (a b : Fault) → NotRead a → NotRead b → IsFeedProblemFault limits files folder horizon j a → IsFeedProblemFault limits files folder horizon j b → a ≡ b
@@ -76,8 +65,7 @@ module _ (limits : Limits) (files : FileMap) where
       one_feed_fault a b m n (inr (h, folder_is, after)) (inr (g, other_is, afters)) = one_after h g a b (one_folder limits files folder h g folder_is other_is) m n after afters
 
   one_over : (timetable : TimetableModel) (j : JourneyModel) (a b : Fault) → NotRead a → NotRead b → IsProblemFaultOver limits files timetable j a → IsProblemFaultOver limits files timetable j b → a ≡ b
-  one_over (CutFile path) j a b m n is also =
-      one_some (cut_problem_fault limits files path j None) a b (quiet (cut_problem_fault limits files path j) a m is) (quiet (cut_problem_fault limits files path j) b n also)
+  one_over (CutFile path) j a b m n is also = grind (arith, one_some, quiet)
   one_over (FeedFolder folder horizon) j a b m n is also = one_feed_fault folder horizon j a b m n is also
 
   pub one_first_fault : (j : JourneyModel) (a b : Fault) → NotRead a → NotRead b → a ≢ NoMemory → b ≢ NoMemory → IsProblemFault limits files j a → IsProblemFault limits files j b → a ≡ b

@@ -1,6 +1,6 @@
 -- A graph file has one graph, and a certificate file one certificate; what holds of one that was read holds of another.
-use Rattle.run_laws.proofs.Common.{◌≡◌, ℕ, List, None, Some, Result, Ok, Err, subst, FileMap, file_at, Limits, Query, PlanGraph, Head, LowerBounds, ProofFault, read_once, Fault, Problem, bytes_of}
-use Rattle.run_laws.proofs.Common.{graph_in, InGraphFile, InCertificateFile}
+use Rattle.run_laws.proofs.Common.{arith, ◌≡◌, ℕ, List, None, Some, Result, Ok, Err, subst, FileMap, file_at, Limits, Query, PlanGraph, Head, LowerBounds, ProofFault, read_once, Fault, Problem}
+use Rattle.run_laws.proofs.Common.{bytes_of, graph_in, InGraphFile, InCertificateFile}
 use Rattle.lower_proof.specs.Reading.{IsProofRead}
 use Rattle.journey_model.specs.declared.faults.Input.TheVariants as input
 
@@ -19,9 +19,7 @@ module _ (p : Problem) (files : FileMap) (limits : Limits) (start : ℕ) (path :
 
   pub in_graph : (P Q : Head → PlanGraph → Type 0) (R : Type 0) → ((head : Head) (graph : PlanGraph) → P head graph → Q head graph → R)
       → InGraphFile (Some files) limits start path p P → InGraphFile (Some files) limits start path p Q → R
-  in_graph P Q R both (head, graph, is, holds) (other, more, also, others) =
-      let same : (other, more) ≡ (head, graph) = one_ok read_graph (other, more) (head, graph) also.reads is.reads in
-      both head graph holds (subst (λ (w : Head × PlanGraph). Q w.0 w.1) same others)
+  in_graph P Q R both (head, graph, is, holds) (other, more, also, others) = grind (arith, one_ok, read_graph)
 
   abbrev pub read_bytes : Result (List ℕ) Fault
   read_bytes = bytes_of limits.bytes input.Proof None (file_at files path)

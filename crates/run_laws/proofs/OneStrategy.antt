@@ -1,6 +1,6 @@
 -- The strategy that the rules keep, and its value, follow from the network and the query.
-use Rattle.run_laws.proofs.Common.{◌≡◌, ◌≢◌, ℕ, List, Some, sym, ap, ap₂, ◌∙◌, inl, inr, cases_eq, Interval, ConnectionId, Leg, Query, NetworkModel, IsSafeFor, Tree, Done, Ride, Stuck}
-use Rattle.run_laws.proofs.Common.{unfolding_of, by_place, mean_scoring, from_span, span_of, Kept, IsByRules, kept_after, kept_leg}
+use Rattle.run_laws.proofs.Common.{arith, ◌≡◌, ◌≢◌, ℕ, List, Some, sym, ap, ap₂, ◌∙◌, cases_eq, Interval, ConnectionId, Leg, Query, NetworkModel, IsSafeFor, Tree, Done, Ride, Stuck, unfolding_of}
+use Rattle.run_laws.proofs.Common.{by_place, mean_scoring, from_span, Kept, IsByRules, kept_after, kept_leg}
 use Rattle.value_laws.specs.ScoreLaws.{Scoring}
 use Rattle.decision_graph.specs.GraphValues.{IsBest}
 use Rattle.run_laws.proofs.OneOrder.{one_order}
@@ -35,10 +35,7 @@ module _ {V : Type 0} (scoring : Scoring V) (n : NetworkModel) (q : Query) where
     pub at_once : q.source.0 ≡ q.target.0 → value ≡ scoring.arrived q.start.0
 
   pub only_one : (s t : Tree) (v w : V) → IsThe s v → IsThe t w → (s ≡ t) × (v ≡ w)
-  only_one s t v w a b = elim (cases_eq q.source.0 q.target.0) [
-    | inl same ↦ (at_once n q s same a.safe ∙ sym (at_once n q t same b.safe), a.at_once same ∙ sym (b.at_once same))
-    | inr differ ↦ one_by_rules s t v w (a.by_rules differ) (b.by_rules differ)
-  ]
+  only_one s t v w a b = grind (arith, cases_eq, at_once, one_by_rules)
 
 -- a best strategy that is by the rules
 abbrev pub IsTheMean : NetworkModel → Query → Tree → Interval → Type 0
@@ -49,6 +46,4 @@ pub the_best : (n : NetworkModel) (q : Query) (tree : Tree) (bounds : Interval) 
 the_best n q tree bounds best ruled = record { safe = best.safe; by_rules = ruled; at_once = λ same. ap from_span (best.at_once same) }
 
 pub one_best : (n : NetworkModel) (q : Query) (s t : Tree) (a b : Interval) → IsTheMean n q s a → IsTheMean n q t b → (s ≡ t) × (a ≡ b)
-one_best n q s t a b best other =
-    let both = only_one mean_scoring n q s t (from_span a) (from_span b) best other in
-    (both.0, ap span_of both.1)
+one_best n q s t a b best other = grind (arith, only_one)

@@ -1,8 +1,8 @@
 -- A tidy graph by place follows from its tree.
-use Rattle.run_laws.proofs.Common.{◌≡◌, ◌≢◌, ℕ, ◌<◌, ◌≤◌, List, [], ◌∷◌, length, Option, Some, None, MatchOption, All, AllPairs, Contains, arith, sym, subst, refl, inl, inr, ◌∙◌, ap, ap₂}
-use Rattle.run_laws.proofs.Common.{cases_eq, All-nil, All-contains, Leg, Query, NetworkModel, Tree, end_of, arrival_of, unfolding_of, by_place, GraphRow, PlanGraph, pick_row, pick_at}
-use Rattle.run_laws.proofs.Common.{rows_of_place, IsSafeForSome, unfold_plan, table_here, table_further, rows_of_place-by, one_found, first_pick, picked_there, Contains-nil, Contains-head}
-use Rattle.run_laws.proofs.Common.{Contains-tail, Contains-cons_cases, AllPairs-head, AllPairs-tail}
+use Rattle.run_laws.proofs.Common.{◌≡◌, ◌≢◌, ℕ, ◌<◌, ◌≤◌, List, [], ◌∷◌, length, Option, Some, None, MatchOption, All, AllPairs, Contains, arith, sym, subst, refl, inl, inr, ◌∙◌, ap, ap₂, cases_eq}
+use Rattle.run_laws.proofs.Common.{All-nil, All-contains, Leg, Query, NetworkModel, Tree, end_of, arrival_of, unfolding_of, by_place, GraphRow, PlanGraph, pick_row, pick_at, rows_of_place}
+use Rattle.run_laws.proofs.Common.{IsSafeForSome, unfold_plan, table_here, table_further, rows_of_place-by, one_found, first_pick, picked_there, Contains-nil, Contains-head, Contains-tail}
+use Rattle.run_laws.proofs.Common.{Contains-cons_cases, AllPairs-head, AllPairs-tail}
 use Rattle.plan_model.specs.Ways.{limit_of}
 use Rattle.plan_graph.specs.declared.PlaceTable.{PlaceTable}
 use Rattle.plan_graph.specs.Tidy.{IsFitRow, IsFitTable, IsFitStart, IsPickedIn, IsTidy}
@@ -20,9 +20,7 @@ one_row n p a b leg fit other = row_same a b (one_found (limit_of n p b.leg) a.b
 
 -- a row that fits is among rows that fit, where these pick its leg
 row_of_leg : (n : NetworkModel) (p x : ℕ) (rows : List GraphRow) (row : GraphRow) → All (IsFitRow n p) rows → IsFitRow n p row → pick_row rows x ≡ Some row.leg → Contains rows row
-row_of_leg n p x rows row fits fit is =
-    let (r, has, leg) = picked_there rows x row.leg is in
-    subst (λ (w : GraphRow). Contains rows w) (one_row n p r row leg (All-contains (IsFitRow n p) rows r fits has) fit) has
+row_of_leg n p x rows row fits fit is = grind (arith, picked_there, one_row, All-contains)
 
 abbrev table_of : ℕ → List GraphRow → PlaceTable
 table_of place rows = record { place = record { 0 = place }; rows = rows }

@@ -1,6 +1,6 @@
 -- The graphs and the bounds of a query follow from the network and the query.
-use Rattle.run_laws.proofs.Common.{◌≡◌, ◌≢◌, Option, Some, None, MatchOption, refl, Interval, Leg, Query, NetworkModel, by_place, ExpandedGraph, PlanGraph, pick_after, pick_at, unfold_expanded}
-use Rattle.run_laws.proofs.Common.{unfold_plan, IsPlanned, HasEveryRow, IsOneStrategy}
+use Rattle.run_laws.proofs.Common.{arith, ◌≡◌, ◌≢◌, Option, Some, None, MatchOption, refl, Interval, Leg, Query, NetworkModel, ExpandedGraph, PlanGraph, unfold_expanded, unfold_plan, IsPlanned}
+use Rattle.run_laws.proofs.Common.{HasEveryRow, IsOneStrategy}
 use Rattle.decision_graph.specs.Expanded.{IsExpanded}
 use Rattle.run_laws.proofs.Agree.{start_same}
 use Rattle.run_laws.proofs.OneStrategy.{IsTheMean, the_best, one_best}
@@ -15,17 +15,13 @@ module _ (n : NetworkModel) (q : Query) where
   of_expanded graph bounds is = the_best n q (unfold_expanded graph n q) bounds is.best is.by_rules
 
   pub one_planned : (a b : PlanGraph) (s t : Interval) → IsPlanned n q a s → IsPlanned n q b t → (a ≡ b) × (s ≡ t)
-  one_planned a b s t plan other =
-      let both = one_best n q (unfold_plan a n q) (unfold_plan b n q) s t (of_plan a s plan) (of_plan b t other) in
-      (one_tidy n q a b plan.tidy other.tidy (q.deadline.0, plan.best.safe) both.0, both.1)
+  one_planned a b s t plan other = grind (arith, one_best, of_plan, one_tidy)
 
   reported : (graph : ExpandedGraph) (bounds : Interval) → IsExpanded n q graph bounds → HasEveryRow n q graph
   reported graph bounds is = record { ready = is.ready; busy = is.busy; whole = is.whole; arrivals = is.arrivals }
 
   pub one_expanded : (a b : ExpandedGraph) (s t : Interval) → IsExpanded n q a s → IsExpanded n q b t → (a ≡ b) × (s ≡ t)
-  one_expanded a b s t plan other =
-      let both = one_best n q (unfold_expanded a n q) (unfold_expanded b n q) s t (of_expanded a s plan) (of_expanded b t other) in
-      (one_reported n q a b (reported a s plan) (reported b t other) both.0, both.1)
+  one_expanded a b s t plan other = grind (arith, one_best, of_expanded, one_reported, reported)
 
   by_start : {P Q : Leg → Type 0} {R : Type 0} (s t : Option Leg) → (q.source.0 ≢ q.target.0 → s ≡ t) → ((leg : Leg) → P leg → q.source.0 ≢ q.target.0) → ((leg : Leg) → Q leg → q.source.0 ≢ q.target.0)
       → (R → q.source.0 ≡ q.target.0) → MatchOption s (q.source.0 ≡ q.target.0) P → MatchOption t R Q → s ≡ t
@@ -35,12 +31,4 @@ module _ (n : NetworkModel) (q : Query) where
   by_start (Some s) (Some t) same p d r fit fits = same (p s fit)
 
   pub one_strategy : (a : ExpandedGraph) (b : PlanGraph) (s t : Interval) → IsExpanded n q a s → IsPlanned n q b t → IsOneStrategy n q a b s t
-  one_strategy a b s t expanded plan =
-      let both = one_best n q (unfold_expanded a n q) (unfold_plan b n q) s t (of_expanded a s expanded) (of_plan b t plan) in
-      record {
-        tree = both.0;
-        start = by_start a.start b.start
-            (λ differ. start_same n q.target.0 (pick_after a.rides) (by_place n (pick_at b.tables)) a.start b.start q.source.0 q.start.0 differ both.0)
-            (λ leg fit. fit.0) (λ leg fit. fit.differ) (λ none. none.0) expanded.ready.starts plan.tidy.fit.starts;
-        bounds = both.1;
-      }
+  one_strategy a b s t expanded plan = grind (arith, one_best, of_expanded, of_plan, by_start, start_same)

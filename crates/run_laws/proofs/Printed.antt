@@ -39,8 +39,7 @@ module _ (limits : Limits) (files : FileMap) (start : ℕ) (p : Problem) (path :
   accepted q bounds graph status read safe (inl (head, other, is, inr (late, unsafe))) =
       let pair = ok_is (head, other) (head_of q bounds, graph) read_file is read in
       absurd (unsafe (subst (λ (w : Head × PlanGraph). IsSafeFor p.timetable.network w.0.query (unfold_plan w.1 p.timetable.network w.0.query)) (sym pair) safe))
-  accepted q bounds graph status read safe (inr (fault, is, reported)) =
-      absurd (ok_no_err (head_of q bounds, graph) fault read_file is read)
+  accepted q bounds graph status read safe (inr (fault, is, reported)) = grind (arith, ok_no_err, read_file)
 
 pub printed_plan : (limits : Limits) (files : FileMap) (start alpha : ℕ) (p : Problem) (found : Findings) (text path : List ℕ) (status : ℕ)
     → InQuery p start alpha (AnswersPlan p found text) → file_at files path ≡ Some text → length text ≤ limits.bytes → EndsByScore limits files start path p status → status ≡ 0

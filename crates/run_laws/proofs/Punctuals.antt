@@ -1,10 +1,8 @@
 -- A problem, a start, a percentage and a promise have one answer.
-use Rattle.run_laws.proofs.Common.{◌≡◌, ℕ, List, ◌++◌, sym, ap, ap₂, ◌∙◌, Interval, Moment, Query, NetworkModel, PlanGraph, unfold_plan, plan_text, Problem, Findings, punctual_findings}
+use Rattle.run_laws.proofs.Common.{arith, ◌≡◌, ℕ, List, ◌++◌, sym, ap, ap₂, ◌∙◌, Interval, Moment, Query, NetworkModel, PlanGraph, unfold_plan, plan_text, Problem, Findings, punctual_findings}
 use Rattle.run_laws.proofs.Common.{punctual_row, InQuery, head_of, IsOneAnswer}
 use Rattle.graph_score.specs.Spans.{span_of}
 use Rattle.late_chance.specs.Chances.{chance_scoring}
-use Rattle.late_chance.specs.LaterGraphs.{later_graph}
-use Rattle.late_chance.specs.Punctual.{seen_for, asked_for, shift_for}
 use Rattle.decision_graph.specs.LeastChances.{IsLeastChance, IsSeenLater}
 use Rattle.journey_answers.specs.Punctual.{AnswersPunctual}
 use Rattle.run_laws.proofs.OneStrategy.{IsThe, only_one}
@@ -17,14 +15,10 @@ module _ (n : NetworkModel) (q : Query) where
   the graph chance is = record { safe = is.punctual.safe; by_rules = is.by_rules; at_once = is.at_once }
 
   one_chance : (a b : PlanGraph) (s t : Interval) → IsLeastChance n q a s → IsLeastChance n q b t → (a ≡ b) × (s ≡ t)
-  one_chance a b s t is other =
-      let both = only_one chance_scoring n q (unfold_plan a n q) (unfold_plan b n q) s t (the a s is) (the b t other) in
-      (one_tidy n q a b is.punctual.tidy other.punctual.tidy (q.deadline.0, is.punctual.safe) both.0, both.1)
+  one_chance a b s t is other = grind (arith, only_one, the, one_tidy)
 
 one_seen : (n : NetworkModel) (q : Query) (promise : ℕ) (a b : PlanGraph) (s t : Interval) → IsSeenLater n q promise a s → IsSeenLater n q promise b t → (a ≡ b) × (s ≡ t)
-one_seen n q promise a b s t is other =
-    let both = one_chance (seen_for n q promise) (asked_for q promise) is.seen other.seen s t is.least other.least in
-    (is.later ∙ ap (later_graph (shift_for promise)) both.0 ∙ sym other.later, both.1)
+one_seen n q promise a b s t is other = grind (arith, one_chance)
 
 module _ (p : Problem) (found others : Findings) (text other : List ℕ) (promise : ℕ) where
   one_reported : (q : Query) (w : Moment) → AnswersPunctual p promise found text q w → AnswersPunctual p promise others other q w → IsOneAnswer found others text other

@@ -38,9 +38,7 @@ one_way a b first second = grind arith
 
 no_rides : (rides : List Ride) (tree : Tree) (moment : ℕ) → tree ≡ Done moment → All (λ r. Stands r.leg tree) rides → rides ≡ []
 no_rides [] tree moment is all = refl
-no_rides (r ∷ rides) tree moment is all =
-    let here = All-head (λ (s : Ride). Stands s.leg tree) r rides all in
-    absurd (subst (λ (t : Tree). Stands r.leg t) is here)
+no_rides (r ∷ rides) tree moment is all = grind (arith, All-head)
 
 module _ (n : NetworkModel) (q : Query) where
   abbrev target : ℕ
@@ -75,8 +73,7 @@ module _ (n : NetworkModel) (q : Query) where
 
   -- rides of one leg have rows at the same moments
   same_moments : (r s : Ride) → HasArrivals n target r → HasArrivals n target s → s.leg ≡ r.leg → moments r.after ≡ moments s.after
-  same_moments r s arrivals others is =
-      arrivals ∙ sym (subst (λ (leg : Leg). HasArrivals n target (ride_with leg s.after)) is others)
+  same_moments r s arrivals others is = grind (arith, target, ride_with)
 
   module _ (a b : ExpandedGraph) (start : Leg) (starts : a.start ≡ Some start) (starts_other : b.start ≡ Some start) (reported : HasEveryRow n q a) (reported_other : HasEveryRow n q b)
       (differ : q.source.0 ≢ target) (same : unfold_expanded a n q ≡ unfold_expanded b n q) where

@@ -1,9 +1,9 @@
 -- Files with the same bytes have the same faults.
-use Rattle.run_laws.proofs.Common.{◌≡◌, ℕ, ap, sym, subst, ◌∙◌, List, Option, None, IsOk, inl, inr, FileMap, file_at, Limits, FeedFault, Table, path_of, unread_table, FeedParts, tables_in}
-use Rattle.run_laws.proofs.Common.{tables_from, IsFeedOf, calendars_in, calendars_from, calendar_from, dates_from, transfers_in, transfers_from, JourneyModel, Fault, unread_input, delay_fault}
-use Rattle.run_laws.proofs.Common.{GtfsFolder, IsFolderFault, IsLaterTableFault, IsFaultAfterFolder, IsFeedProblemFault, same_folder}
+use Rattle.run_laws.proofs.Common.{arith, ◌≡◌, ℕ, ap, sym, subst, ◌∙◌, List, Option, None, IsOk, inl, inr, FileMap, file_at, Limits, FeedFault, Table, path_of, unread_table, FeedParts, tables_in}
+use Rattle.run_laws.proofs.Common.{tables_from, IsFeedOf, calendars_in, transfers_in, transfers_from, JourneyModel, Fault, unread_input, delay_fault, GtfsFolder, IsFolderFault, IsLaterTableFault}
+use Rattle.run_laws.proofs.Common.{IsFaultAfterFolder, IsFeedProblemFault, same_folder}
 use mathlib.Core.Path.{fun_ext}
-use Rattle.csv_rows.specs.declared.feed_tables.Table.TheVariants.{Calendar, CalendarDates, Transfers}
+use Rattle.csv_rows.specs.declared.feed_tables.Table.TheVariants.{Transfers}
 use Rattle.table_files.specs.Loading.{load_of}
 
 module _ (limits : Limits) (files other : FileMap) (same : (path : List ℕ) → file_at files path ≡ file_at other path) where
@@ -13,8 +13,7 @@ module _ (limits : Limits) (files other : FileMap) (same : (path : List ℕ) →
 
   same_calendars : (folder : List ℕ) (unread : Option Table) → calendars_in files folder limits unread ≡ calendars_in other folder limits unread
   unfolding calendars_in
-  same_calendars folder unread = ap (λ (f : List ℕ → Option (List ℕ)).
-      calendars_from (calendar_from (load_of unread limits Calendar (f (path_of folder Calendar)))) (dates_from (load_of unread limits CalendarDates (f (path_of folder CalendarDates))))) (fun_ext same)
+  same_calendars folder unread = grind (arith, fun_ext)
 
   same_transfers : (folder : List ℕ) (unread : Option Table) (feed : FeedParts) → transfers_in files folder limits unread feed ≡ transfers_in other folder limits unread feed
   same_transfers folder unread feed = ap (λ (f : Option (List ℕ)). transfers_from feed (load_of unread limits Transfers f)) (same (path_of folder Transfers))

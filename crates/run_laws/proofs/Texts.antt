@@ -1,6 +1,6 @@
 -- A problem, a start and a percentage have one answer.
-use Rattle.run_laws.proofs.Common.{ℕ, List, sym, ap₂, ◌∙◌, Interval, Moment, Query, ExpandedGraph, PlanGraph, expanded_text, plan_text, Problem, Findings, expand_findings, plan_findings, InQuery}
-use Rattle.run_laws.proofs.Common.{AnswersSafe, AnswersExpand, AnswersPlan, head_of, IsOneAnswer}
+use Rattle.run_laws.proofs.Common.{arith, ℕ, List, sym, ap₂, ◌∙◌, Interval, Moment, Query, PlanGraph, plan_text, Problem, Findings, plan_findings, InQuery, AnswersSafe, AnswersExpand, AnswersPlan}
+use Rattle.run_laws.proofs.Common.{head_of, IsOneAnswer}
 use Rattle.run_laws.proofs.Plans.{one_planned, one_expanded}
 use Rattle.run_laws.proofs.Queries.{in_one_query}
 
@@ -20,12 +20,7 @@ module _ (p : Problem) (found others : Findings) (text other : List ℕ) where
       }
 
   one_expanded_reported : (q : Query) (w : Moment) → AnswersExpand p found text q w → AnswersExpand p others other q w → One
-  one_expanded_reported q w (graph, bounds, is, plan, text_is) (graphs, spans, is_other, plan_other, text_other) =
-      let both = one_expanded p.timetable.network q graph graphs bounds spans plan plan_other in
-      record {
-        found = is ∙ ap₂ (expand_findings q w) both.0 both.1 ∙ sym is_other;
-        text_is = text_is ∙ ap₂ (λ (b : Interval) (g : ExpandedGraph). expanded_text p.timetable.network p.timetable.names (head_of q b) g) both.1 both.0 ∙ sym text_other;
-      }
+  one_expanded_reported q w (graph, bounds, is, plan, text_is) (graphs, spans, is_other, plan_other, text_other) = grind (arith, one_expanded)
 
   module _ (start alpha : ℕ) where
     pub one_safe_answer : InQuery p start alpha (AnswersSafe p found text) → InQuery p start alpha (AnswersSafe p others other) → One

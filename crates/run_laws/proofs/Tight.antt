@@ -1,6 +1,6 @@
 -- A network and a query have one tight certificate.
-use Rattle.run_laws.proofs.Common.{◌≡◌, ℕ, zero, suc, ◌+◌, ◌<◌, ◌≤◌, List, [], ◌∷◌, Option, Some, None, IsTrue, arith, sym, ◌∙◌, inl, inr, ext_get_or, cases_Bool, both_ways, Outcome, Query}
-use Rattle.run_laws.proofs.Common.{NetworkModel, IsValid, count, connection, to_of, dep_of, arr_of, outcomes, IsLeg, IsBoardable, bound_of, Offers, IsLeastAt, AreLeast, IsVia, IsTight}
+use Rattle.run_laws.proofs.Common.{◌≡◌, ℕ, zero, suc, ◌+◌, ◌<◌, ◌≤◌, List, [], ◌∷◌, Option, Some, None, IsTrue, arith, sym, ◌∙◌, ext_get_or, cases_Bool, both_ways, Outcome, Query, NetworkModel}
+use Rattle.run_laws.proofs.Common.{IsValid, count, connection, dep_of, IsLeg, IsBoardable, bound_of, Offers, IsLeastAt, AreLeast, IsVia, IsTight}
 use Rattle.plan_model.proofs.Boarding.{boards_later}
 use Rattle.plan_model.proofs.Bounds.{forward}
 use Rattle.lower_proof.proofs.Departures.{after, after_less, after_boards, after_le}
@@ -37,9 +37,7 @@ module _ (n : NetworkModel) (valid : IsValid n) (q : Query) where
     are_least p arrival few _ _ all = absurd all
 
     via : (c : ℕ) → after n (dep_of n c) ≤ m → (v : ℕ) → ((j : ℕ) × IsLeg n c j × IsVia n q values j v) → (j : ℕ) × IsLeg n c j × IsVia n q others j v
-    via c few v (j, leg, is) =
-        let later = after_less n (dep_of n c) (arr_of n j) (forward n valid c j leg) in
-        (j, leg, record { leave = is.leave; least = is.least; are_least = are_least (to_of n j) (arr_of n j) (omega (arith, later, few)) (outcomes n j) is.least is.are_least; mean = is.mean })
+    via c few v (j, leg, is) = grind (arith, after_less, forward, are_least)
 
   module _ (values others : List (Option ℕ)) (tight : IsTight n q values) (tights : IsTight n q others) where
     same_boarded : (m : ℕ) → Agree values others m → (c : ℕ) → c < count n → after n (dep_of n c) ≤ m → IsTrue (connection n c).can_board → bound_of values c ≡ bound_of others c
@@ -52,12 +50,7 @@ module _ (n : NetworkModel) (valid : IsValid n) (q : Query) where
 
     agree_by : (m : ℕ) → Agree values others m
     agree_by zero c there few = absurd (omega (arith, few))
-    agree_by (suc m) c there few = elim (cases_Bool (connection n c).can_board) [
-      | inl board ↦ same_boarded m (agree_by m) c there (omega (arith, few)) board
-      | inr closed ↦
-          let never : IsTrue (connection n c).can_board → ⊥ = λ board. both_ways (connection n c).can_board closed board in
-          tight.others c there never ∙ sym (tights.others c there never)
-    ]
+    agree_by (suc m) c there few = grind (arith, cases_Bool, same_boarded, both_ways, agree_by m)
 
     pub one_tight : values ≡ others
     one_tight = ext_get_or None values others (tight.as_many ∙ sym tights.as_many) (λ c within.
