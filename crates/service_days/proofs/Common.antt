@@ -21,6 +21,7 @@ pub use Rattle.csv_rows.specs.declared.feed_tables.Table.TheVariants.{Calendar}
 pub use Rattle.file_ports.specs.Ports.{FileMap}
 pub use Rattle.plan_model.proofs.Results.{require-ok, result_err-require}
 pub use Rattle.plan_model.specs.NameLists.{Adds, IsTrimmed}
+pub use Rattle.table_files.specs.Loading.{load_in, loaded_rows}
 pub use Rattle.service_days.specs.Calendars.{AreDates, AreDistinctRows, AreOfDates, Calendars, IsCalendar, IsOfCalendar, RunsBy, RunsBySome, both_of, calendar_from, calendars_from, dates_from}
 pub use Rattle.service_days.specs.Calendars.{fault_of_calendar, fault_of_dates, has_no_record, is_active_service}
 unfoldable pub use Rattle.service_days.specs.Calendars.{calendars_in}
@@ -33,4 +34,3 @@ pub use Rattle.service_days.specs.Periods.{bad_period, period_columns, period_in
 unfoldable pub use Rattle.service_days.specs.Periods.{period_at}
 pub use Rattle.service_days.specs.Services.{ServiceParts, period_runs, runs, runs_at, runs_of_service, runs_within}
 pub use Rattle.service_days.specs.declared.exceptions.Exception.{Exception}
-pub use Rattle.table_files.specs.Loading.{load_in, loaded_rows}

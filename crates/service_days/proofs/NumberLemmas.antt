@@ -27,21 +27,13 @@ trimmed-adds old new x false a h trimmed = subst (All IsTrimmed) (sym a.0) h
 or_swap : (a b : Bool) → (a || b) ≡ (b || a)
 or_swap a b = grind (arith, cases_Bool a, cases_Bool b)
 
-bytes_self : (x y : List ℕ) (ids : List (List ℕ)) (m : ℕ) → number_in x ids ≡ Some m → number_in y ids ≡ None → bytes_eq x y ≡ false
-bytes_self x y ids m h g =
-    false_from_ne_true (bytes_eq x y) (λ t.
-    let e : x ≡ y = (bytes_eq-Decides x y).0 t in none-some m (sym (sym h ∙ ap (λ z. number_in z ids) e ∙ g)))
-
 -- the exceptions of a service after one more
 excepts : (ids : List (List ℕ)) (before after : List Exception) (x : List ℕ) (m : ℕ) (d : ℤ) (a : Bool) → number_in x ids ≡ Some m
     → ((e : Exception) → has after e ≡ (same (record { service = m; day = d; adds = a }) e || has before e))
     → (name : List ℕ) (day : ℤ) (adds : Bool) (o : Option ℕ) → number_in name ids ≡ o
     → has_at after day adds o ≡ ((bytes_eq x name && (int_eq d day && beq a adds)) || has_at before day adds o)
-excepts ids before after x m d a here h name day adds None g =
-    sym (ap (λ b. (b && (int_eq d day && beq a adds)) || false) (bytes_self x name ids m here g))
-excepts ids before after x m d a here h name day adds (Some k) g =
-    h (record { service = k; day = day; adds = adds })
-    ∙ ap (λ b. (b && (int_eq d day && beq a adds)) || has before (record { service = k; day = day; adds = adds })) (number-same x name ids m k here g)
+excepts ids before after x m d a here h name day adds None g = grind (arith, int_eq, beq, false_from_ne_true, bytes_eq-Decides, none-some)
+excepts ids before after x m d a here h name day adds (Some k) g = grind (arith, int_eq, beq, number-same)
 
 -- one more row
 pub numbered_next : (t : List (List (List ℕ))) (i : ℕ) (first old ids : List (List ℕ)) (before after : List Exception)
@@ -69,10 +61,4 @@ numbered_next t i first old ids before after n room a =
 
 pub numbered_none : (t : List (List (List ℕ))) (ids : List (List ℕ)) (exceptions : List Exception) → exceptions ≡ [] → AreNumbered t 0 ids ids exceptions
 unfolding any_below
-numbered_none t ids exceptions e =
-    subst (λ (xs : List Exception). AreNumbered t 0 ids ids xs) (sym e)
-    (record { is = λ name day adds. none_at (number_in name ids) day adds; fresh = λ e l. refl; kept = λ name asks h g. refl })
-  where
-    none_at : (o : Option ℕ) (day : ℤ) (adds : Bool) → has_at [] day adds o ≡ false
-    none_at None day adds = refl
-    none_at (Some k) day adds = refl
+numbered_none t ids exceptions e = grind (arith, ℤ)

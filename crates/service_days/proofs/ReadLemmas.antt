@@ -1,5 +1,5 @@
 -- The calendars of a folder, by what was read of each table.
-use Rattle.service_days.proofs.Common.{◌≡◌, ◌≢◌, ℕ, ◌&&◌, Bool, true, false, List, Option, Some, None, Ok, Err, IfSome, IsOkAnd, if◌then◌else◌, refl, sym, ap, ap₂, ◌∙◌, subst, Result, FileMap}
+use Rattle.service_days.proofs.Common.{arith, ◌≡◌, ◌≢◌, ℕ, ◌&&◌, Bool, true, false, List, Option, Some, None, Ok, Err, IfSome, IsOkAnd, if◌then◌else◌, sym, ap, ap₂, ◌∙◌, subst, Result, FileMap}
 use Rattle.service_days.proofs.Common.{unread_table, IsFaultOf, load_in, loaded_rows, Exception, row_count, AreNumbered, ServiceParts, runs, service_ids, periods_of, Calendars, RunsBy, RunsBySome}
 use Rattle.service_days.proofs.Common.{both_of, has_no_record, fault_of_calendar, fault_of_dates, calendar_from, dates_from, calendars_from, calendars_in, AreDistinctRows, IsCalendar, AreDates}
 use Rattle.service_days.proofs.Common.{IsOfCalendar, AreOfDates}
@@ -24,8 +24,7 @@ module _ (missing missing' : Bool) (ids ids' : List (List ℕ)) (periods : List 
   -- none of them has a record
   none_from : (c d : Result Loaded FeedFault) → IsCalendar c missing ids periods → AreDates d ids missing' ids' exceptions → (missing && missing') ≡ true
       → calendars_from c d ≡ Err (fault.MissingTable table.Calendar)
-  none_from (Ok c) (Ok d) h k e =
-      ap (λ b. if b then Err (fault.MissingTable table.Calendar) else Ok (record { calendar = loaded_rows c; dates = loaded_rows d })) (sym (ap₂ (λ a b. a && b) h.0 k.0) ∙ e)
+  none_from (Ok c) (Ok d) h k e = grind arith
   none_from (Ok c) (Err f) h k e = absurd k
   none_from (Err f) d h k e = absurd h
 
@@ -49,8 +48,7 @@ pub calendar_first : (files : Option FileMap) (folder : List ℕ) (limits : Limi
     → IfSome files (λ m. f ≢ fault.NoMemory → calendars_in m folder limits (unread_table f) ≡ Err f)
 unfolding calendars_in
 calendar_first None folder limits f h = tt
-calendar_first (Some m) folder limits f h = λ free.
-    ap (λ r. calendars_from r (dates_from (load_in m folder limits (unread_table f) table.CalendarDates))) (h free)
+calendar_first (Some m) folder limits f h = grind arith
 
 -- and then that of the exceptions
 pub dates_first : (files : Option FileMap) (folder : List ℕ) (limits : Limits) (f : FeedFault) (missing : Bool) (ids : List (List ℕ)) (periods : List Period)
@@ -60,10 +58,7 @@ pub dates_first : (files : Option FileMap) (folder : List ℕ) (limits : Limits)
     → IfSome files (λ m. f ≢ fault.NoMemory → calendars_in m folder limits (unread_table f) ≡ Err f)
 unfolding calendars_in
 dates_first None folder limits f missing ids periods c own h = tt
-dates_first (Some m) folder limits f missing ids periods c own h = λ free.
-    let load = load_in m folder limits (unread_table f) in
-    dates_stop (calendar_from (load table.Calendar)) (dates_from (load table.CalendarDates)) missing ids periods f
-    (subst (λ r. IsCalendar (calendar_from r) missing ids periods) (sym (load_in-other m folder limits f table.CalendarDates table.Calendar own refl)) c) (h free)
+dates_first (Some m) folder limits f missing ids periods c own h = grind (arith, dates_stop, load_in-other)
 
 -- none of them is there
 pub none_there : (files : Option FileMap) (folder : List ℕ) (limits : Limits) (missing missing' : Bool) (ids ids' : List (List ℕ)) (periods : List Period) (exceptions : List Exception)
@@ -73,8 +68,7 @@ pub none_there : (files : Option FileMap) (folder : List ℕ) (limits : Limits) 
     → IfSome files (λ m. fault.MissingTable table.Calendar ≢ fault.NoMemory → calendars_in m folder limits None ≡ Err (fault.MissingTable table.Calendar))
 unfolding calendars_in
 none_there None folder limits missing missing' ids ids' periods exceptions h k e = tt
-none_there (Some m) folder limits missing missing' ids ids' periods exceptions h k e = λ free.
-    none_from missing missing' ids ids' periods exceptions (calendar_from (load_in m folder limits None table.Calendar)) (dates_from (load_in m folder limits None table.CalendarDates)) h k e
+none_there (Some m) folder limits missing missing' ids ids' periods exceptions h k e = grind (arith, none_from)
 
 -- services run as the tables say
 pub services_here : (files : Option FileMap) (folder : List ℕ) (limits : Limits) (missing missing' : Bool) (ids ids' : List (List ℕ)) (periods : List Period) (exceptions : List Exception)
@@ -85,9 +79,7 @@ pub services_here : (files : Option FileMap) (folder : List ℕ) (limits : Limit
     → IfSome files (λ m. IsOkAnd (calendars_in m folder limits None) (RunsBy (runs s)))
 unfolding calendars_in
 services_here None folder limits missing missing' ids ids' periods exceptions s same h k e = tt
-services_here (Some m) folder limits missing missing' ids ids' periods exceptions s same h k e =
-    services_from missing missing' ids ids' periods exceptions (calendar_from (load_in m folder limits None table.Calendar)) (dates_from (load_in m folder limits None table.CalendarDates))
-    s same h k e
+services_here (Some m) folder limits missing missing' ids ids' periods exceptions s same h k e = grind (arith, services_from)
 
 -- what was read of a table with no fault is of some table
 pub of_calendar : (l : Loaded) (missing : Bool) (ids : List (List ℕ)) (periods : List Period) → fault_of_calendar l ≡ None → missing ≡ has_no_record l
