@@ -45,8 +45,7 @@ module _ (rows : List TimedRow) (keys : List Key) (s : AreKeysOf true rows keys)
 -- a row that is not kept goes back nowhere
 pub quiet : (rows : List TimedRow) (i : ℕ) → is_taken true rows i ≡ false → backward_time rows i ≡ None
 unfolding backward_time reported kept_back
-quiet rows i out =
-    ap (λ b. reported (kept_back b (nat_lt (departure_of rows i) (stop_arrival rows i)) (any_below (λ j. just_before rows j i && nat_lt (stop_arrival rows i) (departure_of rows j)) (length rows))) i) out
+quiet rows i out = grind (arith, reported, kept_back)
 
 reported_is : (b : Bool) (i : ℕ) (f : FeedFault) → reported b i ≡ Some f → f ≡ BackwardTime (i + 2)
 unfolding reported

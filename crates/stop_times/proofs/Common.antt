@@ -1,8 +1,8 @@
 -- The names that most proofs of this crate cite, passed on from one place. Declares nothing.
-pub use Rattle.std.proofs.Common.{All, AllPairs, Bool, Bor, Contains, Err, IfErr, IfOk, IfSome, IsUtf8, List, None, Ok, OnOk, Option, Result, Some, [], ap, ap₂, arith, cond, drop, eq-eqb}
-pub use Rattle.std.proofs.Common.{eqb-true, false, filter, get_or, get_or-drop, get_or-take, if◌then◌else◌, inl, inr, is_some, length, length-drop, length-take-le, ltb-false, ltb-true, map}
-pub use Rattle.std.proofs.Common.{nat_eq, nat_le, nat_lt, option_map, refl, rules, slice_get, slice_index, slice_index_or, slice_range, subst, suc, sym, take, true, zero, ℕ, ⊎_elim, ◌&&◌, ◌++◌}
-pub use Rattle.std.proofs.Common.{◌+◌, ◌-◌, ◌<◌, ◌==◌, ◌||◌, ◌∙◌, ◌∷◌, ◌≡◌, ◌≢◌, ◌≤◌}
+pub use Rattle.std.proofs.Common.{All, AllPairs, Bool, Bor, Contains, Err, IfErr, IfOk, IfSome, IsUtf8, List, None, Ok, OnOk, Option, Result, Some, [], ap, ap₂, arith, cond, drop, eq-eqb, eqb-true}
+pub use Rattle.std.proofs.Common.{false, filter, get_or, get_or-drop, get_or-take, if◌then◌else◌, inl, inr, is_some, length, length-drop, length-take-le, ltb-false, ltb-true, map, nat_eq, nat_le}
+pub use Rattle.std.proofs.Common.{nat_lt, option_map, refl, rules, slice_get, slice_index, slice_index_or, slice_range, subst, suc, sym, take, true, zero, ℕ, ⊎_elim, ◌&&◌, ◌++◌, ◌+◌, ◌-◌, ◌<◌, ◌==◌}
+pub use Rattle.std.proofs.Common.{◌||◌, ◌∙◌, ◌∷◌, ◌≡◌, ◌≢◌, ◌≤◌}
 pub use Rattle.std.proofs.lemmas.Bool.{and_from, and_parts, cases_Bool, cases_lt, not_from_false, or_parts}
 pub use Rattle.std.proofs.lemmas.Bool.Decides.{nat_tests}
 pub use Rattle.std.proofs.lemmas.Grind.{common_steps}
@@ -31,15 +31,15 @@ pub use Rattle.csv_rows.specs.declared.feed_tables.FeedFault.TheVariants.{Backwa
 pub use Rattle.csv_rows.specs.declared.feed_tables.Table.TheVariants.{StopTimes}
 pub use Rattle.csv_rows.specs.declared.keys.Key.{Key}
 pub use Rattle.plan_model.specs.Results.{and_then, unless, value_or}
+pub use Rattle.table_files.specs.Loading.{loaded_from}
 pub use Rattle.stop_times.specs.Bounded.{IsBounded, parted, rows_between}
 pub use Rattle.stop_times.specs.RecordsRemaining.{IsReading, records_after, source}
 pub use Rattle.stop_times.specs.StopTimeBounds.{end_of_times, most_stop_times}
 pub use Rattle.stop_times.specs.StopTimeKeys.{AreKeysOf, AreRowsRising, IsRowBefore, backward_after, goes_back_after, is_taken}
-pub use Rattle.stop_times.specs.StopTimes.{IsKnownIn, IsStopOf, bad_time, counted_fault, departure_of, goes_back, is_kept, just_before, missing_time_column, no_row, order_fault, row_at}
-pub use Rattle.stop_times.specs.StopTimes.{sequence_of, stop_arrival, stop_number_in, time_columns, timed_from, timed_in, timed_of, timed_rows, times_in, times_of, trip_of, visit_of}
+pub use Rattle.stop_times.specs.StopTimes.{IsKnownIn, IsStopOf, bad_time, counted_fault, departure_of, goes_back, is_kept, just_before, missing_time_column, no_row, order_fault, row_at, sequence_of}
+pub use Rattle.stop_times.specs.StopTimes.{stop_arrival, stop_number_in, time_columns, timed_from, timed_in, timed_of, timed_rows, times_in, times_of, trip_of, visit_of}
 unfoldable pub use Rattle.stop_times.specs.StopTimes.{backward_time, repeated_time, stop_times_fault, timed_at}
 pub use Rattle.stop_times.specs.Timetables.{AreVisits, stop_times_from}
 pub use Rattle.stop_times.specs.Visits.{AreStopTimes, IsSpanOf, IsVisit, no_visit, visit_at, visit_or_none}
 pub use Rattle.stop_times.specs.declared.rows.StopRow.{StopRow}
 pub use Rattle.stop_times.specs.declared.rows.TimedRow.{TimedRow}
-pub use Rattle.table_files.specs.Loading.{loaded_from}

@@ -1,7 +1,6 @@
 -- What holds of the kept rows of a trip, where the table has no fault.
-use Rattle.stop_times.proofs.Common.{◌≡◌, ℕ, ◌+◌, ◌-◌, ◌<◌, ◌≤◌, List, length, slice_index_or, Option, Some, None, IfSome, refl, subst, arith, ⊎_elim, common_steps, cases_lt, first_below}
-use Rattle.stop_times.proofs.Common.{row_count, none-each, none-both, get-list_below, StopRow, timed_rows, row_at, time_columns, missing_time_column, bad_time, repeated_time, backward_time}
-use Rattle.stop_times.proofs.Common.{order_fault, stop_times_fault, no_visit, AreStopTimes}
+use Rattle.stop_times.proofs.Common.{◌≡◌, ℕ, ◌+◌, ◌-◌, ◌<◌, ◌≤◌, List, length, slice_index_or, Option, Some, None, IfSome, subst, arith, ⊎_elim, common_steps, cases_lt, first_below, row_count}
+use Rattle.stop_times.proofs.Common.{none-each, none-both, get-list_below, StopRow, timed_rows, row_at, bad_time, backward_time, stop_times_fault, no_visit, AreStopTimes}
 use Rattle.plan_model.specs.Bounds.{end_of_steps}
 use Rattle.stop_times.proofs.TimeLemmas.{timed_count}
 use Rattle.stop_times.proofs.RowForms.{IsAtStop, InForm, row_in_form}
@@ -14,12 +13,7 @@ record HasNone (trips stops : List (List ℕ)) (places : List ℕ) (t : List (Li
 
 has_none : (trips stops : List (List ℕ)) (places : List ℕ) (t : List (List (List ℕ))) → stop_times_fault trips stops places t ≡ None → HasNone trips stops places t
 unfolding stop_times_fault
-has_none trips stops places t h =
-    let rows = timed_rows trips stops places t in
-    let a = none-both (missing_time_column (time_columns t)) _ h in
-    let b = none-both (first_below (bad_time trips stops places t) (row_count t)) (order_fault rows) a.1 in
-    let c = none-both (first_below (repeated_time rows) (length rows)) (first_below (backward_time rows) (length rows)) b.1 in
-    record { fields = b.0; backward = c.1 }
+has_none trips stops places t h = grind (arith, none-both)
 
 in_form : (trips stops : List (List ℕ)) (places : List ℕ) (t : List (List (List ℕ))) → HasNone trips stops places t → (i : ℕ) → i < length (timed_rows trips stops places t)
     → InForm (length stops) places (row_at (timed_rows trips stops places t) i)
@@ -48,12 +42,7 @@ module _ (trips stops : List (List ℕ)) (places : List ℕ) (t : List (List (Li
       (λ (no : n ≤ 0). omega arith) (cases_lt 0 n)
 
   in_order : AreInOrder (length stops) places visits
-  in_order = record {
-    few = few_by (length visits) refl;
-    visit = λ k h. at_stop (length stops) places _ _ (times.visit k h).kept (form k h).visit;
-    forward = forward (timed_rows trips stops places t) none.backward trip visits times;
-    onward = onward (timed_rows trips stops places t) none.backward trip visits times;
-  }
+  in_order = grind (arith, few_by, at_stop, form, forward, onward)
 
 pub kept_in_order : (trips stops : List (List ℕ)) (places : List ℕ) (t : List (List (List ℕ))) → stop_times_fault trips stops places t ≡ None
     → (trip : ℕ) (visits : List StopRow) → AreStopTimes (timed_rows trips stops places t) trip visits → AreInOrder (length stops) places visits

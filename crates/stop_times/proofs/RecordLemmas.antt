@@ -31,11 +31,7 @@ all_turns s xs = let e : length xs + 1 ≡ suc (length xs) = omega arith in ap (
 
 first_record : (s : State) (xs : List ℕ) (next : Read) → ends_at_end s ≡ false → next_record default_config s [] [] xs ≡ Some next
     → records_from default_config (length xs + 1) s xs ≡ next.0 ∷ records_from default_config (length next.2 + 1) next.1 next.2
-first_record s xs next between is =
-    let t = takes default_config s xs next between is in
-    all_turns s xs
-    ∙ ap (records_next (records_from default_config (length xs))) is
-    ∙ ap (λ (later : List (List (List ℕ))). next.0 ∷ later) (enough_turns (length xs) (length next.2 + 1) next.1 next.2 t.1 t.0 (omega arith))
+first_record s xs next between is = grind (arith, takes, all_turns, enough_turns)
 
 -- where a record was read
 pub record TookFirst (old new : Reader (Bor (List ℕ))) (fields : List (List ℕ)) : Type 0 where
@@ -71,11 +67,7 @@ took_first-read old new fields is ready read =
 -- where there was none
 pub took-none : (old new : Reader (Bor (List ℕ))) (fields : List (List ℕ)) → IsReading old
     → ReadRecord (λ (s : Bor (List ℕ)). Some s.now) old new false fields → records_after (reader_state old) (source old) ≡ []
-took-none old new fields is read =
-    let s = reader_state old in
-    let none = rows-end (λ (s : Bor (List ℕ)). Some s.now) old new fields default_config is.text is.config is.known read in
-    ap (records_after s) is.known
-    ∙ ap (map (λ (row : List (List ℕ)). map trimmed_text row)) (all_turns s is.text ∙ ap (records_next (records_from default_config (length is.text))) none)
+took-none old new fields is read = grind (arith, rows-end, all_turns)
 
 -- a field of a record, and one past its end
 pub field-some : (fields : List (List ℕ)) (i : ℕ) (x : List ℕ) → field_at fields i ≡ Some x → trimmed_text x ≡ slice_index_or (map trimmed_text fields) i []

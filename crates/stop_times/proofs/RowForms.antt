@@ -1,8 +1,8 @@
 -- What follows from the form of a row of stop times.
-use Rattle.stop_times.proofs.Common.{rules, ◌≡◌, ℕ, ◌+◌, ◌<◌, ◌≤◌, ◌-◌, ◌==◌, nat_eq, nat_le, ◌&&◌, Bool, List, [], length, take, drop, slice_index, slice_index_or, Option, Some, None, IfSome}
-use Rattle.stop_times.proofs.Common.{refl, subst, arith, Result, Ok, Err, common_steps, nat_tests, and_parts, result_err, value_or, TripId, StopId, StopSequence, ArrivalTime, DepartureTime}
-use Rattle.stop_times.proofs.Common.{PickupType, DropOffType, StopTimes, FeedFault, BadField, UnknownKey, number_in, StopRow, TimedRow, time_columns, stop_number_in, times_of, visit_of}
-use Rattle.stop_times.proofs.Common.{timed_from, timed_at, no_row, optional-each, number_inside, end_of_times}
+use Rattle.stop_times.proofs.Common.{rules, ◌≡◌, ℕ, ◌+◌, ◌<◌, ◌≤◌, ◌-◌, ◌==◌, nat_eq, nat_le, ◌&&◌, Bool, List, [], length, take, drop, slice_index, slice_index_or, Option, Some, None, IfSome, refl}
+use Rattle.stop_times.proofs.Common.{subst, arith, Result, Ok, Err, common_steps, nat_tests, and_parts, result_err, value_or, TripId, StopId, StopSequence, ArrivalTime, DepartureTime, PickupType}
+use Rattle.stop_times.proofs.Common.{DropOffType, StopTimes, FeedFault, BadField, UnknownKey, number_in, StopRow, TimedRow, time_columns, stop_number_in, times_of, visit_of, timed_from, timed_at}
+use Rattle.stop_times.proofs.Common.{no_row, optional-each, number_inside, end_of_times}
 use Rattle.std.specs.List.{list_all}
 use Rattle.std.specs.Char.{is_ascii_digit}
 use Rattle.clock_text.specs.Digits.{whole_of}

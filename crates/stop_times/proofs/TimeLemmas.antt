@@ -1,8 +1,8 @@
 -- The rows of stop times.
-use Rattle.stop_times.proofs.Common.{rules, ◌≡◌, ◌≢◌, ℕ, ◌+◌, ◌<◌, ◌≤◌, nat_lt, Bool, true, false, List, [], length, slice_index_or, Option, Some, None, if◌then◌else◌, refl, sym, ap, ◌∙◌, subst}
-use Rattle.stop_times.proofs.Common.{arith, Result, Ok, Err, common_steps, cases_Bool, nat_tests, and_then, unless, value_or, TripId, FeedFault, TooManyRows, NoMemory, StopTimes, loaded_from}
-use Rattle.stop_times.proofs.Common.{row_count, TimedRow, first_below, StopRow, stop_times_from, AreVisits, AreStopTimes, time_columns, timed_of, timed_in, timed_at, bad_time, timed_rows, no_row}
-use Rattle.stop_times.proofs.Common.{counted_fault, missing_time_column, order_fault, stop_times_fault, length-list_below, or_first, or_then}
+use Rattle.stop_times.proofs.Common.{rules, ◌≡◌, ◌≢◌, ℕ, ◌+◌, ◌<◌, ◌≤◌, nat_lt, Bool, false, List, [], length, slice_index_or, Option, Some, None, if◌then◌else◌, refl, sym, ap, ◌∙◌, arith, Result}
+use Rattle.stop_times.proofs.Common.{Ok, Err, common_steps, cases_Bool, nat_tests, and_then, unless, value_or, TripId, FeedFault, TooManyRows, NoMemory, StopTimes, loaded_from, row_count, TimedRow}
+use Rattle.stop_times.proofs.Common.{first_below, StopRow, stop_times_from, AreVisits, AreStopTimes, time_columns, timed_of, timed_in, timed_at, bad_time, timed_rows, no_row, counted_fault}
+use Rattle.stop_times.proofs.Common.{missing_time_column, order_fault, stop_times_fault, length-list_below, or_first, or_then}
 use Rattle.table_files.specs.declared.loading.Loaded.TheVariants.{NoRecord, Found}
 use Rattle.stop_times.specs.declared.rows.TimeColumns.{TimeColumns}
 use Rattle.table_files.specs.Required.{Records, required}
@@ -16,8 +16,7 @@ timed_is trips stops places t c i r e h = ap (λ k. timed_in trips stops places 
 -- and by its record
 pub row_is : (trips stops : List (List ℕ)) (places : List ℕ) (t : List (List (List ℕ))) (c : TimeColumns) (i : ℕ) (fields : List (List ℕ)) (r : Result TimedRow FeedFault)
     → c ≡ time_columns t → slice_index_or t (i + 1) [] ≡ fields → timed_of trips stops places (i + 2) c fields ≡ r → timed_at trips stops places t i ≡ r
-row_is trips stops places t c i fields r e same h =
-    timed_is trips stops places t c i r e (ap (λ (row : List (List ℕ)). timed_of trips stops places (i + 2) c row) same ∙ h)
+row_is trips stops places t c i fields r e same h = grind (arith, timed_is)
 
 pub timed_count : (trips stops : List (List ℕ)) (places : List ℕ) (t : List (List (List ℕ))) → length (timed_rows trips stops places t) ≡ row_count t
 timed_count trips stops places t = length-list_below (λ i. value_or no_row (timed_at trips stops places t i)) (row_count t)
@@ -37,11 +36,7 @@ counted_many most n a b h = grind (arith, common_steps, nat_tests)
 
 -- a fault that comes before others
 pub counted_same : (most n : ℕ) (a b : Option FeedFault) (f : FeedFault) → ((x : FeedFault) → a ≡ Some x → b ≡ Some x) → counted_fault most n a ≡ Some f → counted_fault most n b ≡ Some f
-counted_same most n a b f k h = by (nat_lt most n) h
-  where
-    by : (t : Bool) → (if t then Some (TooManyRows StopTimes n) else a) ≡ Some f → (if t then Some (TooManyRows StopTimes n) else b) ≡ Some f
-    by true e = e
-    by false e = k f e
+counted_same most n a b f k h = grind arith
 
 -- what is read of a text with these records
 fault_by : (a b : Bool) (n : ℕ) (t : Records) (check : Records → Option FeedFault) (f : FeedFault) → a ≡ false
@@ -92,8 +87,7 @@ pub record AreTimedRows (trips stops : List (List ℕ)) (places : List ℕ) (mos
 pub timed_rows_are : (trips stops : List (List ℕ)) (places : List ℕ) (most : ℕ) (t : List (List (List ℕ))) (timed rows : List TimedRow) → rows ≡ timed
     → timed ≡ timed_rows trips stops places t → 0 < length t → length timed ≤ most
     → stop_times_fault trips stops places t ≡ order_fault (timed_rows trips stops places t) → AreTimedRows trips stops places most t rows
-timed_rows_are trips stops places most t timed rows same are some few rest =
-    record { rows_are = same ∙ are; some = some; few = omega (arith, ap length same); rest = rest }
+timed_rows_are trips stops places most t timed rows same are some few rest = grind arith
 
 few_rows : (trips stops : List (List ℕ)) (places : List ℕ) (most : ℕ) (t : List (List (List ℕ))) (rows : List TimedRow) → AreTimedRows trips stops places most t rows → row_count t ≤ most
 few_rows trips stops places most t rows r = omega (arith, r.few, ap length r.rows_are, timed_count trips stops places t)
@@ -111,8 +105,7 @@ order_sound trips stops places most t rows r h = r.rest ∙ ap order_fault (sym 
 pub visits_of_rows : (trips stops : List (List ℕ)) (places : List ℕ) (most : ℕ) (t : List (List (List ℕ))) (rows : List TimedRow) (visits : List (List StopRow))
     → AreTimedRows trips stops places most t rows → length visits ≡ length trips
     → ((trip : ℕ) → trip < length trips → AreStopTimes rows trip (slice_index_or visits trip [])) → AreVisits trips stops places (Ok t) visits
-visits_of_rows trips stops places most t rows visits r size each =
-    (size, λ trip h. subst (λ (xs : List TimedRow). AreStopTimes xs trip (slice_index_or visits trip [])) r.rows_are (each trip h))
+visits_of_rows trips stops places most t rows visits r size each = grind arith
 
 pub visits_of_text : (trips stops : List (List ℕ)) (places : List ℕ) (most : ℕ) (t : List (List (List ℕ))) (rows : List TimedRow) (visits : List (List StopRow))
     → AreTimedRows trips stops places most t rows → order_fault rows ≡ None → AreVisits trips stops places (Ok t) visits

@@ -1,8 +1,8 @@
 -- The kept rows of a trip, by the keys that are of it.
 use Rattle.stop_times.proofs.Common.{rules, ◌≡◌, ℕ, ◌+◌, ◌-◌, ◌<◌, ◌≤◌, true, List, [], ◌∷◌, ◌++◌, length, drop, slice_range, slice_index, slice_index_or, Option, Some, None, refl, sym, ap, ◌∙◌}
 use Rattle.stop_times.proofs.Common.{subst, arith, ⊎_elim, is_some, get_or-take, get_or-drop, length-take-le, length-drop, common_steps, cases_lt, get_or_append_left, get_or_push, first_below}
-use Rattle.stop_times.proofs.Common.{StopRow, TimedRow, Key, key_at, IsRising, list_below, row_at, trip_of, sequence_of, repeated_time, IsBounded, rows_between, parted, AreKeysOf, is_taken}
-use Rattle.stop_times.proofs.Common.{no_visit, visit_or_none, visit_at, IsVisit, AreStopTimes, IsSpanOf, less_group, rises, length-list_below, get-list_below}
+use Rattle.stop_times.proofs.Common.{StopRow, TimedRow, Key, key_at, IsRising, list_below, row_at, trip_of, sequence_of, repeated_time, IsBounded, rows_between, parted, AreKeysOf, is_taken, no_visit}
+use Rattle.stop_times.proofs.Common.{visit_or_none, visit_at, IsVisit, AreStopTimes, IsSpanOf, less_group, rises, length-list_below, get-list_below}
 use Rattle.stop_times.proofs.BackLemmas.{apart}
 
 some_is : (o : Option StopRow) → is_some o ≡ true → o ≡ Some (visit_or_none o)
@@ -72,8 +72,7 @@ module _ (rows : List TimedRow) (keys : List Key) (s : AreKeysOf true rows keys)
     here trip h = get-list_below (rows_between visits bounds) (length bounds - 1) trip [] (omega (arith, h, count))
 
     pub parted_are : first_below (repeated_time rows) (length rows) ≡ None → (trip : ℕ) → trip < trips → AreStopTimes rows trip (slice_index_or (parted visits bounds) trip [])
-    parted_are none trip h =
-        subst (AreStopTimes rows trip) (sym (here trip h)) (visits_are none trip (slice_index bounds trip) (slice_index bounds (trip + 1)) (spans trip h))
+    parted_are none trip h = grind (arith, here, visits_are)
 
     pub parted_few : (most : ℕ) → length keys ≤ most → (trip : ℕ) → trip < trips → length (slice_index_or (parted visits bounds) trip []) ≤ most
     parted_few most few trip h = grind (arith, common_steps, here, length-range, long)
