@@ -9,9 +9,15 @@ use std::alloc::Global;
 use std::marker::Model;
 
 /// Distinct texts that are borrowed, each with its index in the order in which they were added as its number.
-#[derive(Drop)]
 pub struct TextIndex<'a> {
     numbers: IndexSet<&'a str, HashKey>,
+}
+
+impl<'a> Drop for TextIndex<'a> {
+    /// Drops its part here, so that a caller drops one value.
+    fn drop(self) {
+        let TextIndex { numbers } = self;
+    }
 }
 
 impl<'a> Model for TextIndex<'a> {
