@@ -63,7 +63,6 @@ pub record AreGood (places classes runs : ℕ) (cs : List Connection) : Type 0 w
   pub good : All (IsGood places classes runs) cs
   pub order : AllPairs Follows cs
   pub each : (r : ℕ) (d : Connection) → r < runs → (j : ℕ) × (j < length cs) × ((get_or cs j d).run.0 ≡ r)
-  pub many : runs ≤ length cs
 
 module _ (f : FeedParts) (delays : DelayLists) (w : Window) (v : IsWindow w) (timed : IsTimed f) (rs : List Run) (runs : AreRunsOf f rs) (classes : ℕ)
     (few : (trip arr : ℕ) → class_of_trip f delays trip arr < classes) (some : HaveConnections f w rs) where
@@ -97,7 +96,6 @@ module _ (f : FeedParts) (delays : DelayLists) (w : Window) (v : IsWindow w) (ti
               ap (λ (c : Connection). c.run.0) (get_or_default (join_below all (length rs)) x.0 d _ x.1 ∙ x.2)
                   ∙ All-get_or (λ (c : Connection). c.run.0 ≡ r) (all r) 0 d (own r h).3 (own r h).2,
             );
-        many = join-many all (length rs) (λ n h. (own n h).3);
       }
 
 -- what the parts of a network are made of
@@ -135,5 +133,8 @@ module _ (f : FeedParts) (d : DelayLists) (delays : AreDelays d) (w : Window) (v
         run_names = names_trimmed f rs names.runs ids runs named;
       }
 
-  pub few_runs : length rs ≤ most_connections
-  few_runs = omega (arith, good.many, few)
+-- each run has a connection, so there are no more runs
+pub few_runs : (f : FeedParts) (d : DelayLists) (w : Window) (rs : List Run) → HaveConnections f w rs
+    → length (connections_below f d w rs (length rs)) ≤ most_connections → length rs ≤ most_connections
+unfolding connections_below run_connections
+few_runs f d w rs some few = omega (arith, few, join-many (run_connections f d w rs) (length rs) (λ n h. omega (arith, length-map {A = ℕ} {B = Connection}, some n h)))

@@ -3,14 +3,10 @@ use Rattle.connections.proofs.ConnectionLemmas.{valid, fits, few_runs}
 use Rattle.connections.proofs.cuts.network_of_runs.Goals as goal
 
 pub names_of-requires-clause-few : goal.names_of-requires-clause-few
-names_of-requires-clause-few c =
-    few_runs c.args.trips.now.feed.now c.args.delays.now c.in_ok-classes.ensures.sound c.args.trips.now.window c.args.trips.now.bounds c.args.trips.now.timed c.args.runs.now c.requires.runs c.requires.some
-    c.requires.few c.args.change c.requires.change c.requires.places (omega (arith, c.args.trips.now.stop_ids.names.few))
+names_of-requires-clause-few c = few_runs c.args.trips.now.feed.now c.args.delays.now c.args.trips.now.window c.args.runs.now c.requires.some c.requires.few
 
 pub connections_of-requires-clause-few : goal.connections_of-requires-clause-few
-connections_of-requires-clause-few c =
-    few_runs c.args.trips.now.feed.now c.args.delays.now c.in_ok-classes.ensures.sound c.args.trips.now.window c.args.trips.now.bounds c.args.trips.now.timed c.args.runs.now c.requires.runs c.requires.some
-    c.requires.few c.args.change c.requires.change c.requires.places (omega (arith, c.args.trips.now.stop_ids.names.few))
+connections_of-requires-clause-few c = few_runs c.args.trips.now.feed.now c.args.delays.now c.args.trips.now.window c.args.runs.now c.requires.some c.requires.few
 
 pub from_parts-requires : goal.from_parts-requires
 from_parts-requires c =
