@@ -132,6 +132,18 @@ fn name_at(rows: &Rows, row: usize, column: Option<usize>) -> &str
     }
 }
 
+/// Texts that are borrowed, found by hashing.
+struct Seen<'a> {
+    texts: IndexSet<&'a str, HashKey>,
+}
+
+impl<'a> Drop for Seen<'a> {
+    /// Drops its parts here, so that a caller drops one value.
+    fn drop(self) {
+        let Seen { texts } = self;
+    }
+}
+
 /// The ids of all rows; or `DuplicateKey` with the line of the first row whose id is in an earlier one.
 pub fn read_ids(alloc: Global, rows: &Rows, table: Table, column: Column) -> Result<Ids, FeedFault>
     requires few { row_count rows.now < 2 ^ 32 - 1 }
@@ -142,11 +154,13 @@ pub fn read_ids(alloc: Global, rows: &Rows, table: Table, column: Column) -> Res
         (first_below (repeated_id table (field rows.now column)) (row_count rows.now)) result }
 {
     let index = rows.index_of(column);
-    let mut seen: IndexSet<&str, HashKey> = IndexSet::with_hasher(alloc, rows.key());
+    let mut seen = Seen {
+        texts: IndexSet::with_hasher(alloc, rows.key()),
+    };
     let mut ids = Ids::with_key(alloc, rows.key());
     for i in 0..rows.count() {
         let name = name_at(rows, i, index);
-        let new = seen.insert(name)?;
+        let new = seen.texts.insert(name)?;
         if !new {
             return Err(FeedFault::DuplicateKey(table, rows.line(i)));
         }

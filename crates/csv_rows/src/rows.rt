@@ -8,7 +8,7 @@ ghost use Rattle.csv_rows.specs.Tables.{table_of, header, row_count, index_of, f
 use crate::columns::Column;
 use crate::fields::{END_OF_ENDS, Fields, start_of};
 use crate::spaces::trimmed;
-use csv::{ByteRecord, ReaderBuilder};
+use csv::{ByteRecord, Reader, ReaderBuilder};
 use plan_model::{HashKey, NoMemory};
 use std::alloc::{AllocError, Global};
 use std::marker::Model;
@@ -92,6 +92,18 @@ fn finished(fields: Fields, ends: Vec<u32>) -> Result<Rows, RowsFault>
     Ok(Rows { fields, ends, key })
 }
 
+/// A text whose records are read.
+struct Source<'a> {
+    reader: Reader<&'a [u8]>,
+}
+
+impl<'a> Drop for Source<'a> {
+    /// Drops its parts here, so that a caller drops one value.
+    fn drop(self) {
+        let Source { reader } = self;
+    }
+}
+
 /// Why a text is no table.
 #[derive(Clone, Copy, Debug, PartialEq, Eq)]
 pub enum RowsFault {
@@ -121,17 +133,18 @@ impl Rows {
         ensures header { IfOk result (λ rows. 0 < length rows) }
         ensures none { IsErrOf result RowsFault.NoHeader → table_of bytes.now ≡ [] }
     {
-        let mut reader = ReaderBuilder::new()
+        let reader = ReaderBuilder::new()
             .has_headers(false)
             .flexible(true)
             .from_reader(alloc, bytes);
+        let mut source = Source { reader };
         let mut row = ByteRecord::new(alloc);
         let mut fields = Fields::new(alloc);
         let mut ends = Vec::new(alloc);
         for _ in 0..u64::MAX {
-            let found = reader
-                .read_byte_record(&mut row)
-                .map_err(|_| RowsFault::NoMemory)?;
+            let Ok(found) = source.reader.read_byte_record(&mut row) else {
+                return Err(RowsFault::NoMemory);
+            };
             if !found {
                 return finished(fields, ends);
             }

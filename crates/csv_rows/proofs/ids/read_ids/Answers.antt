@@ -1,18 +1,11 @@
 use Rattle.csv_rows.proofs.Common.{Bor, ◌≡◌, ◌++◌, ◌∷◌, [], List, ℕ, Contains, false, None, Some, refl, sym, ap, ◌∙◌, arith, length, subst, true, not, Bool, DuplicateKey, row_count, field, field_at}
 use Rattle.csv_rows.proofs.Common.{repeated_id}
+use Rattle.std.proofs.lemmas.Bool.{not-true, not-false}
 use Rattle.csv_rows.proofs.FirstLemmas.{first-zero, first-next, first-at}
 use Rattle.csv_rows.proofs.ListLemmas.{list_below-zero, list_below-next, length-list_below}
 use Rattle.csv_rows.proofs.IdLemmas.{not_repeated, repeated}
 use Rattle.csv_rows.proofs.KeyTexts.{has_key, key_there, key_absent, key_last, key_texts}
 use Rattle.csv_rows.proofs.ids.read_ids.Goals as goal
-
-new_is : (b : Bool) → true ≡ not b → b ≡ false
-new_is true e = absurd (cc)
-new_is false e = refl
-
-known_is : (b : Bool) → false ≡ not b → b ≡ true
-known_is true e = refl
-known_is false e = absurd (cc)
 
 absent_in : (keys : List (Bor (List ℕ))) (ids : List (List ℕ)) (name : List ℕ) → key_texts keys ≡ ids → has_key name keys ≡ false → ¬ Contains ids name
 absent_in keys ids name seen fresh = subst (λ (w : List (List ℕ)). ¬ Contains w name) seen (key_absent name keys fresh)
@@ -22,7 +15,7 @@ loop-i-init c =
     let id = field c.args.rows.now c.args.column in
     record {
       ids = c.with_key-ids.ensures ∙ sym (list_below-zero id);
-      seen = ap key_texts c.with_hasher-seen.ensures.empty ∙ sym c.with_key-ids.ensures;
+      seen = ap key_texts c.with_hasher.ensures.empty ∙ sym c.with_key-ids.ensures;
       none = first-zero (repeated_id c.args.table id);
     }
 
@@ -31,15 +24,15 @@ push-requires-clause-room c =
     omega (arith, c.requires.few, ap length c.loop-i.invariant.ids, length-list_below (field c.args.rows.now c.args.column) c.loop-i.i)
 
 pub push-requires-clause-absent : goal.push-requires-clause-absent
-push-requires-clause-absent c = absent_in c.loop-i.seen.keys _ _ c.loop-i.invariant.seen (new_is _ (sym c.if-not-new.false ∙ c.in_ok-new.ensures.added))
+push-requires-clause-absent c = absent_in c.loop-i.seen.texts.keys _ _ c.loop-i.invariant.seen (not-true _ (sym c.in_ok-new.ensures.added ∙ c.if-not-new.false))
 
 pub loop-i-preserved : goal.loop-i-preserved
 loop-i-preserved c =
     let id = field c.args.rows.now c.args.column in
     let name = c.name_at-name.result.now in
-    let keys = c.loop-i.seen.keys in
+    let keys = c.loop-i.seen.texts.keys in
     let is = c.name_at-name.ensures ∙ ap (λ p. field_at c.args.rows.now p c.loop-i.i) c.index_of-index.ensures in
-    let fresh : has_key name keys ≡ false = new_is (has_key name keys) (sym c.if-not-new.false ∙ c.in_ok-new.ensures.added) in
+    let fresh : has_key name keys ≡ false = not-true _ (sym c.in_ok-new.ensures.added ∙ c.if-not-new.false) in
     record {
       ids = list_below-next id c.loop-i.i c.loop-i.ids c.push.new.self name c.loop-i.invariant.ids c.in_ok-push.ensures.ok is;
       seen = key_last keys c.insert.new.self.keys c.name_at-name.result fresh c.in_ok-new.ensures.keys
@@ -55,8 +48,8 @@ returns-then-not-new-clause-reports c =
     let id = field t c.args.column in
     let name = c.name_at-name.result.now in
     let is = c.name_at-name.ensures ∙ ap (λ p. field_at t p c.loop-i.i) c.index_of-index.ensures in
-    let known : has_key name c.loop-i.seen.keys ≡ true = known_is _ (sym c.if-not-new.true ∙ c.in_ok-new.ensures.added) in
-    let there = subst (λ (w : List (List ℕ)). Contains w name) c.loop-i.invariant.seen (key_there name c.loop-i.seen.keys known) in
+    let known : has_key name c.loop-i.seen.texts.keys ≡ true = not-false _ (sym c.in_ok-new.ensures.added ∙ c.if-not-new.true) in
+    let there = subst (λ (w : List (List ℕ)). Contains w name) c.loop-i.invariant.seen (key_there name c.loop-i.seen.texts.keys known) in
     record {
       why = λ free.
           first-at (repeated_id c.args.table id) c.loop-i.i (row_count t) (DuplicateKey c.args.table c.line.result) (omega arith) c.loop-i.invariant.none
