@@ -1,7 +1,13 @@
 -- The network that is made.
-use Rattle.cut_file.proofs.Common.{◌≡◌, ℕ, ◌<◌, List, length, get_or, arith, plain_network, change_of, DelayLists, CutRow, Key, Cut, AreConnections, IsNetwork, longest, change_from}
+use Rattle.cut_file.proofs.Common.{◌≡◌, ℕ, ◌+◌, ◌<◌, List, [], ◌∷◌, ◌++◌, length, get_or, arith, below_more, get_or_append_left, get_or_push, length-append, plain_network, change_of, DelayLists, CutRow, Key, key_at}
+use Rattle.cut_file.proofs.Common.{Cut, cut_row, AreConnections, IsConnection, IsNetwork, longest, change_from}
 use Rattle.plan_model.specs.declared.model.Connection.{Connection}
 use Rattle.plan_model.specs.declared.model.Outcome.{Outcome}
+
+-- the connections, one more at a time
+pub connections-next : (delays : DelayLists) (rows : List CutRow) (keys : List Key) (n : ℕ) (old new : List Connection) (c : Connection)
+    → AreConnections delays rows keys n old → new ≡ old ++ c ∷ [] → IsConnection delays (cut_row rows (key_at keys n).row) c → AreConnections delays rows keys (n + 1) new
+connections-next delays rows keys n old new c are e here = grind (arith, below_more, get_or_append_left, get_or_push, length-append)
 
 pub make_network : (cut : Cut) (delays : DelayLists) (r : List CutRow) (k : List Key) (places : ℕ) (connections : List Connection) (change : List ℕ) (classes : List (List Outcome))
     → r ≡ cut.rows → k ≡ cut.keys → places ≡ length cut.places → length change ≡ places
