@@ -1,6 +1,12 @@
 use Rattle.graph_text.proofs.Common.{◌∙◌, refl, moment_text, leg_row, rows_text, text_more}
 use Rattle.graph_text.proofs.printer.Printer.put_rows.Goals as goal
 
+pub write_moment-by-requires : goal.write_moment-by-requires
+write_moment-by-requires c = (c.requires c.loop-row.row-index _ c.loop-row-test.true).by
+
+pub put_leg-requires : goal.put_leg-requires
+put_leg-requires c = (c.requires c.loop-row.row-index _ c.loop-row-test.true).is_leg
+
 pub loop-row-preserved : goal.loop-row-preserved
 loop-row-preserved c =
     let own = c.args.self.now in
