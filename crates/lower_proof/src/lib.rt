@@ -5,9 +5,9 @@
 //! of that name; then what it was lent is as it was, unless its own comment says otherwise.
 #![tactic(auto)]
 
-ghost use Rattle.std.specs.Prelude.{◌≡◌, ℕ, ◌+◌, ◌<◌, ◌≤◌, ◌↔◌, IsTrue, IfOk, length, slice_set, Option as Maybe};
+ghost use Rattle.std.specs.Prelude.{◌≡◌, ℕ, ◌+◌, ◌<◌, ◌≤◌, ◌↔◌, IsTrue, IfOk, false, length, slice_set, Option as Maybe};
 ghost use Rattle.plan_model.specs.NetworkModel.{NetworkModel};
-ghost use Rattle.plan_model.specs.Network.{IsValid, count, run_of, arr_of};
+ghost use Rattle.plan_model.specs.Network.{IsValid, count, connection, run_of, arr_of};
 ghost use Rattle.plan_model.specs.Strategy.{IsBoardableAtStart};
 ghost use Rattle.lower_proof.specs.Certificates.{bound_of, IsLeastOf, arrived_by, IsLeastAt, IsLeastAtStart, IsVia, IsTight, IsVerdict};
 ghost use Rattle.lower_proof.specs.Promises.{IsSound, IsBestCertificate};
@@ -187,6 +187,16 @@ fn offer(
     best
 }
 
+/// Whether a connection cannot be boarded, or its value is at most the best one.
+fn is_kept(values: &[Option<u64>], network: &Network, id: ConnectionId, best: Option<u64>) -> bool
+    requires as_many { length values.now ≡ count network.now }
+    requires there { id.0 < count network.now }
+    ensures kept { IsTrue result → IsTrue (connection network.now id.0).can_board → KeepsTo (bound_of values.now id.0) best }
+    ensures fails { result ≡ false → IsTrue (connection network.now id.0).can_board × (KeepsTo (bound_of values.now id.0) best → ⊥) }
+{
+    !network.get(id).can_board || keeps_to(values[id.0 as usize], best)
+}
+
 /// Whether the value of each connection that can be boarded is at most that of each way to leave its
 /// run. If it is, no safe strategy is expected to arrive before the least value at the start.
 pub fn check(
@@ -211,7 +221,7 @@ pub fn check(
     while let Some(departure) = departures.pop() {
         let id = departure.id;
         let best = offer(&mut boards, &mut exits, values, network, &scope, id);
-        if network.get(id).can_board && !keeps_to(values[id.0 as usize], best) {
+        if !is_kept(values, network, id, best) {
             return Ok(Verdict::Fails(id));
         }
     }

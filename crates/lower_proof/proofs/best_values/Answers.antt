@@ -1,4 +1,4 @@
-use Rattle.lower_proof.proofs.Common.{◌≡◌, ◌<◌, ◌∙◌, ℕ, List, Option, Some, length, arith, sym, ap, take_at, length-set, Connection, All-pop, count, connection}
+use Rattle.lower_proof.proofs.Common.{◌≡◌, ◌∙◌, ℕ, List, Option, length, arith, sym, ap, take_at, length-set, Connection, connection}
 use Rattle.lower_proof.proofs.Written.{given, written_first, written_there, written_next, written_last}
 use Rattle.lower_proof.proofs.best_values.Goals as goal
 use Rattle.lower_proof.proofs.best_values.Goals.{then-get, else-get}
@@ -9,13 +9,27 @@ loop-departure-init c = record {
       c.in_ok-exits.ensures.runs c.in_ok-exits.ensures.empty
       (c.in_ok-boards.ensures.fresh.right c.in_ok-values.values.items c.in_ok-values.ensures.as_many (λ k inside late. c.in_ok-values.ensures.none k))
       c.in_ok-boards.ensures.fresh.late;
-  there = λ k d within. (c.in_ok-departures.ensures.departures.each k d within).0;
 }
+
+pub offer-best-requires-clause-boards : goal.offer-best-requires-clause-boards
+offer-best-requires-clause-boards c = rw (c.deref_mut.ensures.value, c.deref.ensures.value) c.loop-departure.invariant.written.right
+
+pub offer-best-requires-clause-there : goal.offer-best-requires-clause-there
+offer-best-requires-clause-there c = written_there c.in_ok-departures.ensures.valid c.loop-departure.invariant.written _ _ c.in-Some.ensures.items
 
 pub offer-best-requires-clause-run : goal.offer-best-requires-clause-run
 offer-best-requires-clause-run c =
     let written = c.loop-departure.invariant.written in
     rw c.deref_mut-in-Some.ensures.value (written.scanned.runs c.in-Some.departure.id.0 (written_there c.in_ok-departures.ensures.valid written _ _ c.in-Some.ensures.items))
+
+pub get-requires : goal.get-requires
+get-requires c = written_there c.in_ok-departures.ensures.valid c.loop-departure.invariant.written _ _ c.in-Some.ensures.items
+
+pub index_mut-requires : goal.index_mut-requires
+index_mut-requires c =
+    let written = c.loop-departure.invariant.written in
+    let there = written_there c.in_ok-departures.ensures.valid written _ _ c.in-Some.ensures.items in
+    omega (arith, there, written.as_many, c.loop-departure.values.ok.0)
 
 pub loop-departure-preserved : goal.loop-departure-preserved
 loop-departure-preserved c =
@@ -36,7 +50,6 @@ loop-departure-preserved c =
     let places : length c.offer-best.new.boards ≡ loop.boards.len = omega (arith, c.offer-best.ensures.boards.as_many, loop.invariant.written.right.as_many, loop.boards.ok.0) in
     rw (take_at, take_at, exits, own_is) (record {
       written = written_next c.in_ok-departures.ensures.valid loop.invariant.written _ _ c.in-Some.ensures.items least boards late;
-      there = (All-pop (λ e. e.id.0 < count c.args.network.now) _ _ (Some c.in-Some.departure) c.in-Some.ensures.items loop.invariant.there).0;
     })
 
 pub returns-clause-tight : goal.returns-clause-tight

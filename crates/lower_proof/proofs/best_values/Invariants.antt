@@ -1,11 +1,10 @@
-use Rattle.lower_proof.proofs.Common.{◌<◌, All, length, count}
+use Rattle.lower_proof.proofs.Common.{length}
 use Rattle.lower_proof.proofs.Written.{Written}
 use Rattle.lower_proof.proofs.best_values.Given as goal
 
 abbrev pub invariant-loop-departure : goal.invariant-loop-departure
 invariant-loop-departure l = record {
   written : Written l.network l.scope.query l.scope.last.0 l.departures.items l.exits.items l.values.items l.boards.items;
-  there : All (λ e. e.id.0 < count l.network) l.departures.items;
 }
 
 abbrev pub decreases-loop-departure : goal.decreases-loop-departure

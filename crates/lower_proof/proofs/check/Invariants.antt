@@ -1,11 +1,10 @@
-use Rattle.lower_proof.proofs.Common.{◌<◌, All, length, count, AreBoards}
+use Rattle.lower_proof.proofs.Common.{length, AreBoards}
 use Rattle.lower_proof.proofs.Exits.{CheckState}
 use Rattle.lower_proof.proofs.check.Given as goal
 
 abbrev pub invariant-loop-departure : goal.invariant-loop-departure
 invariant-loop-departure l = record {
   state : CheckState l.network l.scope.query l.values l.scope.last.0 l.departures.items l.exits.items;
-  there : All (λ e. e.id.0 < count l.network) l.departures.items;
   boards : AreBoards l.network l.scope.last.0 l.values l.boards.items;
 }
 

@@ -1,5 +1,9 @@
-use Rattle.lower_proof.proofs.Common.{◌∙◌, ap, decimal, Connection, run_name, four_fields, name_is}
+use Rattle.lower_proof.proofs.Common.{◌∙◌, arith, ap, decimal, Connection, run_name, four_fields, name_is}
 use Rattle.lower_proof.proofs.printer.Printer.put_value.Goals as goal
+
+pub run_name-requires : goal.run_name-requires
+run_name-requires c =
+    omega (arith, c.args.self.now.fit.below c.args.id.0 c.requires, ap (λ (k : Connection). k.run.0) c.get-connection.ensures.connection)
 
 pub returns-clause-text : goal.returns-clause-text
 returns-clause-text c =
