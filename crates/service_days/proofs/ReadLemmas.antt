@@ -7,6 +7,9 @@ use Rattle.plan_model.specs.Results.{and_then}
 use Rattle.csv_rows.specs.declared.feed_tables.Table.TheVariants as table
 use Rattle.csv_rows.specs.declared.feed_tables.FeedFault.{FeedFault}
 use Rattle.csv_rows.specs.declared.feed_tables.FeedFault.TheVariants as fault
+use Rattle.file_ports.specs.Ports.{FilesState}
+use Rattle.std.proofs.Common.{IsErr, IsErrAnd}
+use Rattle.table_files.specs.Loading.{HasFeedCauses}
 use Rattle.table_files.specs.declared.loading.Loaded.{Loaded}
 use Rattle.csv_rows.specs.declared.limits.Limits.{Limits}
 use Rattle.service_days.specs.declared.periods.Period.{Period}
@@ -99,3 +102,9 @@ runs_by_some missing missing' ids ids' periods exceptions s same (c, calendar) (
   dates = d;
   runs_by = services_from missing missing' ids ids' periods exceptions (calendar_from (Ok c)) (dates_from (Ok d)) s same calendar dates some;
 }
+
+-- the causes of a step that failed are those of what `?` passes on
+pub causes_raised : (T : Type 0) (folder : List ℕ) (before now : FilesState) (e : FeedFault) (r : Result T FeedFault)
+    → IsErr r × IsErrAnd r (λ raised. raised ≡ e) → HasFeedCauses {T = T} folder before now (Err e) → HasFeedCauses folder before now r
+causes_raised T folder before now e (Ok value) h k = absurd h.1
+causes_raised T folder before now e (Err raised) h k = subst (λ (fault : FeedFault). HasFeedCauses {T = T} folder before now (Err fault)) (sym h.1) k

@@ -37,6 +37,13 @@ pub(crate) fn date_columns(rows: &Rows) -> DateColumns
     }
 }
 
+/// The fault that a field of a line is not of its form.
+fn bad(line: u64, column: Column) -> FeedFault
+    ensures { result ≡ FeedFault.BadField DatesTable line column }
+{
+    FeedFault::BadField(Table::CalendarDates, line, column)
+}
+
 /// The exception of a row, or the first field that is not of its form.
 pub(crate) fn read_exception(
     rows: &Rows,
@@ -49,9 +56,14 @@ pub(crate) fn read_exception(
     ensures reports { ReportsFirst DatesTable (result_err (date_in rows.now columns row)) result }
 {
     let line = rows.line(row);
-    let bad = |column: Column| FeedFault::BadField(Table::CalendarDates, line, column);
-    let service = read_name(rows.field_at(row, columns.service)).ok_or(bad(Column::ServiceId))?;
-    let day = read_date(rows.field_at(row, columns.date)).ok_or(bad(Column::Date))?;
-    let adds = read_adds(rows.field_at(row, columns.kind)).ok_or(bad(Column::ExceptionType))?;
+    let Some(service) = read_name(rows.field_at(row, columns.service)) else {
+        return Err(bad(line, Column::ServiceId));
+    };
+    let Some(day) = read_date(rows.field_at(row, columns.date)) else {
+        return Err(bad(line, Column::Date));
+    };
+    let Some(adds) = read_adds(rows.field_at(row, columns.kind)) else {
+        return Err(bad(line, Column::ExceptionType));
+    };
     Ok(ServiceDate { service, day, adds })
 }

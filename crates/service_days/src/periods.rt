@@ -1,11 +1,12 @@
 //! The periods of `calendar.txt`.
-ghost use Rattle.std.specs.Prelude.{◌≡◌, ◌<◌, ◌≤◌, ◌^◌, length, None, Ok, Err, IfOk, IfErr, OnOk};
+ghost use Rattle.std.specs.Prelude.{◌≡◌, ◌<◌, ◌≤◌, ◌+◌, ◌^◌, length, None, Some, Ok, Err, IfOk, IfErr, OnOk, OnErr};
 ghost use Rattle.std.specs.Result.{result_err};
 ghost use Rattle.csv_rows.specs.declared.feed_tables.Table.TheVariants.{Calendar as CalendarTable};
 ghost use Rattle.csv_rows.specs.First.{first_below};
 ghost use Rattle.csv_rows.specs.FeedTables.{unread_table, IsFaultOf};
 ghost use Rattle.csv_rows.specs.RowFaults.{ReportsFirst};
-ghost use Rattle.csv_rows.specs.Tables.{row_count};
+ghost use Rattle.csv_rows.specs.Tables.{row_count, field_at};
+ghost use Rattle.service_days.specs.CalendarForms.{weekday_flag_in};
 ghost use Rattle.service_days.specs.Calendars.{AreDistinctRows};
 ghost use Rattle.service_days.specs.Periods.{flag_of, runs_in_period, period_columns, week_in, period_in, bad_period, service_ids, periods_of, calendar_fault};
 
@@ -120,6 +121,31 @@ fn period_columns(rows: &Rows) -> PeriodColumns
     }
 }
 
+/// The fault that a field of a line is not of its form.
+fn bad(line: u64, column: Column) -> FeedFault
+    ensures { result ≡ FeedFault.BadField CalendarTable line column }
+{
+    FeedFault::BadField(Table::Calendar, line, column)
+}
+
+/// The flag of a row under a column at an index, or the fault that it is not of its form.
+fn read_flag_at(
+    rows: &Rows,
+    row: usize,
+    index: Option<usize>,
+    column: Column,
+) -> Result<bool, FeedFault>
+    requires { row < row_count rows.now }
+    ensures flag { IfOk result (λ flag. weekday_flag_in (field_at rows.now index row) ≡ Some flag) }
+    ensures none { OnErr result (weekday_flag_in (field_at rows.now index row) ≡ None) }
+    ensures fault { IfErr result (λ f. f ≡ FeedFault.BadField CalendarTable (row + 2) column) }
+{
+    match read_flag(rows.field_at(row, index)) {
+        Some(flag) => Ok(flag),
+        None => Err(bad(rows.line(row), column)),
+    }
+}
+
 /// The flags of a row, or the first that is not of its form.
 fn read_week(rows: &Rows, columns: PeriodColumns, row: usize) -> Result<Week, FeedFault>
     requires { row < row_count rows.now }
@@ -128,15 +154,13 @@ fn read_week(rows: &Rows, columns: PeriodColumns, row: usize) -> Result<Week, Fe
     ensures content { IfErr result (λ f. unread_table f ≡ None) }
     ensures own { IfErr result (IsFaultOf CalendarTable) }
 {
-    let line = rows.line(row);
-    let bad = |column: Column| FeedFault::BadField(Table::Calendar, line, column);
-    let monday = read_flag(rows.field_at(row, columns.monday)).ok_or(bad(Column::Monday))?;
-    let tuesday = read_flag(rows.field_at(row, columns.tuesday)).ok_or(bad(Column::Tuesday))?;
-    let wednesday = read_flag(rows.field_at(row, columns.wednesday)).ok_or(bad(Column::Wednesday))?;
-    let thursday = read_flag(rows.field_at(row, columns.thursday)).ok_or(bad(Column::Thursday))?;
-    let friday = read_flag(rows.field_at(row, columns.friday)).ok_or(bad(Column::Friday))?;
-    let saturday = read_flag(rows.field_at(row, columns.saturday)).ok_or(bad(Column::Saturday))?;
-    let sunday = read_flag(rows.field_at(row, columns.sunday)).ok_or(bad(Column::Sunday))?;
+    let monday = read_flag_at(rows, row, columns.monday, Column::Monday)?;
+    let tuesday = read_flag_at(rows, row, columns.tuesday, Column::Tuesday)?;
+    let wednesday = read_flag_at(rows, row, columns.wednesday, Column::Wednesday)?;
+    let thursday = read_flag_at(rows, row, columns.thursday, Column::Thursday)?;
+    let friday = read_flag_at(rows, row, columns.friday, Column::Friday)?;
+    let saturday = read_flag_at(rows, row, columns.saturday, Column::Saturday)?;
+    let sunday = read_flag_at(rows, row, columns.sunday, Column::Sunday)?;
     Ok(Week {
         monday,
         tuesday,
@@ -155,11 +179,16 @@ fn read_period(rows: &Rows, columns: PeriodColumns, row: usize) -> Result<Period
     ensures reports { ReportsFirst CalendarTable (result_err (period_in rows.now columns row)) result }
 {
     let line = rows.line(row);
-    let bad = |column: Column| FeedFault::BadField(Table::Calendar, line, column);
-    read_name(rows.field_at(row, columns.service)).ok_or(bad(Column::ServiceId))?;
+    let Some(_name) = read_name(rows.field_at(row, columns.service)) else {
+        return Err(bad(line, Column::ServiceId));
+    };
     let week = read_week(rows, columns, row)?;
-    let first = read_date(rows.field_at(row, columns.first)).ok_or(bad(Column::StartDate))?;
-    let last = read_date(rows.field_at(row, columns.last)).ok_or(bad(Column::EndDate))?;
+    let Some(first) = read_date(rows.field_at(row, columns.first)) else {
+        return Err(bad(line, Column::StartDate));
+    };
+    let Some(last) = read_date(rows.field_at(row, columns.last)) else {
+        return Err(bad(line, Column::EndDate));
+    };
     Ok(Period { week, first, last })
 }
 
