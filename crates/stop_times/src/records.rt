@@ -11,9 +11,15 @@ use std::alloc::Global;
 use std::marker::Model;
 
 /// The fields of one record, with no ASCII space round each.
-#[derive(Drop)]
 pub(crate) struct Record {
     row: ByteRecord,
+}
+
+impl Drop for Record {
+    /// Drops its parts here, so that a caller drops one value.
+    fn drop(self) {
+        let Record { row } = self;
+    }
 }
 
 impl Model for Record {
@@ -85,10 +91,16 @@ impl Record {
 }
 
 /// The records of a text that were not taken yet.
-#[derive(Drop)]
 pub(crate) struct Records<'a> {
     reader: Reader<&'a [u8]>,
     is_done: bool,
+}
+
+impl<'a> Drop for Records<'a> {
+    /// Drops its parts here, so that a caller drops one value.
+    fn drop(self) {
+        let Records { reader, is_done } = self;
+    }
 }
 
 impl<'a> Model for Records<'a> {

@@ -1,4 +1,4 @@
-use Rattle.stop_times.proofs.Common.{◌∙◌, ap, sym, subst, refl, StopTimes, or_then}
+use Rattle.stop_times.proofs.Common.{◌∙◌, ap, sym, subst, refl, arith, StopTimes, or_then}
 use Rattle.csv_rows.specs.FeedTables.{unread_table, IsFaultOf}
 use Rattle.csv_rows.proofs.FaultLemmas.{match_raised, fault-first}
 use Rattle.stop_times.proofs.BackLemmas.{backward_is}
@@ -16,3 +16,6 @@ returns-in-Some-clause-reports c =
 
 pub returns-clause-reports : goal.returns-clause-reports
 returns-clause-reports c = or_then _ _ _ c.in_ok-check_once.ensures (c.first_backward.ensures c.in_ok-check_once.ensures ∙ c.in_default.is)
+
+pub visits_of-requires-clause-few : goal.visits_of-requires-clause-few
+visits_of-requires-clause-few c = omega (arith, c.in_ok-keys.ensures.few)
