@@ -7,6 +7,7 @@
 mod checked;
 mod faults;
 mod fields;
+mod laws;
 mod lines;
 mod networks;
 mod numbers;
@@ -15,4 +16,5 @@ mod rows;
 mod table;
 
 pub use faults::CutFault;
+pub use laws::cut_numbers;
 pub use table::{CutTable, read_cut};

@@ -7,6 +7,7 @@
 
 mod faults;
 mod groups;
+mod laws;
 mod lines;
 mod numbered;
 mod other_groups;
@@ -16,4 +17,5 @@ mod table;
 mod types;
 
 pub use faults::{ClassName, DelayFault};
+pub use laws::delay_numbers;
 pub use table::DelayTable;

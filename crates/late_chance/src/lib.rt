@@ -58,6 +58,11 @@ pub fn punctual_by_shift()
         seconds_per_week ≤ promise → q.start.0 ≤ promise → promise ≤ q.start.0 + seconds_per_week → IsAboutNetwork m q promise }
 {}
 
+/// A law, with no code: the seconds of a week, which are the moment that represents a promise.
+pub fn week_is_seven_days()
+    ensures { seconds_per_week ≡ 604800 }
+{}
+
 /// A law, with no code: if the promised moment is not before the deadline, both bounds are 0.
 pub fn no_chance_by_the_deadline()
     ensures { (m : NetworkModel) (q : Query) (promise : ℕ) (graph : PlanGraph) (chance : Interval) → IsPunctual m q promise graph chance

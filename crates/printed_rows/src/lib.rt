@@ -28,6 +28,11 @@ pub fn connection_of(network: &Network, run: RunId, step: u32) -> Option<Connect
 /// The greatest whole number of nine digits.
 pub const MOST_WHOLE: u32 = 999_999_999;
 
+/// A law, with no code: the greatest whole number that a printed row may have.
+pub fn most_whole_is_nine_digits()
+    ensures { MOST_WHOLE ≡ 999999999 }
+{}
+
 /// A whole number of one to nine digits; `None` if the text is not of this form.
 pub fn whole(text: &[u8]) -> Option<u32>
     ensures { result ≡ whole_at text.now }
