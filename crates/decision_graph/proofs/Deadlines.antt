@@ -1,6 +1,6 @@
 -- Plans by one deadline and by another.
 use Rattle.decision_graph.proofs.Common.{◌≡◌, ℕ, ◌+◌, ◌*◌, ◌^◌, ◌<◌, ◌≤◌, Some, arith, inl, inr, mul-le-mul_right, Interval, NetworkModel, Query, IsSafeFor, IsLeastWorst, Tree, worst, height}
-use Rattle.decision_graph.proofs.Common.{PlanGraph, unfold_plan, IsPlanned}
+use Rattle.decision_graph.proofs.Common.{PlanGraph, unfold_plan, IsBest, IsPlanned}
 use Rattle.std.proofs.lemmas.Bool.{cases_lt}
 use Rattle.std.proofs.Math.Nat.{one-le-pow}
 use Rattle.plan_model.specs.Expected.{Below, Covers}
@@ -28,10 +28,14 @@ below_covers lo hi t below covers =
     cancel lo hi (10000 ^ h) some (omega (arith, below h (omega arith), covers h (omega arith)))
 
 pub no_worse : (n : NetworkModel) (q r : Query) (graph other : PlanGraph) (bounds later : Interval) → IsPlanned n q graph bounds → IsPlanned n r other later
-    → r.source.0 ≡ q.source.0 → r.target.0 ≡ q.target.0 → r.start.0 ≡ q.start.0 → q.deadline.0 ≤ r.deadline.0 → later.lo ≤ bounds.hi
+    → r.source.0 ≡ q.source.0 → r.target.0 ≡ q.target.0 → r.start.0 ≡ q.start.0 → q.deadline.0 ≤ r.deadline.0 → later.hi ≤ bounds.hi
 no_worse n q r graph other bounds later one two source target start less =
     let t = unfold_plan graph n q in
     let reached = reaches_from_safe n q.source.0 q.target.0 q.start.0 q.deadline.0 t one.best.safe in
     let safe = safe_from_reaches n q.source.0 q.target.0 q.start.0 r.deadline.0 t reached.0 (omega (arith, reached.1, less)) in
     let own : IsSafeFor n r t = rw (source, target, start) safe in
-    below_covers later.lo bounds.hi t (two.best.below_safe t own) one.best.encloses.1
+    omega (arith, two.best.least_up t own, one.best.rounded)
+
+-- the least mean rounded up is one
+pub one_upper : (n : NetworkModel) (q : Query) (t u : Tree) (bounds others : Interval) → IsBest n q t bounds → IsBest n q u others → bounds.hi ≡ others.hi
+one_upper n q t u bounds others one two = omega (arith, one.least_up u two.safe, two.least_up t one.safe, one.rounded, two.rounded)

@@ -20,6 +20,7 @@ least_chance n q graph chance by =
         rounded = by.best.covers_own.1;
         below_safe = λ tree safe. (by.best.below_safe tree safe).0;
         least = λ tree safe. (by.best.below_safe tree safe).1;
+        least_up = λ tree safe. (by.best.below_safe tree safe).2;
         gap = by.best.gap_within;
         at_once = λ same early. by.best.at_once same ∙ none_late promised q.start.0 early;
       };

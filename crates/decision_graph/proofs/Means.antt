@@ -10,6 +10,7 @@ best n q strategy value by = record {
   rounded = by.covers_own.1;
   below_safe = λ tree safe. (by.below_safe tree safe).0;
   least = λ tree safe. (by.below_safe tree safe).1;
+  least_up = λ tree safe. (by.below_safe tree safe).2;
   gap = by.gap_within;
   at_once = λ same. ap span_of (by.at_once same);
 }

@@ -18,6 +18,6 @@ mod punctual;
 
 pub use expanded::expand;
 pub use found::Found;
-pub use laws::{a_later_deadline_is_no_worse, least_worst_is_kept};
+pub use laws::{a_later_deadline_is_no_worse, least_worst_is_kept, one_upper_bound};
 pub use planned::{plan, plan_by};
 pub use punctual::{PromisedQuery, punctual_plan};

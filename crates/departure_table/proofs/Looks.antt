@@ -55,6 +55,7 @@ module _ (n : NetworkModel) (q : Query) (found : ScanResult MeanSpan) (solves : 
             λ moment ahead within. record {
               below_safe = λ other safe. rw bounds (answer.below_safe other (earlier other x (moment - 1) (omega arith) safe)).0;
               least = λ other safe. rw bounds (answer.below_safe other (earlier other x (moment - 1) (omega arith) safe)).1;
+              least_up = λ other safe. rw bounds (answer.below_safe other (earlier other x (moment - 1) (omega arith) safe)).2;
               covers_one = (
                 tree,
                 until enter choice.1.exit.0 chosen_children x (moment - 1) (omega (arith, ahead, within, by)) safe_ride,

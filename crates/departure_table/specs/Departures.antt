@@ -36,10 +36,11 @@ abbrev pub BeginsWith : Leg → Tree → Type 0
 BeginsWith leg tree = (kids : Kids) × (tree ≡ Ride leg.enter.0 leg.exit.0 kids)
 
 -- the best of what is safe from a moment on begins with the row's leg: its lower bound is below all that is safe, and at most
--- that with each mean rounded down, ride by ride; the upper one covers one that begins with the leg, and is that rounded up
+-- that with each mean rounded down, ride by ride; the upper one covers one that begins with the leg, and is that rounded up: the least of all
 pub record IsBestFrom (m : NetworkModel) (Safe : ℕ → Tree → Type 0) (moment : ℕ) (row : DepartureRow) : Type 0 where
   pub below_safe : (tree : Tree) → Safe moment tree → Below row.bounds.lo tree
   pub least : (tree : Tree) → Safe moment tree → row.bounds.lo ≤ rounded_down nanos_per_second arrival tree
+  pub least_up : (tree : Tree) → Safe moment tree → row.bounds.hi ≤ rounded_up nanos_per_second arrival tree
   pub covers_one : (tree : Tree) × Safe moment tree × BeginsWith row.leg tree × Covers row.bounds.hi tree
       × (row.bounds.hi ≡ rounded_up nanos_per_second arrival tree)
   pub gap : row.bounds.hi - row.bounds.lo ≤ count m

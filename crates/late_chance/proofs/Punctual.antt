@@ -24,6 +24,9 @@ module _ (n m : NetworkModel) (shift first : ℕ) (q : Query) (shown : IsShown n
   down : (promise lo : ℕ) (tree : Tree) → lo ≤ rounded_down certainty (late promise) tree → lo ≤ rounded_down certainty (late (promise + shift)) (later_by shift tree)
   down promise lo tree less = let e = down-later certainty shift (late (promise + shift)) (late promise) (late-later shift promise) tree in omega (arith, e, less)
 
+  least_up : (promise hi : ℕ) (tree : Tree) → hi ≤ rounded_up certainty (late promise) tree → hi ≤ rounded_up certainty (late (promise + shift)) (later_by shift tree)
+  least_up promise hi tree less = omega (arith, up promise tree, less)
+
   graphs : (promise : ℕ) (graph : PlanGraph) (chance : Interval) → IsPunctual n q promise graph chance → IsPunctual m (later_query shift q) (promise + shift) (later_graph shift graph) chance
   graphs promise graph chance p =
       let reported = alike n m shift first q shown graph p.tidy p.safe in
@@ -36,6 +39,7 @@ module _ (n m : NetworkModel) (shift first : ℕ) (q : Query) (shown : IsShown n
         rounded = p.rounded ∙ sym (up promise own) ∙ ap (rounded_up certainty (late (promise + shift))) (sym reported.unfolds);
         below_safe = λ u safe. let s = sooner u safe in subst (λ (t : Tree). LateBelow (promise + shift) chance.lo t) s.1 (below promise chance.lo s.0 (p.below_safe s.0 s.2));
         least = λ u safe. let s = sooner u safe in subst (λ (t : Tree). chance.lo ≤ rounded_down certainty (late (promise + shift)) t) s.1 (down promise chance.lo s.0 (p.least s.0 s.2));
+        least_up = λ u safe. let s = sooner u safe in subst (λ (t : Tree). chance.hi ≤ rounded_up certainty (late (promise + shift)) t) s.1 (least_up promise chance.hi s.0 (p.least_up s.0 s.2));
         gap = let g = p.gap in let many = shown.view.as_many in omega arith;
         at_once = λ same by. p.at_once same (omega arith);
       }

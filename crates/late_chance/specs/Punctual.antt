@@ -17,8 +17,8 @@ use Rattle.late_chance.specs.SeenFrom.{shifted_parts}
 use Rattle.late_chance.specs.LaterGraphs.{later_graph, later_query, sooner_query}
 
 -- the graph is tidy and its strategy safe; the bounds enclose the chance that it arrives after the promised moment,
--- the upper one is that with each mean rounded up, ride by ride; the lower one is below that of every safe strategy, and at most
--- that with each mean rounded down; they differ by at most one unit for each connection
+-- the upper one is that with each mean rounded up, ride by ride: the least of all safe strategies; the lower one is below that of
+-- every safe strategy, and at most that with each mean rounded down; they differ by at most one unit for each connection
 pub record IsPunctual (m : NetworkModel) (query : Query) (promise : ℕ) (graph : PlanGraph) (chance : Interval) : Type 0 where
   pub tidy : IsTidy m query graph
   pub safe : IsSafeFor m query (unfold_plan graph m query)
@@ -27,6 +27,7 @@ pub record IsPunctual (m : NetworkModel) (query : Query) (promise : ℕ) (graph 
   pub rounded : chance.hi ≡ rounded_up certainty (late promise) (unfold_plan graph m query)
   pub below_safe : (tree : Tree) → IsSafeFor m query tree → LateBelow promise chance.lo tree
   pub least : (tree : Tree) → IsSafeFor m query tree → chance.lo ≤ rounded_down certainty (late promise) tree
+  pub least_up : (tree : Tree) → IsSafeFor m query tree → chance.hi ≤ rounded_up certainty (late promise) tree
   pub gap : chance.hi - chance.lo ≤ count m
   pub at_once : query.source.0 ≡ query.target.0 → query.start.0 ≤ promise → chance ≡ record { lo = 0; hi = 0 }
 

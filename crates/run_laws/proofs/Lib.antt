@@ -22,4 +22,5 @@ pub mod Ends
 pub mod Printed
 pub mod Certified
 pub mod Departing
+mod RowBounds
 pub mod Agreeing

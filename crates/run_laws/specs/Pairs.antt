@@ -184,12 +184,12 @@ WorstIsKept limits r =
     → AskOne files old said j (Plan alpha) r → IsProblem limits files j p → r.report.query ≡ Some query → r.report.graph ≡ Some graph
     → r.report.worst ≡ Some query.deadline → worst (unfold_plan graph p.timetable.network query) ≡ query.deadline.0
 
--- with a later deadline the lower bound of `plan` is at most the upper bound with the sooner one
+-- with a later deadline the upper bound of `plan` is at most that with the sooner one
 abbrev pub LaterIsNoWorse : RunModel → RunModel → Type 0
 LaterIsNoWorse r s =
     (files : FileMap) (j : JourneyModel) (alpha beta : ℕ) (query other : Query) (bounds later : Interval)
     → AskBoth files j (Plan alpha) (Plan beta) r s → EndWell r s → r.report.query ≡ Some query → s.report.query ≡ Some other
-    → r.report.bounds ≡ Some bounds → s.report.bounds ≡ Some later → query.deadline.0 ≤ other.deadline.0 → later.lo ≤ bounds.hi
+    → r.report.bounds ≡ Some bounds → s.report.bounds ≡ Some later → query.deadline.0 ≤ other.deadline.0 → later.hi ≤ bounds.hi
 
 -- no row of `departures` is later than the moment that `latest` finds, and where the rows reach that moment, one of them is at it
 abbrev pub LatestIsOfLastRow : RunModel → RunModel → Type 0

@@ -16,9 +16,13 @@ ghost use Rattle.interval_fixed.specs.Interval.{Interval};
 ghost use Rattle.plan_model.specs.NetworkModel.{NetworkModel};
 ghost use Rattle.plan_model.specs.Network.{count};
 ghost use Rattle.plan_model.specs.Strategy.{IsLeastWorst};
+ghost use Rattle.plan_model.specs.Tree.{Tree as Strategy};
 ghost use Rattle.plan_model.specs.declared.model.Query.{Query as Asked};
 ghost use Rattle.plan_model.specs.declared.model.Moment.{Moment as When};
+ghost use Rattle.decision_graph.specs.GraphValues.{IsBest};
 ghost use Rattle.decision_graph.specs.Planned.{IsPlanned};
+ghost use Rattle.departure_table.specs.Departures.{IsBestFrom, SafeFrom};
+ghost use Rattle.departure_table.specs.declared.DepartureRow.{DepartureRow as Row};
 ghost use Rattle.journey_answers.specs.Departures.{query_until};
 ghost use Rattle.lower_proof.specs.Certificates.{IsLeastAtStart};
 ghost use Rattle.lower_proof.specs.Promises.{IsBestCertificate};
@@ -73,6 +77,13 @@ pub fn certificate_value_is_within_plan_bounds()
     ensures { (n : NetworkModel) (q : Asked) (graph : Graph) (bounds : Interval) (values : Bytes (Maybe ℕ)) (v : ℕ)
         → IsPlanned n q graph bounds →
         IsBestCertificate n q values → IsLeastAtStart n q values (Some v) → (v ≤ bounds.hi) × (bounds.lo ≤ v + count n) }
+{}
+
+/// The upper bound of a row of `departures` is that of a best strategy from then with the same deadline.
+pub fn a_row_has_the_bound_of_a_plan()
+    ensures { (n : NetworkModel) (source moment : ℕ) (q r : Asked) (row : Row) (strategy : Strategy) (bounds : Interval)
+        → IsBestFrom n (SafeFrom n source q) moment row → IsBest n r strategy bounds → r.source.0 ≡ source → r.target.0 ≡ q.target.0
+        → r.start.0 ≡ moment → r.deadline.0 ≡ q.deadline.0 → row.bounds.hi ≡ bounds.hi }
 {}
 
 /// `latest` ends as `departures` does.

@@ -16,8 +16,8 @@ pub use answers::{
 pub use commands::{
     a_printed_certificate_is_accepted, a_printed_plan_arrives, a_printed_plan_is_accepted,
     a_printed_plan_is_never_stuck, a_printed_plan_keeps_its_upper_bound,
-    certificate_value_is_within_plan_bounds, latest_ends_as_departures,
-    latest_ends_by_the_least_worst,
+    a_row_has_the_bound_of_a_plan, certificate_value_is_within_plan_bounds,
+    latest_ends_as_departures, latest_ends_by_the_least_worst,
 };
 pub use graphs::{
     one_expanded_plan, one_plan, one_scan_order, one_strategy_of_both, one_tidy_graph,

@@ -57,6 +57,18 @@ module _ {V : Type 0} (scale : ℕ) (leaf : ℕ → ℕ) (span : V → Interval)
       → (mean_of row (map span values)).lo ≤ rounded_down scale leaf (Ride enter exit kids)
   blended_down row values kids enter exit each = omega (arith, lo_sum row values kids each)
 
+  -- the sum of upper bounds is at most that of the means, where each is at most its own
+  up_sum : (row : List Outcome) (values : List V) (kids : Kids) → EachKid scoring.below row values kids
+      → weighted row (map (λ s. s.hi) (map span values)) ≤ sum_up scale leaf kids
+  up_sum [] [] Nil each = omega arith
+  up_sum (o ∷ row) (v ∷ values) (Kid w t kids) each =
+      rw each.0 (omega (arith, mul-le-mul_left o.weight each.1.2, up_sum row values kids each.2))
+  up_sum _ _ _ each = absurd each
+
+  blended_least : (row : List Outcome) (values : List V) (kids : Kids) (enter exit : ℕ) → EachKid scoring.below row values kids
+      → (mean_of row (map span values)).hi ≤ rounded_up scale leaf (Ride enter exit kids)
+  blended_least row values kids enter exit each = omega (arith, up_sum row values kids each)
+
   blended_covers : (row : List Outcome) (values : List V) (kids : Kids) (enter exit : ℕ) → EachKid scoring.covers row values kids
       → CoversBy scale leaf (mean_of row (map span values)).hi (Ride enter exit kids)
   blended_covers row values kids enter exit each =
@@ -79,7 +91,7 @@ module _ {V : Type 0} (scale : ℕ) (leaf : ℕ → ℕ) (span : V → Interval)
       mean_gap_within row (map span values) most good (omega (arith, as_many, length-map values span)) (All-map (λ (s : Interval). s.hi - s.lo ≤ most) span values gaps)
 
   abbrev LowerBound : Tree → Interval → Type 0
-  LowerBound tree s = BelowBy scale leaf s.lo tree × (s.lo ≤ rounded_down scale leaf tree)
+  LowerBound tree s = BelowBy scale leaf s.lo tree × (s.lo ≤ rounded_down scale leaf tree) × (s.hi ≤ rounded_up scale leaf tree)
 
   abbrev UpperBound : Tree → Interval → Type 0
   UpperBound tree s = CoversBy scale leaf s.hi tree × (s.hi ≡ rounded_up scale leaf tree)
@@ -90,20 +102,20 @@ module _ {V : Type 0} (scale : ℕ) (leaf : ℕ → ℕ) (span : V → Interval)
   lowered_below : (a b : V) (tree : Tree) → scoring.rank a ≤ scoring.rank b → scoring.below a tree
       ⊎ scoring.below b tree → scoring.below (scoring.lowered a b) tree
   lowered_below a b tree better (inl own) =
-      at_value (LowerBound tree) (lesser a b) ((λ h tall. lesser_below (span a).lo (span b).lo (10000 ^ h) _ (inl (own.0 h tall))), omega (arith, own.1))
+      at_value (LowerBound tree) (lesser a b) ((λ h tall. lesser_below (span a).lo (span b).lo (10000 ^ h) _ (inl (own.0 h tall))), omega (arith, own.1), own.2)
   lowered_below a b tree better (inr other) =
-      at_value (LowerBound tree) (lesser a b) ((λ h tall. lesser_below (span a).lo (span b).lo (10000 ^ h) _ (inr (other.0 h tall))), omega (arith, other.1))
+      at_value (LowerBound tree) (lesser a b) ((λ h tall. lesser_below (span a).lo (span b).lo (10000 ^ h) _ (inr (other.0 h tall))), omega (arith, other.1), omega (arith, other.2, better))
 
   abbrev exact : ℕ → Interval
   exact moment = record { lo = scale * leaf moment; hi = scale * leaf moment }
 
   pub span_laws : ScoreLaws scoring
   span_laws = record {
-    arrived_below = λ moment. at_value (LowerBound (Done moment)) (exact moment) ((λ h tall. omega (arith, mul_assoc scale (leaf moment) (10000 ^ h))), omega arith);
+    arrived_below = λ moment. at_value (LowerBound (Done moment)) (exact moment) ((λ h tall. omega (arith, mul_assoc scale (leaf moment) (10000 ^ h))), omega arith, omega arith);
     arrived_covers = λ moment. at_value (UpperBound (Done moment)) (exact moment) ((λ h tall. omega (arith, mul_assoc scale (leaf moment) (10000 ^ h))), refl);
     arrived_gap = λ moment. at_value (λ s. s.hi - s.lo ≡ 0) (exact moment) (omega arith);
     blended_below = λ row values kids enter exit good each. at_value (LowerBound (Ride enter exit kids))
-        (mean_of row (map span values)) (blended_below row values kids enter exit each, blended_down row values kids enter exit each);
+        (mean_of row (map span values)) (blended_below row values kids enter exit each, blended_down row values kids enter exit each, blended_least row values kids enter exit each);
     blended_covers = λ row values kids enter exit good each. at_value (UpperBound (Ride enter exit kids))
         (mean_of row (map span values)) (blended_covers row values kids enter exit each, blended_up row values kids enter exit each);
     blended_gap = λ row values most good as_many gaps. at_value (λ s. s.hi - s.lo ≤ most + 1) (mean_of row (map span values)) (blended_gap row values most good as_many gaps);
