@@ -1,0 +1,5 @@
+mod Common
+pub mod Trees
+pub mod Found
+pub mod Changes
+pub mod Compose

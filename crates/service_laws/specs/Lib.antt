@@ -1,0 +1,3 @@
+pub mod Embeds
+pub mod SafeToo
+pub mod Changed
