@@ -55,7 +55,7 @@ mutual
   worst_of_kept (Kid w t kids) (Kid v u others) c = omega (arith, worst_kept t u c.1, worst_of_kept kids others c.2)
   worst_of_kept _ _ c = absurd c
 
-weighed : (w v x y s t : ℕ) → w ≡ v → x ≤ y → s ≤ t → w * x + s ≤ v * y + t
+pub weighed : (w v x y s t : ℕ) → w ≡ v → x ≤ y → s ≤ t → w * x + s ≤ v * y + t
 weighed w v x y s t e here rest = rw e (omega (arith, mul-le-mul_left v here, rest))
 
 module _ (leaf : ℕ → ℕ) (rises : Rises leaf) where
