@@ -1,0 +1,4 @@
+pub mod MoreTrips
+pub mod NewTrip
+pub mod MoreRows
+pub mod MoreFiles
