@@ -1,8 +1,8 @@
 -- The files that a command reads, and the causes of their faults.
-use Rattle.std.specs.Prelude.{◌≡◌, ◌≢◌, ℕ, ◌+◌, List, [], ◌∷◌, length, Option, None, Some, Result, Ok, Err, IsErrAnd, if◌then◌else◌, nat_lt}
+use Rattle.std.specs.Prelude.{◌≡◌, ◌≢◌, ℕ, ◌+◌, ◌≤◌, List, [], ◌∷◌, length, Option, None, Some, Result, Ok, Err, IsErrAnd, IfSome, if◌then◌else◌, nat_lt}
 use Rattle.plan_model.specs.Results.{and_then}
 use Rattle.file_ports.specs.Counts.{HasCausesOf}
-use Rattle.file_ports.specs.Ports.{FilesState}
+use Rattle.file_ports.specs.Ports.{FileMap, FilesState, file_at}
 use Rattle.csv_rows.specs.FeedTables.{path_of as table_path}
 use Rattle.csv_rows.specs.Tables.{table_of}
 use Rattle.csv_rows.specs.declared.feed_tables.Table.{Table}
@@ -40,6 +40,21 @@ path_by timetable j own input.Proof = own input.Proof
 
 abbrev pub path_of : JourneyModel → OwnPaths → Input → Option (List ℕ)
 path_of j own = path_by j.timetable j own
+
+-- both files at each of these paths have the same bytes, or neither is there
+abbrev pub AgreeAt : (Input → Option (List ℕ)) → FileMap → FileMap → Type 0
+AgreeAt paths files others = (input : Input) → IfSome (paths input) (λ path. file_at files path ≡ file_at others path)
+
+-- neither file is there; or both have the same records, and are not too long
+abbrev pub HaveSameRecords : ℕ → Option (List ℕ) → Option (List ℕ) → Type 0
+HaveSameRecords most None None = Unit {0}
+HaveSameRecords most None (Some other) = ⊥
+HaveSameRecords most (Some file) None = ⊥
+HaveSameRecords most (Some file) (Some other) = (length file ≤ most) × (length other ≤ most) × (table_of file ≡ table_of other)
+
+-- so it is at each of these paths
+abbrev pub ReadAlikeAt : ℕ → (Input → Option (List ℕ)) → FileMap → FileMap → Type 0
+ReadAlikeAt most paths files others = (input : Input) → IfSome (paths input) (λ path. HaveSameRecords most (file_at files path) (file_at others path))
 
 -- the bytes of a file that is there and not too long
 abbrev pub bytes_present : ℕ → Input → Option (List ℕ) → Result (List ℕ) Fault

@@ -17,4 +17,7 @@ mod laws;
 pub use certificate_files::read_certificate_file;
 pub use graph_files::read_graph_file;
 pub use journey::problem_of;
-pub use laws::{files_have_one_problem, files_of_a_problem_have_no_fault};
+pub use laws::{
+    files_have_one_problem, files_of_a_problem_have_no_fault, only_own_files_count,
+    only_records_count, saving_elsewhere_keeps_own_files,
+};

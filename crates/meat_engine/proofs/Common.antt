@@ -25,7 +25,8 @@ pub use Rattle.journey_problem.specs.Problems.{HasTimetable, IsFaultless, IsProb
 pub use Rattle.journey_report.specs.Findings.{Findings, findings_of, no_findings}
 pub use Rattle.journey_report.specs.declared.answer.Answer.{Answer}
 pub use Rattle.journey_report.specs.declared.report.Report.{Report}
-pub use Rattle.meat_engine.specs.Asks.{AnswersAsk, EndsAsk, FailsAsk, FailsCheck, FailsJourney, FailsReplay, FailsScore, no_path, own_paths}
+pub use Rattle.meat_engine.specs.Asks.{AnswersAsk, EndsAsk, FailsAsk, FailsCheck, FailsJourney, FailsReplay, FailsScore, own_paths}
+pub use Rattle.journey_problem.specs.Paths.{no_path}
 pub use Rattle.meat_engine.specs.Ends.{EndsByCertificateFile, EndsByGraphFile, EndsBySafety, EndsByScore}
 pub use Rattle.meat_engine.specs.Received.{AnswersJob, Ending, FailsJob, IsExplained, IsLineWritten, IsRefused, IsRefusedWith, IsWritten, Outcome, OutcomeBy, Refused, ending_at, ending_of, path_in}
 pub use Rattle.meat_engine.specs.Refusals.{IsRefusalBy, known_of}

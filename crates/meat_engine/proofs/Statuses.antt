@@ -3,7 +3,7 @@ use Rattle.meat_engine.proofs.Common.{◌≡◌, ℕ, ap, refl, sym, ◌∙◌, 
 use Rattle.meat_engine.proofs.Common.{Fault, Read, NoMemory, status_of, IsUndisturbed, NamedParts, Problem, IsProblem, IsProblemFault, IsFaultless, no_fault, Report, EndsAsk, EndsBySafety}
 use Rattle.meat_engine.proofs.Common.{findings_of, Outcome, sample_journey, sample_alpha, FailsSample}
 use Rattle.feed_maker.specs.Made.{made, SameFolder}
-use Rattle.journey_problem.proofs.SameFiles.{same_feed_problem}
+use Rattle.journey_problem.proofs.SameFiles.{agree_all, own_problem}
 use Rattle.meat_engine.specs.Completeness.{IsComplete}
 use Rattle.meat_engine.proofs.Ended.{asked_ends, answers_end, EndsOver, ends_in, fails_over}
 use Rattle.meat_engine.proofs.Outcomes.{no_memory_or_not}
@@ -49,7 +49,7 @@ module _ (limits : Limits) (files : FileMap) (j : JourneyModel) (a : AskModel) (
 
 module _ (limits : Limits) (size : ℕ) where
   over_made : (files : FileMap) (p : Problem) → SameFolder (made size) files → IsProblem limits (made size) sample_journey p → IsProblem limits files sample_journey p
-  over_made files p same one = same_feed_problem limits (made size) files (λ path. sym (same path)) _ _ sample_journey p one
+  over_made files p same one = own_problem limits (made size) files sample_journey p (agree_all _ (made size) files (λ path. sym (same path))) one
 
   sample_in : (p : Problem) (known : Option NamedParts) (fault : Fault) (files : FileMap) → IsProblem limits files sample_journey p → ((i : Input) → fault ≡ Read i → ⊥) → fault ≢ NoMemory
       → EndsOver limits files sample_journey (Plan sample_alpha) (status_of (Some fault)) ⊎ IsProblemFault limits files sample_journey fault

@@ -1,5 +1,5 @@
 -- What is asked about a journey: its answers, why there are none, and what it ends with.
-use Rattle.std.specs.Prelude.{◌≡◌, ◌⊎◌, ℕ, List, Option, None, Some}
+use Rattle.std.specs.Prelude.{◌≡◌, ◌⊎◌, ℕ, List, Option, Some}
 use Rattle.file_ports.specs.Ports.{FileMap}
 use Rattle.csv_rows.specs.declared.limits.Limits.{Limits}
 use Rattle.command_line.specs.Jobs.{JourneyModel, AskModel, Safe, Expand, Plan, Replay, Certify, CheckProof, CheckGraph, Punctual, Departures, Latest}
@@ -12,7 +12,7 @@ use Rattle.journey_report.specs.Findings.{Findings}
 use Rattle.journey_model.specs.Known.{parts_of}
 use Rattle.journey_answers.specs.Answers.{InQuery, AnswersSafe, AnswersExpand, AnswersPlan, IsNoSafe}
 use Rattle.journey_answers.specs.Punctual.{AnswersPunctual}
-use Rattle.journey_problem.specs.Paths.{graph_path, certificate_path}
+use Rattle.journey_problem.specs.Paths.{no_path, graph_path, certificate_path}
 use Rattle.journey_problem.specs.GraphFiles.{InGraphFile, FailsGraph}
 use Rattle.journey_answers.specs.Trips.{AnswersReplay, IsTripFault}
 use Rattle.journey_answers.specs.Scores.{IsEnclosed, IsUnsafeGraph}
@@ -21,10 +21,6 @@ use Rattle.journey_answers.specs.Certified.{AnswersCertify}
 use Rattle.journey_problem.specs.CertificateFiles.{InCertificateFile, FailsCertificate}
 use Rattle.journey_answers.specs.Checks.{IsHeld, IsBroken}
 use Rattle.journey_answers.specs.Departures.{query_until, AnswersDepartures, AnswersLatest, FailsDepartures, FailsLatest}
-
--- no file is read beside those of the journey
-abbrev pub no_path : OwnPaths
-no_path input = None
 
 -- the paths of the files that are read beside those of the journey
 abbrev pub own_paths : AskModel → OwnPaths

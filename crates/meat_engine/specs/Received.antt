@@ -14,9 +14,10 @@ use Rattle.journey_model.specs.FaultLines.{line_of, IsFormatted}
 use Rattle.journey_model.specs.Sites.{NamedParts}
 use Rattle.journey_model.specs.Stages.{Stage, stage_of, AtWords, AtTimetable, AtDelays, AtStops, AtWindow, AtGraphFile, AtCertificateFile, AtOutcome, AtOutput, AtMemory}
 use Rattle.journey_problem.specs.Files.{path_of}
+use Rattle.journey_problem.specs.Paths.{no_path}
 use Rattle.journey_problem.specs.Problems.{InProblem}
 use Rattle.journey_report.specs.declared.report.Report.{Report}
-use Rattle.meat_engine.specs.Asks.{own_paths, no_path, AnswersAsk, FailsJourney}
+use Rattle.meat_engine.specs.Asks.{own_paths, AnswersAsk, FailsJourney}
 use Rattle.journey_report.specs.Findings.{Findings, findings_of, no_findings}
 use Rattle.meat_engine.specs.Samples.{AnswersSample, FailsSample}
 

@@ -1,9 +1,10 @@
 -- Two runs agree.
-use Rattle.run_laws.proofs.Common.{◌≡◌, ◌≢◌, ℕ, ◌≤◌, List, length, Option, None, Some, Result, Ok, Err, arith, ◌↔◌, inl, inr, refl, sym, subst, ap, ◌∙◌, Appends, FileMap, file_at, Limits, Moment}
+use Rattle.run_laws.proofs.Common.{◌≡◌, ℕ, ◌≤◌, List, length, Option, None, Some, Result, Ok, Err, arith, ◌↔◌, inl, inr, refl, sym, subst, ap, ◌∙◌, Appends, FileMap, file_at, Limits, Moment}
 use Rattle.run_laws.proofs.Common.{Query, IsLeastWorst, PlanGraph, JobModel, JourneyModel, AskModel, Ask, Safe, Expand, Plan, Certify, CheckProof, CheckGraph, Punctual, Departures, Latest, job_of}
 use Rattle.run_laws.proofs.Common.{Fault, Problem, status_of, HasOneProblem, IsProblem, Findings, findings_of, Head, graph_of, NetworkModel, IsValid, graph_in, graph_as, trip_by, AnswersPlan}
-use Rattle.run_laws.proofs.Common.{head_of, AnswersCertify, query_until, AnswersAsk, EndsAsk, FailsJourney, FailsScore, EndsByGraphFile, EndsByWalk, AnswersJob, NamedParts, KnownRun, EndsWell}
-use Rattle.run_laws.proofs.Common.{IsCalmRun, worst_kept, no_worse, of_last_row}
+use Rattle.run_laws.proofs.Common.{head_of, AnswersCertify, query_until, AnswersAsk, EndsAsk, FailsJourney, FailsScore, EndsByGraphFile, EndsByWalk, AnswersJob, NamedParts, own_problem, WritesLine, Interval, IsEnclosed, punctual_row, [], ◌++◌}
+use Rattle.run_laws.proofs.Common.{RunModel, IsRunWithin, IsUntroubled, worst_kept, no_worse, of_last_row}
+use Rattle.std.proofs.Common.{IsSome}
 use Rattle.std.proofs.lemmas.List.{append_cancel_left}
 use Rattle.command_line.specs.Jobs.{Replay}
 use Rattle.journey_model.specs.declared.faults.Fault.TheVariants as fault
@@ -12,23 +13,27 @@ use Rattle.graph_text.specs.declared.reader.TextFault.{TextFault}
 use Rattle.graph_text.specs.declared.reader.TextFault.TheVariants as reader
 use Rattle.graph_text.specs.FirstFaults.{IsFirstFaultOf}
 use Rattle.plan_model.specs.NameLists.{NameLists}
+use Rattle.meat_engine.specs.Received.{Outcome}
 use Rattle.meat_engine.proofs.Undisturbed.{fails as job_fails}
-use Rattle.run_laws.specs.Pairs.{RunModel, IsRunWithin, IsUntroubled, AskBoth, IsSaved, OrStatus9, EndAlike, PlanIsAccepted, PlanIsReplayed, CertificateIsAccepted, LeaveAlike, LeaveByWorst}
+use Rattle.run_laws.specs.Pairs.{AskBoth, IsSaved, OrStatus9, PlanIsAccepted, PlanIsReplayed, IsReplayed, PunctualIsAccepted, PunctualIsReplayed, CertificateIsAccepted, LeaveAlike, LeaveByWorst, NeverLeave, SearchAlike, ShareQuery}
 use Rattle.run_laws.specs.Pairs.{CertificateIsWithin, ShareStrategy, PromiseIsSure, WorstIsKept, LaterIsNoWorse, LatestIsOfLastRow, FaultIsFirst, Agree}
 use Rattle.late_chance.proofs.Rounded.{no_chance}
-use Rattle.run_laws.proofs.Asks.{answer_of}
+use Rattle.run_laws.proofs.Asks.{answer_of, outcome_of}
+use Rattle.run_laws.proofs.BySafety.{one_status, never_latest, by_safety, asked_by, one_asked}
 use Rattle.run_laws.proofs.Certified.{printed_certificate, value_within}
 use Rattle.run_laws.proofs.Departing.{alike, by_worst}
-use Rattle.run_laws.proofs.Ends.{one_end}
+use Rattle.run_laws.proofs.Ends.{one_end, forms_end}
 use Rattle.run_laws.proofs.OneFile.{one_ok, never_both}
 use Rattle.run_laws.proofs.Plans.{one_strategy}
-use Rattle.run_laws.proofs.Printed.{read_again, printed_plan, keeps_upper, never_stuck, always_arrives}
+use Rattle.run_laws.specs.Printed.{KeepsUpperBound}
+use Rattle.run_laws.proofs.Printed.{IsSafeText, IsAfterRow, of_plan, of_punctual, read_again, accepted as accept, not_stuck, there_is_a_trip, enclosed, keeps_upper}
 use Rattle.run_laws.proofs.Queries.{in_one_query, worst_is}
 
 -- what was written after the same bytes was one text
-one_text : (old text other : List ℕ) (new : Option (List ℕ)) → Appends (Some old) new text → Appends (Some old) new other → text ≡ other
-one_text old text other None first second = absurd first
-one_text old text other (Some new) first second = append_cancel_left old text other (sym first ∙ second)
+one_text : (old : Option (List ℕ)) (text other : List ℕ) (new : Option (List ℕ)) → IsSome old → Appends old new text → Appends old new other → text ≡ other
+one_text None text other new known first second = absurd (cc)
+one_text (Some old) text other None known first second = absurd first
+one_text (Some old) text other (Some new) known first second = append_cancel_left old text other (sym first ∙ second)
 
 -- a run that ends with 0 has no fault
 no_fault_of : (fault : Option Fault) → status_of fault ≡ 0 → fault ≡ None
@@ -83,37 +88,19 @@ as_text (Err (reader.NoLeg line)) f is = cc
 as_text (Err (reader.OtherQuery line)) f is = cc
 as_text (Err reader.NoMemory) f is = absurd (cc)
 
-module _ (limits : Limits) (files : FileMap) (old said : List ℕ) (r : RunModel) (run : IsRunWithin limits r) (calm : IsUntroubled files old said r) where
-  -- the run, by its states
-  known_run : KnownRun files limits r.words r.report old r.after.out.written
-  known_run = grind arith
-
-  -- and that nothing failed in it
-  calm_run : r.report.fault ≢ Some fault.NoMemory → IsCalmRun files limits r.words r.report old said r.after.out.written r.after.err.written
-  unfolding known_run
-  calm_run memory = record {
-    known = known_run;
-    had_said = calm.had_said;
-    has_said = refl;
-    files_calm = calm.files_calm;
-    out_calm = calm.out_calm;
-    err_calm = calm.err_calm;
-    memory = memory;
-  }
-
+module _ (limits : Limits) (files : FileMap) (r : RunModel) (run : IsRunWithin limits r) (calm : IsUntroubled files r) where
   module _ (j : JourneyModel) (a : AskModel) (asks : job_of r.words ≡ Ok (Ask j a)) where
     -- what it answered, where it has no fault
     pub record Answered : Type 0 where
       text : List ℕ
-      written : Appends (Some old) r.after.out.written text
+      written : Appends r.before.out.written r.after.out.written text
       p : Problem
       is_problem : IsProblem limits files j p
       answers : AnswersAsk (Some files) limits j.start p a (findings_of r.report) text
 
     answered : r.report.fault ≡ None → Answered
     answered none =
-        let ends : EndsWell files limits r.words r.report old r.after.out.written = record { known = known_run; no_fault = none } in
-        let (text, (wanted, is, answers), written) = answer_of files limits r.words r.report old r.after.out.written ends in
+        let (text, (wanted, is, answers), written) = answer_of limits files r run calm.reports none in
         let (p, has, there, reported) = subst (λ (w : JobModel). AnswersJob (Some files) limits w (findings_of r.report) text) (same_job r.words j a wanted is asks) answers in
         record { text = text; written = written; p = p; is_problem = there; answers = reported }
 
@@ -129,110 +116,186 @@ or_nine s f (inl holds) = inl (f holds)
 or_nine s f (inr nine) = inr nine
 
 module _ (limits : Limits) (r s : RunModel) (first : IsRunWithin limits r) (second : IsRunWithin limits s) (one_problem : HasOneProblem) where
-  ends_alike : EndAlike r s
-  ends_alike files old said calm also words memory other =
-      let run = calm_run limits files old said r first calm memory in
-      let again = calm_run limits files old said s second also other in
-      let same = subst (λ (w : List (List ℕ)). IsCalmRun files limits w s.report old said s.after.out.written s.after.err.written) (sym words) again in
-      one_end one_problem files limits r.words r.report s.report old said r.after.out.written s.after.out.written r.after.err.written s.after.err.written run same
-
-  module _ (files : FileMap) (j : JourneyModel) (a b : AskModel) (both : AskBoth files j a b r s) where
+  module _ (files others : FileMap) (j : JourneyModel) (a b : AskModel) (both : AskBoth files others j a b r s) where
     abbrev First : Type 0
-    First = Answered limits files both.old both.said r first both.first j a both.first_asks
+    First = Answered limits files r first both.first j a both.first_asks
 
     of_first : r.report.fault ≡ None → First
-    of_first = answered limits files both.old both.said r first both.first j a both.first_asks
+    of_first = answered limits files r first both.first j a both.first_asks
 
     abbrev Second : Type 0
-    Second = Answered limits files both.other_old both.other_said s second both.second j b both.second_asks
+    Second = Answered limits others s second both.second j b both.second_asks
 
     of_second : s.report.fault ≡ None → Second
-    of_second = answered limits files both.other_old both.other_said s second both.second j b both.second_asks
+    of_second = answered limits others s second both.second j b both.second_asks
+
+    -- the problem of the files of the first is that of the files of the second
+    other_problem : (p : Problem) → IsProblem limits files j p → IsProblem limits others j p
+    other_problem p is = own_problem limits files others j p both.agree is
 
     -- the answers of one run, over the problem of the other
-    second_over : (p : Problem) → IsProblem limits files j p → (w : Second) → AnswersAsk (Some files) limits j.start p b (findings_of s.report) w.text
-    second_over p is w = subst (λ (q : Problem). AnswersAsk (Some files) limits j.start q b (findings_of s.report) w.text) (one_problem limits files j w.p p w.is_problem is) w.answers
+    second_over : (p : Problem) → IsProblem limits files j p → (w : Second) → AnswersAsk (Some others) limits j.start p b (findings_of s.report) w.text
+    second_over p is w =
+        subst (λ (q : Problem). AnswersAsk (Some others) limits j.start q b (findings_of s.report) w.text) (one_problem limits others j w.p p w.is_problem (other_problem p is)) w.answers
 
     first_over : (p : Problem) → IsProblem limits files j p → (w : First) → AnswersAsk (Some files) limits j.start p a (findings_of r.report) w.text
     first_over p is w = subst (λ (q : Problem). AnswersAsk (Some files) limits j.start q a (findings_of r.report) w.text) (one_problem limits files j w.p p w.is_problem is) w.answers
 
-    second_ends : (p : Problem) → IsProblem limits files j p → OrStatus9 s (EndsAsk limits files j.start p b s.report.status.0)
-    second_ends = ends_so limits files both.other_old both.other_said s second both.second j b both.second_asks
+    second_ends : (p : Problem) → IsProblem limits files j p → OrStatus9 s (EndsAsk limits others j.start p b s.report.status.0)
+    second_ends p is = ends_so limits others s second both.second j b both.second_asks p (other_problem p is)
 
     first_ends : (p : Problem) → IsProblem limits files j p → OrStatus9 r (EndsAsk limits files j.start p a r.report.status.0)
-    first_ends = ends_so limits files both.old both.said r first both.first j a both.first_asks
+    first_ends = ends_so limits files r first both.first j a both.first_asks
 
     second_none : s.report.status.0 ≡ 0 → s.report.fault ≡ None
-    second_none = no_fault limits files both.other_old both.other_said s second both.second
+    second_none = no_fault limits others s second both.second
 
-    -- the text that the first wrote is that which is kept
-    kept_text : (path : List ℕ) (kept : IsSaved limits files path r) (w : First) → kept.text ≡ w.text
-    kept_text path kept w = grind (arith, one_text)
+    -- what the first wrote is what was kept, after its front
+    kept_text : (path front : List ℕ) (kept : IsSaved limits others path front r) (w : First) → front ++ kept.text ≡ w.text
+    kept_text path front kept w = one_text r.before.out.written (front ++ kept.text) w.text r.after.out.written kept.known kept.written w.written
 
-    there : (path : List ℕ) (kept : IsSaved limits files path r) (w : First) → file_at files path ≡ Some w.text
-    there path kept w = kept.there ∙ ap (λ (t : List ℕ). Some t) (kept_text path kept w)
+    there : (path : List ℕ) (kept : IsSaved limits others path [] r) (w : First) → file_at others path ≡ Some w.text
+    there path kept w = kept.there ∙ ap (λ (t : List ℕ). Some t) (kept_text path [] kept w)
 
-    small : (path : List ℕ) (kept : IsSaved limits files path r) (w : First) → length w.text ≤ limits.bytes
-    small path kept w = subst (λ (t : List ℕ). length t ≤ limits.bytes) (kept_text path kept w) kept.small
+    small : (path : List ℕ) (kept : IsSaved limits others path [] r) (w : First) → length w.text ≤ limits.bytes
+    small path kept w = subst (λ (t : List ℕ). length t ≤ limits.bytes) (kept_text path [] kept w) kept.small
+
+  -- a graph file whose strategy is safe
+  module _ (files others : FileMap) (j : JourneyModel) (a : AskModel) (path text : List ℕ) (p : Problem) (is_problem : IsProblem limits files j p) (own : IsSafeText j.start p text)
+      (in_file : file_at others path ≡ Some text) (fits : length text ≤ limits.bytes) where
+    -- is accepted by the second run
+    accepted_by : (both : AskBoth files others j a (CheckGraph path) r s) (P : Type 0)
+        → ((line : List ℕ) → IsEnclosed p (findings_of s.report) line (head_of own.q own.bounds) own.graph → P) → OrStatus9 s ((s.report.status.0 ≡ 0) × P)
+    accepted_by both P keeps =
+        or_nine s (λ ends.
+        let zero = accept limits others j.start p text path own in_file fits s.report.status.0 ends in
+        let v = of_second files others j a (CheckGraph path) both (second_none files others j a (CheckGraph path) both zero) in
+        let checks = second_over files others j a (CheckGraph path) both p is_problem v in
+        (zero, keeps v.text (enclosed limits others j.start p text path own in_file fits (findings_of s.report) v.text checks)))
+        (second_ends files others j a (CheckGraph path) both p is_problem)
+
+    -- or replayed by it
+    replayed_by : (late : List ℕ) → AskBoth files others j a (Replay path late) r s → IsReplayed limits others j path late s
+    replayed_by late both =
+        let again = read_again limits others j.start p text path own in_file fits in
+        record {
+          problem = p;
+          is_problem = other_problem files others j a (Replay path late) both p is_problem;
+          head = head_of own.q own.bounds;
+          graph = own.graph;
+          reads = again;
+          ends = or_nine s (walk_ends limits others j.start path late p s.report.status.0 (head_of own.q own.bounds) own.graph again) (second_ends files others j a (Replay path late) both p is_problem);
+          safe = not_stuck limits others j.start p text path own in_file fits late (head_of own.q own.bounds) own.graph again;
+          arrives = λ lates. there_is_a_trip limits others j.start p text path own in_file fits lates;
+        }
 
   accepted : PlanIsAccepted limits r s
-  accepted files j alpha path both kept =
-      let w = of_first files j (Plan alpha) (CheckGraph path) both kept.no_fault in
-      let in_file = there files j (Plan alpha) (CheckGraph path) both path kept w in
-      let fits = small files j (Plan alpha) (CheckGraph path) both path kept w in
-      or_nine s (λ ends.
-      let zero = printed_plan limits files j.start alpha w.p (findings_of r.report) w.text path s.report.status.0 w.answers in_file fits ends in
-      let v = of_second files j (Plan alpha) (CheckGraph path) both (second_none files j (Plan alpha) (CheckGraph path) both zero) in
-      let checks = second_over files j (Plan alpha) (CheckGraph path) both w.p w.is_problem v in
-      (zero, keeps_upper limits files j.start alpha w.p (findings_of r.report) (findings_of s.report) w.text path v.text w.answers in_file fits checks))
-      (second_ends files j (Plan alpha) (CheckGraph path) both w.p w.is_problem)
+  accepted files others j alpha path both kept =
+      let w = of_first files others j (Plan alpha) (CheckGraph path) both kept.no_fault in
+      let in_file = there files others j (Plan alpha) (CheckGraph path) both path kept w in
+      let fits = small files others j (Plan alpha) (CheckGraph path) both path kept w in
+      accepted_by files others j (Plan alpha) path w.text w.p w.is_problem (of_plan j.start alpha w.p (findings_of r.report) w.text w.answers) in_file fits both
+      (KeepsUpperBound (findings_of r.report) (findings_of s.report)) (keeps_upper j.start alpha w.p (findings_of r.report) w.text w.answers (findings_of s.report))
 
   replayed : PlanIsReplayed limits r s
-  replayed files j alpha path late both kept =
-      let w = of_first files j (Plan alpha) (Replay path late) both kept.no_fault in
-      let in_file = there files j (Plan alpha) (Replay path late) both path kept w in
-      let fits = small files j (Plan alpha) (Replay path late) both path kept w in
-      let (q, worst, asked, (graph, bounds, is, planned, reported, reads)) = w.answers in
-      let again = read_again limits files j.start w.p path q bounds graph w.text asked.source asked.target asked.start_is reads in_file fits in
-      record {
-        problem = w.p;
-        is_problem = w.is_problem;
-        head = head_of q bounds;
-        graph = graph;
-        reads = again;
-        ends = or_nine s (walk_ends limits files j.start path late w.p s.report.status.0 (head_of q bounds) graph again) (second_ends files j (Plan alpha) (Replay path late) both w.p w.is_problem);
-        safe = never_stuck limits files j.start alpha w.p (findings_of r.report) w.text path late w.answers in_file fits (head_of q bounds) graph again;
-        arrives = λ lates. always_arrives limits files j.start alpha w.p (findings_of r.report) w.text path lates w.answers in_file fits;
-      }
+  replayed files others j alpha path late both kept =
+      let w = of_first files others j (Plan alpha) (Replay path late) both kept.no_fault in
+      replayed_by files others j (Plan alpha) path w.text w.p w.is_problem (of_plan j.start alpha w.p (findings_of r.report) w.text w.answers)
+      (there files others j (Plan alpha) (Replay path late) both path kept w) (small files others j (Plan alpha) (Replay path late) both path kept w) late both
+
+  module _ (files others : FileMap) (j : JourneyModel) (alpha promise : ℕ) (b : AskModel) (path : List ℕ) (chance : Interval) (both : AskBoth files others j (Punctual alpha promise) b r s)
+      (is : r.report.chance ≡ Some chance) (kept : IsSaved limits others path (punctual_row promise chance) r) where
+    prints : First files others j (Punctual alpha promise) b both
+    prints = of_first files others j (Punctual alpha promise) b both kept.no_fault
+
+    -- the text of `punctual` by its row
+    after_row : IsAfterRow j.start alpha prints.p (findings_of r.report) prints.text promise
+    after_row = of_punctual j.start alpha prints.p (findings_of r.report) prints.text promise prints.answers
+
+    rest_is : kept.text ≡ after_row.rest
+    rest_is =
+        let same = one_some after_row.chance chance r.report.chance after_row.found_is is in
+        let rows = kept_text files others j (Punctual alpha promise) b both path (punctual_row promise chance) kept prints ∙ after_row.rows in
+        append_cancel_left (punctual_row promise chance) kept.text after_row.rest (rows ∙ ap (λ (c : Interval). punctual_row promise c ++ after_row.rest) same)
+
+    rest_there : file_at others path ≡ Some after_row.rest
+    rest_there = kept.there ∙ ap (λ (t : List ℕ). Some t) rest_is
+
+    rest_small : length after_row.rest ≤ limits.bytes
+    rest_small = subst (λ (t : List ℕ). length t ≤ limits.bytes) rest_is kept.small
+
+  punctual_accepted : PunctualIsAccepted limits r s
+  punctual_accepted files others j alpha promise path chance both is kept =
+      let w = prints files others j alpha promise (CheckGraph path) path chance both is kept in
+      let row = after_row files others j alpha promise (CheckGraph path) path chance both is kept in
+      accepted_by files others j (Punctual alpha promise) path row.rest w.p w.is_problem row.safe_text
+      (rest_there files others j alpha promise (CheckGraph path) path chance both is kept) (rest_small files others j alpha promise (CheckGraph path) path chance both is kept) both
+      (r.report.bounds ≡ s.report.bounds)
+      (λ line own. row.bounds_is ∙ ap (λ (b : Interval). Some b) (row.means ∙ sym own.scored.means) ∙ sym (ap (λ (f : Findings). f.bounds) own.found_is))
+
+  punctual_replayed : PunctualIsReplayed limits r s
+  punctual_replayed files others j alpha promise path late chance both is kept =
+      let w = prints files others j alpha promise (Replay path late) path chance both is kept in
+      let row = after_row files others j alpha promise (Replay path late) path chance both is kept in
+      replayed_by files others j (Punctual alpha promise) path row.rest w.p w.is_problem row.safe_text
+      (rest_there files others j alpha promise (Replay path late) path chance both is kept) (rest_small files others j alpha promise (Replay path late) path chance both is kept) late both
 
   certified : CertificateIsAccepted limits r s
-  certified files j alpha path both kept =
-      let w = of_first files j (Certify alpha) (CheckProof path) both kept.no_fault in
-      let in_file = there files j (Certify alpha) (CheckProof path) both path kept w in
-      let fits = small files j (Certify alpha) (CheckProof path) both path kept w in
-      or_nine s (printed_certificate limits files j.start alpha w.p (findings_of r.report) w.text path s.report.status.0 w.answers in_file fits)
-      (second_ends files j (Certify alpha) (CheckProof path) both w.p w.is_problem)
+  certified files others j alpha path both kept =
+      let w = of_first files others j (Certify alpha) (CheckProof path) both kept.no_fault in
+      let in_file = there files others j (Certify alpha) (CheckProof path) both path kept w in
+      let fits = small files others j (Certify alpha) (CheckProof path) both path kept w in
+      or_nine s (printed_certificate limits others j.start alpha w.p (findings_of r.report) w.text path s.report.status.0 w.answers in_file fits)
+      (second_ends files others j (Certify alpha) (CheckProof path) both w.p w.is_problem)
 
   leave : LeaveAlike limits r s
-  leave files j until last p both is =
+  leave files others j until last p both is =
       or_nine r (λ latest. or_nine s (alike p (query_until p j.start until) r.report.status.0 s.report.status.0 latest)
-      (second_ends files j (Latest until) (Departures until last) both p is))
-      (first_ends files j (Latest until) (Departures until last) both p is)
+      (second_ends files others j (Latest until) (Departures until last) both p is))
+      (first_ends files others j (Latest until) (Departures until last) both p is)
 
   left_by_worst : LeaveByWorst r s
-  left_by_worst files j alpha until worst both none is =
-      let w = of_first files j (Safe alpha) (Latest until) both none in
+  left_by_worst files others j alpha until worst both none is =
+      let w = of_first files others j (Safe alpha) (Latest until) both none in
       let (q, v, asked, (found, text)) = w.answers in
       let same = one_some v worst r.report.worst (ap (λ (f : Findings). f.worst) found) is in
       let least = subst (λ (m : Moment). IsLeastWorst w.p.timetable.network w.p.source.0 w.p.target.0 j.start (Some m)) same (worst_is w.p j.start alpha q v asked) in
-      or_nine s (by_worst w.p j.start until worst s.report.status.0 least) (second_ends files j (Safe alpha) (Latest until) both w.p w.is_problem)
+      or_nine s (by_worst w.p j.start until worst s.report.status.0 least) (second_ends files others j (Safe alpha) (Latest until) both w.p w.is_problem)
+
+  -- over files of which `safe` finds that no strategy is safe
+  never_left : NeverLeave r s
+  never_left files others j alpha until both none =
+      let outcome = subst (λ (f : Option Fault). Outcome (Some files) limits r.words r.report r.before.out.written r.after.out.written (WritesLine r.before.err r.after.err) f)
+      none (outcome_of limits files r first both.first.reports) in
+      let (known, why) = job_fails (Some files) limits r.words r.report r.before.out.written r.after.out.written (WritesLine r.before.err r.after.err) fault.NoSafe outcome
+      (λ e. absurd (cc)) (λ e. absurd (cc)) (Ask j (Safe alpha)) both.first_asks in
+      by_cause known why
+    where
+      by_cause : (known : Option NamedParts) → FailsJourney (Some files) limits j (Safe alpha) known fault.NoSafe → OrStatus9 s (s.report.status.0 ≡ 1)
+      by_cause known (inr early) = absurd (early.0.stage)
+      by_cause known (inl (p, has, is, (named, fails))) =
+          or_nine s (never_latest p j.start until s.report.status.0 fails.1) (second_ends files others j (Safe alpha) (Latest until) both p is)
+
+  search_alike : SearchAlike limits r s
+  search_alike files others j alpha beta a b p both one two is =
+      or_nine r (λ ends. or_nine s (λ also. one_status p j.start r.report.status.0 s.report.status.0
+      (by_safety p j.start limits files alpha a r.report.status.0 one ends) (by_safety p j.start limits others beta b s.report.status.0 two also))
+      (second_ends files others j a b both p is))
+      (first_ends files others j a b both p is)
+
+  share_query : ShareQuery r s
+  share_query files others j alpha a b both one two well =
+      let w = of_first files others j a b both well.first in
+      let v = of_second files others j a b both well.second in
+      one_asked w.p j.start alpha limits files others (findings_of r.report) (findings_of s.report) (asked_by w.p j.start limits files alpha a (findings_of r.report) w.text one w.answers)
+      (asked_by w.p j.start limits others alpha b (findings_of s.report) v.text two (second_over files others j a b both w.p w.is_problem v))
 
   within : CertificateIsWithin limits r s
-  within files j alpha p query bounds proof v both well is query_is bounds_is certificate_is least =
-      let plans = first_over files j (Plan alpha) (Certify alpha) both p is (of_first files j (Plan alpha) (Certify alpha) both well.first) in
-      let other = of_second files j (Plan alpha) (Certify alpha) both well.second in
+  within files others j alpha p query bounds proof v both well is query_is bounds_is certificate_is least =
+      let plans = first_over files others j (Plan alpha) (Certify alpha) both p is (of_first files others j (Plan alpha) (Certify alpha) both well.first) in
+      let other = of_second files others j (Plan alpha) (Certify alpha) both well.second in
       let (q, worst, asked, (graph, span, found, planned, reported, reads)) = plans in
-      let (t, w, also, certificate) = second_over files j (Plan alpha) (Certify alpha) both p is other in
+      let (t, w, also, certificate) = second_over files others j (Plan alpha) (Certify alpha) both p is other in
       let one = in_one_query p j.start alpha (AnswersCertify p (findings_of s.report) other.text) q t worst w asked also certificate in
       let same_query = one_some q query r.report.query (ap (λ (f : Findings). f.query) found) query_is in
       let same_bounds = one_some span bounds r.report.bounds (ap (λ (f : Findings). f.bounds) found) bounds_is in
@@ -240,29 +303,29 @@ module _ (limits : Limits) (r s : RunModel) (first : IsRunWithin limits r) (seco
       value_within p.timetable.network query graph bounds proof.values v (rw (sym same_query, sym same_bounds) planned) (rw (sym same_query, sym same_certificate) one.best) least
 
   strategy : ShareStrategy limits r s
-  strategy files j alpha p query rides places bounds others both well is query_is rides_is places_is bounds_is others_is =
-      let other = of_second files j (Expand alpha) (Plan alpha) both well.second in
-      let (q, worst, asked, (graph, span, found, expanded, text)) = first_over files j (Expand alpha) (Plan alpha) both p is (of_first files j (Expand alpha) (Plan alpha) both well.first) in
-      let (t, w, also, plans) = second_over files j (Expand alpha) (Plan alpha) both p is other in
+  strategy files others j alpha p query rides places bounds other_bounds both well is query_is rides_is places_is bounds_is spans_is =
+      let other = of_second files others j (Expand alpha) (Plan alpha) both well.second in
+      let (q, worst, asked, (graph, span, found, expanded, text)) = first_over files others j (Expand alpha) (Plan alpha) both p is (of_first files others j (Expand alpha) (Plan alpha) both well.first) in
+      let (t, w, also, plans) = second_over files others j (Expand alpha) (Plan alpha) both p is other in
       let (table, spans, found_too, planned, printed, reads) = in_one_query p j.start alpha (AnswersPlan p (findings_of s.report) other.text) q t worst w asked also plans in
       let same_query = one_some q query r.report.query (ap (λ (f : Findings). f.query) found) query_is in
       let same_rides = one_some graph rides r.report.expanded (ap (λ (f : Findings). f.expanded) found) rides_is in
       let same_places = one_some table places s.report.graph (ap (λ (f : Findings). f.graph) found_too) places_is in
       let same_bounds = one_some span bounds r.report.bounds (ap (λ (f : Findings). f.bounds) found) bounds_is in
-      let same_others = one_some spans others s.report.bounds (ap (λ (f : Findings). f.bounds) found_too) others_is in
-      one_strategy p.timetable.network query rides places bounds others (rw (sym same_query, sym same_rides, sym same_bounds) expanded) (rw (sym same_query, sym same_places, sym same_others) planned)
+      let same_others = one_some spans other_bounds s.report.bounds (ap (λ (f : Findings). f.bounds) found_too) spans_is in
+      one_strategy p.timetable.network query rides places bounds other_bounds (rw (sym same_query, sym same_rides, sym same_bounds) expanded) (rw (sym same_query, sym same_places, sym same_others) planned)
 
   promise_is_sure : PromiseIsSure r
-  promise_is_sure files old said j alpha promise query chance one query_is chance_is by =
-      let w = answered limits files old said r first one.untroubled j (Punctual alpha promise) one.asks one.no_fault in
+  promise_is_sure files j alpha promise query chance one query_is chance_is by =
+      let w = answered limits files r first one.untroubled j (Punctual alpha promise) one.asks one.no_fault in
       let (q, v, asked, (graph, least, bounds, found, punctual, seen, scored, printed)) = w.answers in
       let same_query = one_some q query r.report.query (ap (λ (f : Findings). f.query) found) query_is in
       let same_chance = one_some least chance r.report.chance (ap (λ (f : Findings). f.chance) found) chance_is in
       no_chance w.p.timetable.network query promise graph chance (rw (sym same_query, sym same_chance) punctual) by
 
   worst_is_kept : WorstIsKept limits r
-  worst_is_kept files old said j alpha p query graph one is query_is graph_is arrives =
-      let w = answered limits files old said r first one.untroubled j (Plan alpha) one.asks one.no_fault in
+  worst_is_kept files j alpha p query graph one is query_is graph_is arrives =
+      let w = answered limits files r first one.untroubled j (Plan alpha) one.asks one.no_fault in
       let (q, v, asked, (table, bounds, found, planned, printed, reads)) =
       subst (λ (x : Problem). AnswersAsk (Some files) limits j.start x (Plan alpha) (findings_of r.report) w.text) (one_problem limits files j w.p p w.is_problem is) w.answers in
       let same_query = one_some q query r.report.query (ap (λ (f : Findings). f.query) found) query_is in
@@ -273,12 +336,24 @@ module _ (limits : Limits) (r s : RunModel) (first : IsRunWithin limits r) (seco
       worst_kept p.timetable.network query graph bounds (rw (sym same_query, sym same_graph) planned) own_least
 
   later_is_no_worse : LaterIsNoWorse r s
-  later_is_no_worse files j alpha beta query other bounds later both well query_is other_is bounds_is later_is by = grind (arith, of_first, second_over, of_second, one_some, no_worse)
+  later_is_no_worse files others j alpha beta query other bounds later both well query_is other_is bounds_is later_is by =
+      let w = of_first files others j (Plan alpha) (Plan beta) both well.first in
+      let (q, v, asked, (graph, span, found, planned, printed, reads)) = w.answers in
+      let (t, u, also, (table, spans, found_too, planned_too, printed_too, reads_too)) =
+      second_over files others j (Plan alpha) (Plan beta) both w.p w.is_problem (of_second files others j (Plan alpha) (Plan beta) both well.second) in
+      let same_query = one_some q query r.report.query (ap (λ (f : Findings). f.query) found) query_is in
+      let same_other = one_some t other s.report.query (ap (λ (f : Findings). f.query) found_too) other_is in
+      let same_bounds = one_some span bounds r.report.bounds (ap (λ (f : Findings). f.bounds) found) bounds_is in
+      let same_later = one_some spans later s.report.bounds (ap (λ (f : Findings). f.bounds) found_too) later_is in
+      let less = subst (λ (z : Query). z.deadline.0 ≤ t.deadline.0) (sym same_query) (subst (λ (z : Query). query.deadline.0 ≤ z.deadline.0) (sym same_other) by) in
+      let worse = no_worse w.p.timetable.network q t graph table span spans planned planned_too (also.source ∙ sym asked.source) (also.target ∙ sym asked.target)
+      (also.start_is ∙ sym asked.start_is) less in
+      rw (sym same_later, sym same_bounds) worse
 
   latest_is_of_last_row : LatestIsOfLastRow r s
-  latest_is_of_last_row files j until last query latest rows both well query_is differ before latest_is rows_is =
-      let w = of_first files j (Latest until) (Departures until last) both well.first in
-      let x = second_over files j (Latest until) (Departures until last) both w.p w.is_problem (of_second files j (Latest until) (Departures until last) both well.second) in
+  latest_is_of_last_row files others j until last query latest rows both well query_is differ before latest_is rows_is =
+      let w = of_first files others j (Latest until) (Departures until last) both well.first in
+      let x = second_over files others j (Latest until) (Departures until last) both w.p w.is_problem (of_second files others j (Latest until) (Departures until last) both well.second) in
       let (moment, found, greatest, printed) = w.answers in
       let (table, found_too, are, safe, printed_too) = x in
       let q = query_until w.p j.start until in
@@ -307,16 +382,22 @@ module _ (limits : Limits) (r s : RunModel) (first : IsRunWithin limits r) (seco
     of_journey known is (inr early) there small = absurd (early.0.stage)
 
   first_fault : FaultsAreReported → FaultIsFirst limits r
-  first_fault reported files old said j path text p f calm asks is there small fails = grind (arith, job_fails, of_journey)
+  first_fault reported files j path text p f calm asks is there small fails = grind (arith, job_fails, of_journey)
 
   pub agree : FaultsAreReported → Agree limits r s
   agree reported = record {
-    alike = ends_alike;
+    alike = one_end one_problem limits r s first second;
+    forms = forms_end one_problem limits r s first second;
     accepted = accepted;
     replayed = replayed;
+    punctual = punctual_accepted;
+    punctual_replayed = punctual_replayed;
     certified = certified;
     leave = leave;
     by_worst = left_by_worst;
+    never = never_left;
+    search = search_alike;
+    query = share_query;
     within = within;
     strategy = strategy;
     promise = promise_is_sure;

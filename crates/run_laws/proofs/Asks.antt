@@ -1,9 +1,10 @@
 -- The answers of two runs are one.
-use Rattle.run_laws.proofs.Common.{arith, ◌≡◌, ℕ, ◌++◌, List, Option, None, Some, sym, subst, ap, ◌∙◌, Appends, FileMap, Limits, Moment, Query, JobModel, Ask, Sample, AskModel, Safe, Expand, Plan}
-use Rattle.run_laws.proofs.Common.{Certify, CheckProof, CheckGraph, Punctual, Departures, Latest, Problem, HasOneProblem, same_feed_problem, Findings, findings_of, Report, query_until, AnswersAsk}
-use Rattle.run_laws.proofs.Common.{AnswersJob, AnswersWords, HasAnswer, sample_journey, sample_alpha, AnswersSampled, IsSampled, WritesLine, IsOneAnswer, KnownRun, EndsWell, HasOneRun}
+use Rattle.run_laws.proofs.Common.{arith, ◌≡◌, ℕ, List, None, Some, sym, subst, ◌∙◌, Appends, FileMap, Limits, Moment, Query, JobModel, Ask, Sample, AskModel, Safe, Expand, Plan}
+use Rattle.run_laws.proofs.Common.{Certify, CheckProof, CheckGraph, Punctual, Departures, Latest, Problem, HasOneProblem, agree_all, own_problem, Findings, findings_of, query_until, AnswersAsk}
+use Rattle.run_laws.proofs.Common.{AnswersJob, AnswersWords, HasAnswer, sample_journey, sample_alpha, AnswersSampled, IsSampled, WritesLine, IsOneAnswer, RunModel, IsRunWithin, HasOneRun}
 use Rattle.command_line.specs.Jobs.{Replay}
 use Rattle.meat_engine.specs.Received.{Outcome}
+use Rattle.run_laws.proofs.Framed.{CarriesWords, carried_bytes, framed_answer}
 use Rattle.run_laws.proofs.Plans.{one_planned}
 use Rattle.run_laws.proofs.Queries.{in_one_query}
 use Rattle.run_laws.proofs.Certificates.{one_certificate_answer, one_check_answer}
@@ -40,31 +41,33 @@ module _ (found others : Findings) (text other : List ℕ) where
     one_job : (files : FileMap) (limits : Limits) (job : JobModel) → AnswersJob (Some files) limits job found text → AnswersJob (Some files) limits job others other → One
     one_job files limits (Ask j a) (p, has, is, answers) (q, has_other, also, reported) = grind (arith, one_ask)
     one_job files limits (Sample size) (folder, same, (p, has, is, answers)) (other_folder, same_other, (q, has_other, also, reported)) =
-        let here = same_feed_problem limits other_folder folder (λ path. same_other path ∙ sym (same path)) _ _ sample_journey q also in
+        let here = own_problem limits other_folder folder sample_journey q (agree_all _ other_folder folder (λ path. same_other path ∙ sym (same path))) also in
         one_sample size p answers (subst (λ (r : Problem). IsSampled size r others other) (one_problem limits folder sample_journey q p here is) reported)
 
     pub one_words : (files : FileMap) (limits : Limits) (words : List (List ℕ)) → AnswersWords (Some files) limits words found text → AnswersWords (Some files) limits words others other → One
     one_words files limits words (wanted, is, answers) (wants, also, reported) = grind (arith, one_job)
 
--- what is written after the same bytes is the same
-pub one_written : (old text other : List ℕ) (new now : Option (List ℕ)) → text ≡ other → Appends (Some old) new text → Appends (Some old) now other → new ≡ now
-one_written old text other None now same first second = absurd first
-one_written old text other (Some new) None same first second = absurd second
-one_written old text other (Some new) (Some now) same first second = ap (λ (xs : List ℕ). Some xs) (first ∙ ap (λ (xs : List ℕ). old ++ xs) same ∙ sym second)
+-- what a run comes to, by what the files hold
+pub outcome_of : (limits : Limits) (files : FileMap) (r : RunModel) → IsRunWithin limits r → r.before.files.files ≡ Some files
+    → Outcome (Some files) limits r.words r.report r.before.out.written r.after.out.written (WritesLine r.before.err r.after.err) r.report.fault
+outcome_of limits files r run reports = grind arith
 
--- what a run comes to, by what the files hold and the sink received
-pub outcome_of : (files : FileMap) (limits : Limits) (words : List (List ℕ)) (report : Report) (old : List ℕ) (new : Option (List ℕ)) (run : KnownRun files limits words report old new)
-    → Outcome (Some files) limits words report (Some old) new (WritesLine run.err run.err_after) report.fault
-outcome_of files limits words report old new run = grind arith
+-- the answer of a run that ends without a fault
+pub answer_of : (limits : Limits) (files : FileMap) (r : RunModel) → IsRunWithin limits r → r.before.files.files ≡ Some files → r.report.fault ≡ None
+    → HasAnswer (Some files) limits r.words r.report (Appends r.before.out.written r.after.out.written)
+answer_of limits files r run reports none = grind (arith, outcome_of)
 
--- the answer of a run that ends well
-pub answer_of : (files : FileMap) (limits : Limits) (words : List (List ℕ)) (report : Report) (old : List ℕ) (new : Option (List ℕ)) → EndsWell files limits words report old new
-    → HasAnswer (Some files) limits words report (Appends (Some old) new)
-answer_of files limits words report old new ends = grind (arith, outcome_of)
+-- the answers to the same words over files that agree at their paths are one
+pub one_answer : HasOneProblem → (limits : Limits) (files others : FileMap) (r s : RunModel) (text other : List ℕ) → r.words ≡ s.words → CarriesWords limits files others r.words
+    → AnswersWords (Some files) limits r.words (findings_of r.report) text → AnswersWords (Some others) limits s.words (findings_of s.report) other
+    → IsOneAnswer (findings_of r.report) (findings_of s.report) text other
+one_answer by limits files others r s text other words carries answers reported =
+    let own = subst (λ (w : List (List ℕ)). AnswersWords (Some others) limits w (findings_of s.report) other) (sym words) reported in
+    one_words (findings_of r.report) (findings_of s.report) text other by files limits r.words answers (framed_answer limits files others r.words carries (findings_of s.report) other own)
 
 pub one_run : HasOneProblem → HasOneRun
-one_run one_problem files limits words report second old new now ends other =
-    let (text, answers, written) = answer_of files limits words report old new ends in
-    let (texts, reported, writes) = answer_of files limits words second old now other in
-    let one = one_words (findings_of report) (findings_of second) text texts one_problem files limits words answers reported in
-    (one.found, one_written old text texts new now one.text_is written writes)
+one_run by limits files others r s run again ends well words agree =
+    let (text, answers, written) = answer_of limits files r run ends.reports ends.no_fault in
+    let (other, reported, writes) = answer_of limits others s again well.reports well.no_fault in
+    let one = one_answer by limits files others r s text other words (carried_bytes limits files others r.words agree) answers reported in
+    (one.found, (text, written, subst (λ (t : List ℕ). Appends s.before.out.written s.after.out.written t) (sym one.text_is) writes))

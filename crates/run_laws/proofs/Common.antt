@@ -36,10 +36,11 @@ pub use Rattle.journey_model.specs.declared.faults.Fault.TheVariants.{NoMemory, 
 pub use Rattle.journey_model.specs.declared.faults.Input.{Input}
 pub use Rattle.journey_model.specs.declared.problem.Problem.{Problem}
 pub use Rattle.journey_problem.proofs.NoFaults.{no_fault, no_folder_fault, none_unread, not_feed, table_read}
-pub use Rattle.journey_problem.proofs.SameFiles.{same_feed_problem, same_folder}
+pub use Rattle.journey_problem.proofs.SameFiles.{agree_all, agree_sym, own_problem, own_fault}
 pub use Rattle.journey_problem.specs.CertificateFiles.{FailsCertificate, FailsFile, FailsText, InCertificateFile, IsCertificateText}
 pub use Rattle.journey_problem.specs.FeedProblems.{GtfsFolder, IsFaultAfterFolder, IsFeedProblemFault, IsFolderFault, IsLaterTableFault, IsWindowFault, feed_as, feed_stop_fault}
-pub use Rattle.journey_problem.specs.Files.{bytes_of}
+pub use Rattle.journey_problem.specs.Files.{AgreeAt, bytes_of, path_of as file_path}
+pub use Rattle.journey_problem.specs.Paths.{AgreeFor, no_path}
 pub use Rattle.journey_problem.specs.GraphFiles.{FailsGraph, InGraphFile, graph_as, graph_in}
 pub use Rattle.journey_problem.specs.InputTables.{delay_fault}
 pub use Rattle.journey_problem.specs.OneProblem.{HasOneProblem}
@@ -53,9 +54,9 @@ pub use Rattle.lower_proof.proofs.Vias.{IsLeast-unique}
 pub use Rattle.lower_proof.specs.Certificates.{AreLeast, IsAccepted, IsLastFault, IsLeastAt, IsLeastAtStart, IsTight, IsVia, Offers, bound_of}
 pub use Rattle.lower_proof.specs.declared.LowerBounds.{LowerBounds}
 pub use Rattle.lower_proof.specs.declared.reader.ProofFault.{ProofFault}
-pub use Rattle.meat_engine.specs.Asks.{AnswersAsk, EndsAsk, FailsAsk, FailsCheck, FailsJourney, FailsReplay, FailsScore}
+pub use Rattle.meat_engine.specs.Asks.{AnswersAsk, EndsAsk, FailsAsk, FailsCheck, FailsJourney, FailsReplay, FailsScore, own_paths}
 pub use Rattle.meat_engine.specs.Ends.{EndsByCertificateFile, EndsByDepartures, EndsByGraphFile, EndsByLatest, EndsByScore, EndsByVerdict, EndsByWalk, HasLater}
-pub use Rattle.meat_engine.specs.Received.{AnswersJob, AnswersWords, Ending, FailsJob, HasAnswer, IsExplained, IsRefused, OutcomeBy}
+pub use Rattle.meat_engine.specs.Received.{AnswersJob, AnswersWords, Ending, FailsJob, HasAnswer, IsExplained, IsRefused, OutcomeBy, path_in}
 pub use Rattle.meat_engine.specs.RunPromises.{WritesLine}
 pub use Rattle.meat_engine.specs.Samples.{AnswersSampled, IsSampled, sample_alpha, sample_journey}
 pub use Rattle.meat_scan.specs.Rules.{IsByRules, Kept, kept_after, kept_leg}
@@ -84,5 +85,6 @@ unfoldable pub use Rattle.service_days.specs.Calendars.{calendars_in}
 pub use Rattle.trip_replay.specs.declared.ReplayFault.{ReplayFault}
 pub use Rattle.value_laws.specs.Means.{from_span, mean_scoring}
 pub use Rattle.run_laws.specs.OneAnswer.{IsOneAnswer}
-pub use Rattle.run_laws.specs.OneRun.{EndsWell, HasOneEnd, HasOneRun, IsCalmRun, IsOneEnd, KnownRun}
+pub use Rattle.run_laws.specs.OneRun.{EndAlike, EndsWell, HasOneEnd, HasOneRun, IsOneEnd}
+pub use Rattle.run_laws.specs.Runs.{AgreeOn, IsRunWithin, IsUntroubled, ReceiveAlike, RunModel}
 pub use Rattle.run_laws.specs.Wholes.{HasEveryRow, IsOneStrategy}

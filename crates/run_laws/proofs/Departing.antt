@@ -2,7 +2,7 @@
 use Rattle.run_laws.proofs.Common.{◌≡◌, ℕ, ◌<◌, ◌≤◌, arith, inl, inr, sym, ◌∙◌, Some, Moment, Query, IsLeastWorst, reaches_from_safe, safe_exists, safe_sooner, query_until, HasSafeFor, Problem}
 use Rattle.run_laws.proofs.Common.{EndsByDepartures, EndsByLatest, HasLater}
 
-later_is_now : (p : Problem) (query : Query) → HasLater p query → HasSafeFor p query
+pub later_is_now : (p : Problem) (query : Query) → HasLater p query → HasSafeFor p query
 later_is_now p query (moment, tree, late, safe) = safe_sooner p.timetable.network query.source.0 query query.start.0 moment tree late safe
 
 now_is_later : (p : Problem) (query : Query) → HasSafeFor p query → HasLater p query

@@ -1,20 +1,23 @@
 -- Two runs that nothing disturbs end in one way.
-use Rattle.run_laws.proofs.Common.{arith, ◌≡◌, ◌≢◌, ℕ, ◌⊎◌, List, Option, None, Some, Ok, Err, inl, inr, refl, sym, subst, ap, ◌∙◌, Appends, Keeps, FileMap, file_at, Limits, JobModel, Ask, Sample}
+use Rattle.run_laws.proofs.Common.{arith, ◌≡◌, ◌≢◌, ℕ, ◌⊎◌, List, [], Option, None, Some, Ok, Err, inl, inr, refl, sym, subst, ap, ◌∙◌, Appends, Keeps, FileMap, file_at, Limits, JobModel, Ask, Sample}
 use Rattle.run_laws.proofs.Common.{JourneyModel, AskModel, Plan, job_of, Fault, Replay, ProofFails, Unsafe, Write, NoMemory, Problem, status_of, NamedParts, HasOneProblem, no_fault}
-use Rattle.run_laws.proofs.Common.{same_feed_problem, IsNoSafe, Findings, findings_of, no_findings, Report, FailsJourney, Ending, AnswersJob, AnswersWords, FailsJob, IsExplained, IsRefused}
-use Rattle.run_laws.proofs.Common.{OutcomeBy, WritesLine, sample_journey, sample_alpha, IsCalmRun, IsOneEnd, HasOneEnd}
+use Rattle.run_laws.proofs.Common.{agree_all, IsNoSafe, Findings, findings_of, no_findings, FailsJourney, Ending, AnswersJob, AnswersWords, FailsJob, IsExplained, IsRefused}
+use Rattle.run_laws.proofs.Common.{OutcomeBy, WritesLine, sample_journey, sample_alpha, RunModel, IsRunWithin, IsUntroubled, IsOneEnd, EndAlike}
+use Rattle.std.proofs.Common.{append-nil}
 use Rattle.command_line.specs.declared.job.WordsFault.{WordsFault}
 use Rattle.journey_model.specs.Known.{parts_of}
 use Rattle.journey_model.specs.Stages.{stage_of, IsStageBeforeSearch}
 use Rattle.journey_model.specs.FaultLines.{line_of}
 use Rattle.journey_problem.proofs.OneProblem.{one_problem}
+use Rattle.run_laws.specs.OneRun.{EndAlikeOver, FormsEndAlike}
+use Rattle.run_laws.specs.Runs.{AgreeOn, ReadAlikeOn}
 use Rattle.meat_engine.specs.Received.{Outcome}
 use Rattle.meat_engine.proofs.Outcomes.{refused_ending}
-use Rattle.run_laws.proofs.Asks.{one_words, one_written, outcome_of}
+use Rattle.run_laws.proofs.Asks.{one_answer, outcome_of}
 use Rattle.run_laws.proofs.AskFaults.{one_ask_fault, answered_or_not}
 use Rattle.run_laws.proofs.FirstFaults.{NotRead, one_first_fault}
+use Rattle.run_laws.proofs.Framed.{CarriesWords, carried_bytes, carried_records, by_bytes, journey_fails, framed_answer, framed_cause}
 use Rattle.run_laws.proofs.Queries.{not_none}
-use Rattle.run_laws.proofs.SameFaults.{same_feed_fault}
 
 -- a fault that comes before the search is at no site, so its line is one whatever timetable is known
 line_before : (known other : Option NamedParts) (fault : Fault) → IsStageBeforeSearch (stage_of fault) → line_of known fault ≡ line_of other fault
@@ -61,8 +64,7 @@ module _ (limits : Limits) (files : FileMap) where
   -- what is refused over a made timetable is so over other files with the same bytes
   made_fault : (other : FileMap) (known : Option NamedParts) (fault : Fault) → ((path : List ℕ) → file_at other path ≡ file_at files path)
       → FailsJourney (Some other) limits sample_journey (Plan sample_alpha) known fault → Fails sample_journey (Plan sample_alpha) known fault
-  made_fault other known fault same (inl (p, has, is, fails)) = inl (p, has, same_feed_problem limits other files same _ _ sample_journey p is, fails)
-  made_fault other known fault same (inr early) = inr (early.0, λ some. same_feed_fault limits other files same _ 24 sample_journey fault (early.1 some))
+  made_fault other known fault same is = journey_fails limits files other sample_journey (Plan sample_alpha) known fault (by_bytes limits files other (Ask sample_journey (Plan sample_alpha)) (agree_all _ other files same)) is
 
 module _ (limits : Limits) (files : FileMap) where
   one_job_fault : (job : JobModel) (known other : Option NamedParts) (a b : Fault) → IsCalm a → IsCalm b → FailsJob (Some files) limits job known a → FailsJob (Some files) limits job other b
@@ -110,89 +112,106 @@ module _ (limits : Limits) (files : FileMap) where
   answered_or_refused words found text known a m (job, is, answers) (inr (inr (other, from, fails))) =
       job_answered job found text known a m answers (subst (λ (w : JobModel). FailsJob (Some files) limits w known a) (one_job words other job from is) fails)
 
-  -- ---- how a run ends that nothing disturbs
+-- nothing more is no byte more
+keeps_none : (old new : Option (List ℕ)) → Keeps old new → Appends old new []
+keeps_none None new kept = tt
+keeps_none (Some old) None kept = absurd kept
+keeps_none (Some old) (Some new) kept = kept ∙ sym (append-nil old)
 
-  module _ (words : List (List ℕ)) (old said : List ℕ) where
-    -- with an answer
-    record Answers (report : Report) (new line : Option (List ℕ)) : Type 0 where
-      none : report.fault ≡ None
-      text : List ℕ
-      answers : AnswersWords (Some files) limits words (findings_of report) text
-      out : Appends (Some old) new text
-      err : Keeps (Some said) line
+-- ---- how a run ends that nothing disturbs
 
-    -- or with a fault
-    record Refuses (report : Report) (new line : Option (List ℕ)) : Type 0 where
-      fault : Fault
-      some : report.fault ≡ Some fault
-      calm : IsCalm fault
-      findings : findings_of report ≡ no_findings
-      known : Option NamedParts
-      why : IsExplained (Some files) limits words known fault
-      out : Keeps (Some old) new
-      err : Appends (Some said) line (line_of known fault)
+module _ (limits : Limits) (files : FileMap) (r : RunModel) where
+  -- with an answer
+  record Answers : Type 0 where
+    none : r.report.fault ≡ None
+    text : List ℕ
+    answers : AnswersWords (Some files) limits r.words (findings_of r.report) text
+    out : Appends r.before.out.written r.after.out.written text
+    err : Keeps r.before.err.written r.after.err.written
 
-    module _ (report : Report) (new line : Option (List ℕ)) (run : IsCalmRun files limits words report old said new line) where
-      abbrev Reports : List ℕ → Type 0
-      Reports = WritesLine run.known.err run.known.err_after
+  -- or with a fault
+  record Refuses : Type 0 where
+    fault : Fault
+    some : r.report.fault ≡ Some fault
+    calm : IsCalm fault
+    findings : findings_of r.report ≡ no_findings
+    known : Option NamedParts
+    why : IsExplained (Some files) limits r.words known fault
+    out : Keeps r.before.out.written r.after.out.written
+    err : Appends r.before.err.written r.after.err.written (line_of known fault)
 
-      outcome : (fault : Option Fault) → report.fault ≡ fault → Outcome (Some files) limits words report (Some old) new Reports fault
-      outcome fault is = grind (arith, outcome_of)
+  module _ (run : IsRunWithin limits r) (calm : IsUntroubled files r) (memory : r.report.fault ≢ Some NoMemory) where
+    abbrev Reports : List ℕ → Type 0
+    Reports = WritesLine r.before.err r.after.err
 
-      reports_err : (text : List ℕ) → Reports text → Appends (Some said) line text
-      reports_err text reports = grind arith
+    outcome : (fault : Option Fault) → r.report.fault ≡ fault → Outcome (Some files) limits r.words r.report r.before.out.written r.after.out.written Reports fault
+    outcome fault is = grind (arith, outcome_of)
 
-      calm_fault : (fault : Fault) → report.fault ≡ Some fault → IsCalm fault
-      calm_fault fault is = grind arith
+    reports_err : (text : List ℕ) → Reports text → Appends r.before.err.written r.after.err.written text
+    reports_err text reports = reports.1 calm.err_calm
 
-      not_write : (fault : Fault) → report.fault ≡ Some fault → fault ≢ Write
-      not_write fault is write = run.out_calm (run.known.run.write (is ∙ ap (λ (f : Fault). Some f) write))
+    calm_fault : (fault : Fault) → r.report.fault ≡ Some fault → IsCalm fault
+    calm_fault fault is = grind arith
 
-      settled : (fault : Option Fault) → report.fault ≡ fault → Answers report new line ⊎ Refuses report new line
-      settled None is = grind (arith, outcome)
-      settled (Some fault) is =
-          let both = subst (λ (e : Ending). OutcomeBy e (Some files) limits words report (Some old) new Reports (Some fault)) (refused_ending fault (not_write fault is)) (outcome (Some fault) is) in
-          let refused : IsRefused (Some files) limits words report Reports fault = both.1 in
-          inr (record {
-            fault = fault;
-            some = is;
-            calm = calm_fault fault is;
-            findings = refused.0;
-            known = refused.1.0;
-            why = refused.1.1;
-            out = both.0;
-            err = reports_err (line_of refused.1.0 fault) refused.1.2;
-          })
+    not_write : (fault : Fault) → r.report.fault ≡ Some fault → fault ≢ Write
+    not_write fault is write = calm.out_calm (run.write (is ∙ ap (λ (f : Fault). Some f) write))
 
-pub one_kept : (old : List ℕ) (new now : Option (List ℕ)) → Keeps (Some old) new → Keeps (Some old) now → new ≡ now
-one_kept old None now first second = absurd first
-one_kept old (Some new) None first second = absurd second
-one_kept old (Some new) (Some now) first second = ap (λ (xs : List ℕ). Some xs) (first ∙ sym second)
+    settled : (fault : Option Fault) → r.report.fault ≡ fault → Answers ⊎ Refuses
+    settled None is = grind (arith, outcome)
+    settled (Some fault) is =
+        let both = subst (λ (e : Ending). OutcomeBy e (Some files) limits r.words r.report r.before.out.written r.after.out.written Reports (Some fault)) (refused_ending fault (not_write fault is)) (outcome (Some fault) is) in
+        let refused : IsRefused (Some files) limits r.words r.report Reports fault = both.1 in
+        inr (record {
+          fault = fault;
+          some = is;
+          calm = calm_fault fault is;
+          findings = refused.0;
+          known = refused.1.0;
+          why = refused.1.1;
+          out = both.0;
+          err = reports_err (line_of refused.1.0 fault) refused.1.2;
+        })
 
-pub one_end : HasOneProblem → HasOneEnd
-one_end by files limits words report second old said new now line other run also =
-    ends (settled limits files words old said report new line run report.fault refl) (settled limits files words old said second now other also second.fault refl)
+-- over files of which this carries over what the words ask
+ends_over : HasOneProblem → (limits : Limits) (Same : FileMap → FileMap → Type 0) (r s : RunModel) → ((files others : FileMap) → Same files others → CarriesWords limits files others r.words)
+    → IsRunWithin limits r → IsRunWithin limits s → EndAlikeOver Same r s
+ends_over by limits Same r s carried run also files others calm other_calm words agree memory other_memory =
+    ends (settled limits files r run calm memory r.report.fault refl) (settled limits others s also other_calm other_memory s.report.fault refl)
   where
-    ends : Answers limits files words old said report new line ⊎ Refuses limits files words old said report new line
-        → Answers limits files words old said second now other ⊎ Refuses limits files words old said second now other → IsOneEnd report second new now line other
+    carries : CarriesWords limits files others r.words
+    carries = carried files others agree
+
+    -- what explains the second also does over the files of the first
+    why : (b : Refuses limits others s) → IsExplained (Some files) limits r.words b.known b.fault
+    why b = framed_cause limits files others r.words carries b.known b.fault (subst (λ (w : List (List ℕ)). IsExplained (Some others) limits w b.known b.fault) (sym words) b.why)
+
+    ends : Answers limits files r ⊎ Refuses limits files r → Answers limits others s ⊎ Refuses limits others s → IsOneEnd r s
     ends (inl a) (inl b) =
-        let one = one_words (findings_of report) (findings_of second) a.text b.text by files limits words a.answers b.answers in
+        let one = one_answer by limits files others r s a.text b.text words carries a.answers b.answers in
         record {
           fault = a.none ∙ sym b.none;
-          status = run.known.run.status ∙ ap status_of (a.none ∙ sym b.none) ∙ sym also.known.run.status;
+          status = run.status ∙ ap status_of (a.none ∙ sym b.none) ∙ sym also.status;
           findings = one.found;
-          out = one_written old a.text b.text new now one.text_is a.out b.out;
-          err = one_kept said line other a.err b.err;
+          out = (a.text, a.out, subst (λ (t : List ℕ). Appends s.before.out.written s.after.out.written t) (sym one.text_is) b.out);
+          err = ([], keeps_none r.before.err.written r.after.err.written a.err, keeps_none s.before.err.written s.after.err.written b.err);
         }
-    ends (inl a) (inr b) = absurd (answered_or_refused limits files words (findings_of report) a.text b.known b.fault b.calm a.answers b.why)
-    ends (inr a) (inl b) = absurd (answered_or_refused limits files words (findings_of second) b.text a.known a.fault a.calm b.answers a.why)
+    ends (inl a) (inr b) = absurd (answered_or_refused limits files r.words (findings_of r.report) a.text b.known b.fault b.calm a.answers (why b))
+    ends (inr a) (inl b) =
+        let own = subst (λ (w : List (List ℕ)). AnswersWords (Some others) limits w (findings_of s.report) b.text) (sym words) b.answers in
+        absurd (answered_or_refused limits files r.words (findings_of s.report) b.text a.known a.fault a.calm (framed_answer limits files others r.words carries (findings_of s.report) b.text own) a.why)
     ends (inr a) (inr b) =
-        let one = one_cause limits files words a.known b.known a.fault b.fault a.calm b.calm a.why b.why in
-        let same : report.fault ≡ second.fault = a.some ∙ ap (λ (f : Fault). Some f) one.same ∙ sym b.some in
+        let one = one_cause limits files r.words a.known b.known a.fault b.fault a.calm b.calm a.why (why b) in
+        let same : r.report.fault ≡ s.report.fault = a.some ∙ ap (λ (f : Fault). Some f) one.same ∙ sym b.some in
         record {
           fault = same;
-          status = run.known.run.status ∙ ap status_of same ∙ sym also.known.run.status;
+          status = run.status ∙ ap status_of same ∙ sym also.status;
           findings = a.findings ∙ sym b.findings;
-          out = one_kept old new now a.out b.out;
-          err = one_written said (line_of a.known a.fault) (line_of b.known b.fault) line other one.line a.err b.err;
+          out = ([], keeps_none r.before.out.written r.after.out.written a.out, keeps_none s.before.out.written s.after.out.written b.out);
+          err = (line_of a.known a.fault, a.err, subst (λ (t : List ℕ). Appends s.before.err.written s.after.err.written t) (sym one.line) b.err);
         }
+
+pub one_end : HasOneProblem → (limits : Limits) (r s : RunModel) → IsRunWithin limits r → IsRunWithin limits s → EndAlike r s
+one_end by limits r s = ends_over by limits (AgreeOn r.words) r s (λ files others. carried_bytes limits files others r.words)
+
+pub forms_end : HasOneProblem → (limits : Limits) (r s : RunModel) → IsRunWithin limits r → IsRunWithin limits s → FormsEndAlike limits r s
+forms_end by limits r s = ends_over by limits (ReadAlikeOn limits r.words) r s (λ files others. carried_records limits files others r.words)

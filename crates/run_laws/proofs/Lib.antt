@@ -14,13 +14,14 @@ pub mod Files
 pub mod Tight
 pub mod Certificates
 pub mod Departures
+pub mod Framed
 pub mod Asks
 pub mod FirstFaults
 pub mod AskFaults
-pub mod SameFaults
 pub mod Ends
 pub mod Printed
 pub mod Certified
 pub mod Departing
 mod RowBounds
+pub mod BySafety
 pub mod Agreeing

@@ -1,5 +1,6 @@
 pub mod Wholes
 pub mod OneAnswer
+pub mod Runs
 pub mod OneRun
 pub mod Printed
 pub mod Pairs

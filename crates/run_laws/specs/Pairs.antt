@@ -1,8 +1,7 @@
 -- Two runs, each of its words over a host of its own, and how the one agrees with the other.
-use Rattle.std.specs.Prelude.{◌≡◌, ◌≢◌, ◌⊎◌, ℕ, ◌+◌, ◌<◌, ◌≤◌, List, Option, None, Some, Ok, length}
+use Rattle.std.specs.Prelude.{◌≡◌, ◌≢◌, ◌⊎◌, ℕ, ◌+◌, ◌<◌, ◌≤◌, List, [], ◌++◌, None, Some, Ok, IsSome, length}
 use Rattle.std.specs.Io.KnownBytes.{Appends}
-use Rattle.file_ports.specs.Counts.{Rose}
-use Rattle.file_ports.specs.Ports.{FileMap, FilesState, file_at}
+use Rattle.file_ports.specs.Ports.{FileMap, file_at}
 use Rattle.csv_rows.specs.declared.limits.Limits.{Limits}
 use Rattle.interval_fixed.specs.Interval.{Interval}
 use Rattle.plan_model.specs.declared.model.Moment.{Moment}
@@ -22,74 +21,40 @@ use Rattle.lower_proof.specs.Certificates.{IsLeastAtStart}
 use Rattle.trip_replay.specs.Late.{ArePossible}
 use Rattle.trip_replay.specs.Walk.{IsSafeAnswer}
 use Rattle.command_line.specs.Jobs.{JourneyModel, AskModel, Ask, Safe, Expand, Plan, Replay, Certify, CheckProof, CheckGraph, Punctual, Departures, Latest, job_of}
-use Rattle.journey_model.specs.declared.faults.Fault.TheVariants.{GraphFile, NoMemory}
+use Rattle.journey_model.specs.declared.faults.Fault.TheVariants.{GraphFile, NoSafe}
 use Rattle.journey_model.specs.declared.problem.Problem.{Problem}
+use Rattle.journey_problem.specs.Paths.{AgreeFor}
 use Rattle.journey_problem.specs.Problems.{IsProblem}
-use Rattle.journey_report.specs.declared.report.Report.{Report}
+use Rattle.journey_report.specs.AnswerTexts.{punctual_row}
 use Rattle.journey_report.specs.Findings.{findings_of}
 use Rattle.journey_problem.specs.GraphFiles.{graph_in}
 use Rattle.journey_answers.specs.Trips.{trip_by}
 use Rattle.meat_engine.specs.Ends.{EndsByWalk}
-use Rattle.meat_engine.specs.RunPromises.{IsRun, SinkState, sink_state}
-use Rattle.run_laws.specs.OneRun.{IsOneEnd}
+use Rattle.run_laws.specs.OneRun.{EndAlike, FormsEndAlike}
 use Rattle.run_laws.specs.Printed.{ArrivesByFile, KeepsUpperBound}
+use Rattle.run_laws.specs.Runs.{RunModel, IsUntroubled}
 use Rattle.run_laws.specs.Wholes.{IsOneStrategy}
 
--- the files of a host, its output and its stream of errors
-pub record HostState : Type 0 where
-  pub files : FilesState
-  pub out : SinkState
-  pub err : SinkState
-
--- of what the streams received and how often they failed
-abbrev pub host_state : FilesState → (out : Option (List ℕ)) → ℕ → (err : Option (List ℕ)) → ℕ → HostState
-host_state files out out_faults err err_faults = record { files = files; out = sink_state out out_faults; err = sink_state err err_faults }
-
--- a run: its words, its report, and the host before it and after it
-pub record RunModel : Type 0 where
-  pub words : List (List ℕ)
-  pub report : Report
-  pub before : HostState
-  pub after : HostState
-
-abbrev pub run_of : List (List ℕ) → Report → HostState → HostState → RunModel
-run_of words report before after = record { words = words; report = report; before = before; after = after }
-
--- what is promised of it
-abbrev pub IsRunWithin : Limits → RunModel → Type 0
-IsRunWithin limits r = IsRun limits r.words r.report r.before.files r.after.files r.before.out r.after.out r.before.err r.after.err
-
--- the files hold these bytes, the streams had received these, and nothing failed in the run
-pub record IsUntroubled (files : FileMap) (old said : List ℕ) (r : RunModel) : Type 0 where
-  pub reports : r.before.files.files ≡ Some files
-  pub had : r.before.out.written ≡ Some old
-  pub had_said : r.before.err.written ≡ Some said
-  pub files_calm : ¬ Rose r.before.files.faults r.after.files.faults
-  pub out_calm : ¬ Rose r.before.out.faults r.after.out.faults
-  pub err_calm : ¬ Rose r.before.err.faults r.after.err.faults
-
 -- an untroubled run that asks this about a journey, and ended without a fault
-pub record AskOne (files : FileMap) (old said : List ℕ) (j : JourneyModel) (a : AskModel) (r : RunModel) : Type 0 where
-  pub untroubled : IsUntroubled files old said r
+pub record AskOne (files : FileMap) (j : JourneyModel) (a : AskModel) (r : RunModel) : Type 0 where
+  pub untroubled : IsUntroubled files r
   pub asks : job_of r.words ≡ Ok (Ask j a)
   pub no_fault : r.report.fault ≡ None
 
--- two untroubled runs, over files that hold the same bytes, of which the first asks one thing about a journey and the second another
-pub record AskBoth (files : FileMap) (j : JourneyModel) (a b : AskModel) (r s : RunModel) : Type 0 where
-  pub old : List ℕ
-  pub said : List ℕ
-  pub other_old : List ℕ
-  pub other_said : List ℕ
-  pub first : IsUntroubled files old said r
-  pub second : IsUntroubled files other_old other_said s
+-- two untroubled runs, over files that agree at the paths of a journey, of which the first asks one thing about it and the second another
+pub record AskBoth (files others : FileMap) (j : JourneyModel) (a b : AskModel) (r s : RunModel) : Type 0 where
+  pub first : IsUntroubled files r
+  pub second : IsUntroubled others s
+  pub agree : AgreeFor j files others
   pub first_asks : job_of r.words ≡ Ok (Ask j a)
   pub second_asks : job_of s.words ≡ Ok (Ask j b)
 
--- the run ended without a fault and wrote a text, which the file of this path holds
-pub record IsSaved (limits : Limits) (files : FileMap) (path : List ℕ) (r : RunModel) : Type 0 where
+-- the run ended without a fault and wrote these bytes and then a text, which the file of this path holds
+pub record IsSaved (limits : Limits) (files : FileMap) (path front : List ℕ) (r : RunModel) : Type 0 where
   pub text : List ℕ
   pub no_fault : r.report.fault ≡ None
-  pub written : Appends r.before.out.written r.after.out.written text
+  pub known : IsSome r.before.out.written
+  pub written : Appends r.before.out.written r.after.out.written (front ++ text)
   pub there : file_at files path ≡ Some text
   pub small : length text ≤ limits.bytes
 
@@ -97,17 +62,10 @@ pub record IsSaved (limits : Limits) (files : FileMap) (path : List ℕ) (r : Ru
 abbrev pub OrStatus9 : RunModel → Type 0 → Type 0
 OrStatus9 s P = P ⊎ (s.report.status.0 ≡ 9)
 
--- the same words have one end, unless there was no memory
-abbrev pub EndAlike : RunModel → RunModel → Type 0
-EndAlike r s =
-    (files : FileMap) (old said : List ℕ) → IsUntroubled files old said r → IsUntroubled files old said s → r.words ≡ s.words
-    → r.report.fault ≢ Some NoMemory → s.report.fault ≢ Some NoMemory
-    → IsOneEnd r.report s.report r.after.out.written s.after.out.written r.after.err.written s.after.err.written
-
 -- `check` of the graph that `plan` printed ends with 0, with the same upper bound
 abbrev pub PlanIsAccepted : Limits → RunModel → RunModel → Type 0
 PlanIsAccepted limits r s =
-    (files : FileMap) (j : JourneyModel) (alpha : ℕ) (path : List ℕ) → AskBoth files j (Plan alpha) (CheckGraph path) r s → IsSaved limits files path r
+    (files others : FileMap) (j : JourneyModel) (alpha : ℕ) (path : List ℕ) → AskBoth files others j (Plan alpha) (CheckGraph path) r s → IsSaved limits others path [] r
     → OrStatus9 s ((s.report.status.0 ≡ 0) × KeepsUpperBound (findings_of r.report) (findings_of s.report))
 
 -- a replay of the graph of a file, over the problem of the journey: the run ends as the walk by the graph does, and the walk is never
@@ -126,94 +84,144 @@ pub record IsReplayed (limits : Limits) (files : FileMap) (j : JourneyModel) (pa
 -- `replay` of the graph that `plan` printed is such a replay
 abbrev pub PlanIsReplayed : Limits → RunModel → RunModel → Type 0
 PlanIsReplayed limits r s =
-    (files : FileMap) (j : JourneyModel) (alpha : ℕ) (path late : List ℕ) → AskBoth files j (Plan alpha) (Replay path late) r s → IsSaved limits files path r
-    → IsReplayed limits files j path late s
+    (files others : FileMap) (j : JourneyModel) (alpha : ℕ) (path late : List ℕ) → AskBoth files others j (Plan alpha) (Replay path late) r s → IsSaved limits others path [] r
+    → IsReplayed limits others j path late s
+
+-- `check` of what `punctual` printed after the row of its chance ends with 0, with the same bounds
+abbrev pub PunctualIsAccepted : Limits → RunModel → RunModel → Type 0
+PunctualIsAccepted limits r s =
+    (files others : FileMap) (j : JourneyModel) (alpha promise : ℕ) (path : List ℕ) (chance : Interval) → AskBoth files others j (Punctual alpha promise) (CheckGraph path) r s
+    → r.report.chance ≡ Some chance → IsSaved limits others path (punctual_row promise chance) r
+    → OrStatus9 s ((s.report.status.0 ≡ 0) × (r.report.bounds ≡ s.report.bounds))
+
+-- `replay` of it is as of what `plan` printed
+abbrev pub PunctualIsReplayed : Limits → RunModel → RunModel → Type 0
+PunctualIsReplayed limits r s =
+    (files others : FileMap) (j : JourneyModel) (alpha promise : ℕ) (path late : List ℕ) (chance : Interval) → AskBoth files others j (Punctual alpha promise) (Replay path late) r s
+    → r.report.chance ≡ Some chance → IsSaved limits others path (punctual_row promise chance) r → IsReplayed limits others j path late s
 
 -- `check` of the certificate that `certify` printed ends with 0
 abbrev pub CertificateIsAccepted : Limits → RunModel → RunModel → Type 0
 CertificateIsAccepted limits r s =
-    (files : FileMap) (j : JourneyModel) (alpha : ℕ) (path : List ℕ) → AskBoth files j (Certify alpha) (CheckProof path) r s → IsSaved limits files path r
+    (files others : FileMap) (j : JourneyModel) (alpha : ℕ) (path : List ℕ) → AskBoth files others j (Certify alpha) (CheckProof path) r s → IsSaved limits others path [] r
     → OrStatus9 s (s.report.status.0 ≡ 0)
-
--- `latest` and `departures` by one deadline end with one status
-abbrev pub LeaveAlike : Limits → RunModel → RunModel → Type 0
-LeaveAlike limits r s =
-    (files : FileMap) (j : JourneyModel) (until last : ℕ) (p : Problem) → AskBoth files j (Latest until) (Departures until last) r s → IsProblem limits files j p
-    → OrStatus9 r (OrStatus9 s (r.report.status.0 ≡ s.report.status.0))
-
--- `latest` ends with 0 where the least worst arrival that `safe` finds is by its deadline, and else with 1
-abbrev pub LeaveByWorst : RunModel → RunModel → Type 0
-LeaveByWorst r s =
-    (files : FileMap) (j : JourneyModel) (alpha until : ℕ) (arrival : Moment) → AskBoth files j (Safe alpha) (Latest until) r s → r.report.fault ≡ None
-    → r.report.worst ≡ Some arrival → OrStatus9 s ((arrival.0 ≤ until → s.report.status.0 ≡ 0) × (until < arrival.0 → s.report.status.0 ≡ 1))
 
 -- both ended without a fault
 pub record EndWell (r s : RunModel) : Type 0 where
   pub first : r.report.fault ≡ None
   pub second : s.report.fault ≡ None
 
+-- `latest` and `departures` by one deadline end with one status
+abbrev pub LeaveAlike : Limits → RunModel → RunModel → Type 0
+LeaveAlike limits r s =
+    (files others : FileMap) (j : JourneyModel) (until last : ℕ) (p : Problem) → AskBoth files others j (Latest until) (Departures until last) r s → IsProblem limits files j p
+    → OrStatus9 r (OrStatus9 s (r.report.status.0 ≡ s.report.status.0))
+
+-- `latest` ends with 0 where the least worst arrival that `safe` finds is by its deadline, and else with 1
+abbrev pub LeaveByWorst : RunModel → RunModel → Type 0
+LeaveByWorst r s =
+    (files others : FileMap) (j : JourneyModel) (alpha until : ℕ) (arrival : Moment) → AskBoth files others j (Safe alpha) (Latest until) r s → r.report.fault ≡ None
+    → r.report.worst ≡ Some arrival → OrStatus9 s ((arrival.0 ≤ until → s.report.status.0 ≡ 0) × (until < arrival.0 → s.report.status.0 ≡ 1))
+
+-- `latest` ends with 1 where `safe` finds that no strategy is safe
+abbrev pub NeverLeave : RunModel → RunModel → Type 0
+NeverLeave r s =
+    (files others : FileMap) (j : JourneyModel) (alpha until : ℕ) → AskBoth files others j (Safe alpha) (Latest until) r s → r.report.fault ≡ Some NoSafe
+    → OrStatus9 s (s.report.status.0 ≡ 1)
+
+-- it asks for an answer by strategies that always reach the target, with a deadline by this percentage
+abbrev pub IsBySafety : ℕ → AskModel → Type 0
+IsBySafety alpha (Safe beta) = beta ≡ alpha
+IsBySafety alpha (Expand beta) = beta ≡ alpha
+IsBySafety alpha (Plan beta) = beta ≡ alpha
+IsBySafety alpha (Certify beta) = beta ≡ alpha
+IsBySafety alpha (Punctual beta promise) = beta ≡ alpha
+IsBySafety alpha (Replay graph late) = ⊥
+IsBySafety alpha (CheckProof certificate) = ⊥
+IsBySafety alpha (CheckGraph graph) = ⊥
+IsBySafety alpha (Departures until last) = ⊥
+IsBySafety alpha (Latest until) = ⊥
+
+-- any two that do end with one status, whatever the percentages
+abbrev pub SearchAlike : Limits → RunModel → RunModel → Type 0
+SearchAlike limits r s =
+    (files others : FileMap) (j : JourneyModel) (alpha beta : ℕ) (a b : AskModel) (p : Problem) → AskBoth files others j a b r s
+    → IsBySafety alpha a → IsBySafety beta b → IsProblem limits files j p → OrStatus9 r (OrStatus9 s (r.report.status.0 ≡ s.report.status.0))
+
+-- and with one percentage they find one deadline and one least worst arrival
+abbrev pub ShareQuery : RunModel → RunModel → Type 0
+ShareQuery r s =
+    (files others : FileMap) (j : JourneyModel) (alpha : ℕ) (a b : AskModel) → AskBoth files others j a b r s → IsBySafety alpha a → IsBySafety alpha b
+    → EndWell r s → (r.report.query ≡ s.report.query) × (r.report.worst ≡ s.report.worst)
+
 -- the least value at the start of the certificate that `certify` finds is at most the upper bound of `plan`, whose lower bound is
 -- at most that value and a nanosecond for each connection
 abbrev pub CertificateIsWithin : Limits → RunModel → RunModel → Type 0
 CertificateIsWithin limits r s =
-    (files : FileMap) (j : JourneyModel) (alpha : ℕ) (p : Problem) (query : Query) (bounds : Interval) (proof : LowerBounds) (v : ℕ)
-    → AskBoth files j (Plan alpha) (Certify alpha) r s → EndWell r s → IsProblem limits files j p
+    (files others : FileMap) (j : JourneyModel) (alpha : ℕ) (p : Problem) (query : Query) (bounds : Interval) (proof : LowerBounds) (v : ℕ)
+    → AskBoth files others j (Plan alpha) (Certify alpha) r s → EndWell r s → IsProblem limits files j p
     → r.report.query ≡ Some query → r.report.bounds ≡ Some bounds → s.report.proof ≡ Some proof
     → IsLeastAtStart p.timetable.network query proof.values (Some v) → (v ≤ bounds.hi) × (bounds.lo ≤ v + count p.timetable.network)
 
 -- the graphs that `expand` and `plan` find are of one strategy, with the same bounds
 abbrev pub ShareStrategy : Limits → RunModel → RunModel → Type 0
 ShareStrategy limits r s =
-    (files : FileMap) (j : JourneyModel) (alpha : ℕ) (p : Problem) (query : Query) (rides : ExpandedGraph) (places : PlanGraph) (bounds others : Interval)
-    → AskBoth files j (Expand alpha) (Plan alpha) r s → EndWell r s → IsProblem limits files j p
+    (files others : FileMap) (j : JourneyModel) (alpha : ℕ) (p : Problem) (query : Query) (rides : ExpandedGraph) (places : PlanGraph) (bounds spans : Interval)
+    → AskBoth files others j (Expand alpha) (Plan alpha) r s → EndWell r s → IsProblem limits files j p
     → r.report.query ≡ Some query → r.report.expanded ≡ Some rides → s.report.graph ≡ Some places
-    → r.report.bounds ≡ Some bounds → s.report.bounds ≡ Some others
-    → IsOneStrategy p.timetable.network query rides places bounds others
+    → r.report.bounds ≡ Some bounds → s.report.bounds ≡ Some spans
+    → IsOneStrategy p.timetable.network query rides places bounds spans
 
 -- `punctual` with a promise at its deadline or later finds no chance of being late
 abbrev pub PromiseIsSure : RunModel → Type 0
 PromiseIsSure r =
-    (files : FileMap) (old said : List ℕ) (j : JourneyModel) (alpha promise : ℕ) (query : Query) (chance : Interval)
-    → AskOne files old said j (Punctual alpha promise) r → r.report.query ≡ Some query → r.report.chance ≡ Some chance → query.deadline.0 ≤ promise
+    (files : FileMap) (j : JourneyModel) (alpha promise : ℕ) (query : Query) (chance : Interval)
+    → AskOne files j (Punctual alpha promise) r → r.report.query ≡ Some query → r.report.chance ≡ Some chance → query.deadline.0 ≤ promise
     → chance ≡ record { lo = 0; hi = 0 }
 
 -- the plan whose deadline is the least worst arrival arrives by then at worst
 abbrev pub WorstIsKept : Limits → RunModel → Type 0
 WorstIsKept limits r =
-    (files : FileMap) (old said : List ℕ) (j : JourneyModel) (alpha : ℕ) (p : Problem) (query : Query) (graph : PlanGraph)
-    → AskOne files old said j (Plan alpha) r → IsProblem limits files j p → r.report.query ≡ Some query → r.report.graph ≡ Some graph
+    (files : FileMap) (j : JourneyModel) (alpha : ℕ) (p : Problem) (query : Query) (graph : PlanGraph)
+    → AskOne files j (Plan alpha) r → IsProblem limits files j p → r.report.query ≡ Some query → r.report.graph ≡ Some graph
     → r.report.worst ≡ Some query.deadline → worst (unfold_plan graph p.timetable.network query) ≡ query.deadline.0
 
 -- with a later deadline the upper bound of `plan` is at most that with the sooner one
 abbrev pub LaterIsNoWorse : RunModel → RunModel → Type 0
 LaterIsNoWorse r s =
-    (files : FileMap) (j : JourneyModel) (alpha beta : ℕ) (query other : Query) (bounds later : Interval)
-    → AskBoth files j (Plan alpha) (Plan beta) r s → EndWell r s → r.report.query ≡ Some query → s.report.query ≡ Some other
+    (files others : FileMap) (j : JourneyModel) (alpha beta : ℕ) (query other : Query) (bounds later : Interval)
+    → AskBoth files others j (Plan alpha) (Plan beta) r s → EndWell r s → r.report.query ≡ Some query → s.report.query ≡ Some other
     → r.report.bounds ≡ Some bounds → s.report.bounds ≡ Some later → query.deadline.0 ≤ other.deadline.0 → later.hi ≤ bounds.hi
 
 -- no row of `departures` is later than the moment that `latest` finds, and where the rows reach that moment, one of them is at it
 abbrev pub LatestIsOfLastRow : RunModel → RunModel → Type 0
 LatestIsOfLastRow r s =
-    (files : FileMap) (j : JourneyModel) (until last : ℕ) (query : Query) (latest : Moment) (rows : List DepartureRow)
-    → AskBoth files j (Latest until) (Departures until last) r s → EndWell r s → r.report.query ≡ Some query → query.source.0 ≢ query.target.0
+    (files others : FileMap) (j : JourneyModel) (until last : ℕ) (query : Query) (latest : Moment) (rows : List DepartureRow)
+    → AskBoth files others j (Latest until) (Departures until last) r s → EndWell r s → r.report.query ≡ Some query → query.source.0 ≢ query.target.0
     → j.start ≤ last → r.report.latest ≡ Some latest → s.report.departures ≡ Some rows → IsOfLastRow last rows latest
 
 -- a fault of a graph file that `check` ends with is the first of the file's text, by line
 abbrev pub FaultIsFirst : Limits → RunModel → Type 0
 FaultIsFirst limits r =
-    (files : FileMap) (old said : List ℕ) (j : JourneyModel) (path text : List ℕ) (p : Problem) (fault : TextFault)
-    → IsUntroubled files old said r → job_of r.words ≡ Ok (Ask j (CheckGraph path)) → IsProblem limits files j p
+    (files : FileMap) (j : JourneyModel) (path text : List ℕ) (p : Problem) (fault : TextFault)
+    → IsUntroubled files r → job_of r.words ≡ Ok (Ask j (CheckGraph path)) → IsProblem limits files j p
     → file_at files path ≡ Some text → length text ≤ limits.bytes → r.report.fault ≡ Some (GraphFile fault)
     → IsFirstFaultOf p.timetable.network p.timetable.names p.source.0 p.target.0 j.start text fault
 
 -- whatever both runs ask, they agree
 pub record Agree (limits : Limits) (r s : RunModel) : Type 0 where
   pub alike : EndAlike r s
+  pub forms : FormsEndAlike limits r s
   pub accepted : PlanIsAccepted limits r s
   pub replayed : PlanIsReplayed limits r s
+  pub punctual : PunctualIsAccepted limits r s
+  pub punctual_replayed : PunctualIsReplayed limits r s
   pub certified : CertificateIsAccepted limits r s
   pub leave : LeaveAlike limits r s
   pub by_worst : LeaveByWorst r s
+  pub never : NeverLeave r s
+  pub search : SearchAlike limits r s
+  pub query : ShareQuery r s
   pub within : CertificateIsWithin limits r s
   pub strategy : ShareStrategy limits r s
   pub promise : PromiseIsSure r

@@ -1,7 +1,8 @@
 //! Two runs, each over a host of its own, and how they agree.
 ghost use Rattle.std.specs.Prelude.{map, string_bytes};
 ghost use Rattle.meat_engine.specs.RunPromises.{IsRun, sink_state};
-ghost use Rattle.run_laws.specs.Pairs.{Agree, host_state, run_of};
+ghost use Rattle.run_laws.specs.Pairs.{Agree};
+ghost use Rattle.run_laws.specs.Runs.{host_state, run_of};
 
 use csv_rows::Limits;
 use file_ports::{Files, Sink};

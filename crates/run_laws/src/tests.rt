@@ -36,12 +36,11 @@ fn words_of(alloc: Global, line: &str) -> Result<Vec<String>, Fail> {
     Ok(words)
 }
 
-/// A host with the connections, the delays and the plan.
+/// A host with the connections and the delays.
 fn host_of(alloc: Global) -> Result<MemoryHost, Fail> {
     let mut files = MemoryFiles::new(alloc, 64);
     files.add("c", CONNECTIONS.as_bytes())?;
     files.add("d", DELAYS.as_bytes())?;
-    files.add("g", PLAN.as_bytes())?;
     Ok(Host {
         files,
         out: MemorySink::new(alloc, 4096, ROOM, List::new(alloc))?,
@@ -83,14 +82,37 @@ fn a_plan_is_planned_again(rt: HostRuntime) -> Result<(), Fail> {
     Ok(())
 }
 
+/// A host in which what `plan` printed over another is saved.
+fn host_with_plan(alloc: Global) -> Result<MemoryHost, Fail> {
+    let (mut before, mut after) = (host_of(alloc)?, host_of(alloc)?);
+    let words = words_of(alloc, PLANS)?;
+    let report = before.run(alloc, words.as_slice(), &Limits::standard());
+    if report.status.0 != 0 {
+        return Err("the plan has a fault".into());
+    }
+    after.files.add("g", before.out.bytes())?;
+    Ok(after)
+}
+
 #[test]
-fn a_plan_is_accepted(rt: HostRuntime) -> Result<(), Fail> {
+fn a_plan_is_accepted_once_it_is_saved(rt: HostRuntime) -> Result<(), Fail> {
     let alloc = rt.alloc();
-    let (mut first, mut second) = (host_of(alloc)?, host_of(alloc)?);
+    let (mut first, mut second) = (host_of(alloc)?, host_with_plan(alloc)?);
     let (report, other) = run_lines(alloc, PLANS, CHECKS, &mut first, &mut second)?;
     let (Some(planned), Some(checked)) = (report.bounds, other.bounds) else {
         return Err("no bounds".into());
     };
     assert!(&rt; planned.hi() == checked.hi());
+    Ok(())
+}
+
+#[test]
+fn a_host_plans_again(rt: HostRuntime) -> Result<(), Fail> {
+    let alloc = rt.alloc();
+    let (mut first, mut second) = (host_of(alloc)?, host_with_plan(alloc)?);
+    let _checked = run_lines(alloc, PLANS, CHECKS, &mut first, &mut second)?;
+    let _planned = run_lines(alloc, PLANS, PLANS, &mut first, &mut second)?;
+    assert!(&rt; first.out.bytes().ends_with(PLAN.as_bytes()));
+    assert!(&rt; second.out.bytes().ends_with(PLAN.as_bytes()));
     Ok(())
 }

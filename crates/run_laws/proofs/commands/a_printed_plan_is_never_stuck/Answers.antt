@@ -1,5 +1,5 @@
-use Rattle.run_laws.proofs.Printed.{never_stuck}
+use Rattle.run_laws.proofs.Printed.{of_plan, not_stuck}
 use Rattle.run_laws.proofs.commands.a_printed_plan_is_never_stuck.Goals as goal
 
 pub returns : goal.returns
-returns c = never_stuck
+returns c = λ limits files start alpha p found text path late answers there small. not_stuck limits files start p text path (of_plan start alpha p found text answers) there small late
