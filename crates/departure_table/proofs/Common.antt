@@ -1,22 +1,24 @@
 -- The names that most proofs of this crate cite, passed on from one place. Declares nothing.
 pub use Rattle.std.proofs.Common.{All, AllPairs, IsSome, List, MatchOption, None, Option, Some, [], ap, append-nil, append_assoc, arith, false, inl, inr, length, length-append, map, nat_le, refl}
-pub use Rattle.std.proofs.Common.{slice_index_or, subst, suc, sym, true, zero, ℕ, ⊎_elim, ◌++◌, ◌+◌, ◌-◌, ◌<◌, ◌↔◌, ◌∙◌, ◌∷◌, ◌≡◌, ◌≤◌, ◌⊎◌}
-pub use Rattle.std.proofs.lemmas.Bool.{cases_lt, cases_order}
+pub use Rattle.std.proofs.Common.{if◌then◌else◌, replicate, slice_index_or, take, take_all, subst, suc, sym, true, zero, ℕ, ⊎_elim, ◌++◌, ◌+◌, ◌-◌, ◌<◌, ◌↔◌, ◌∙◌, ◌∷◌, ◌≡◌, ◌≢◌, ◌≤◌, ◌==◌, ◌⊎◌}
+pub use Rattle.std.proofs.lemmas.Bool.{cases_eq, cases_lt, cases_order}
 pub use Rattle.std.proofs.lemmas.Bool.Decides.{nat_tests}
 pub use Rattle.std.specs.List.{range_with_len}
-pub use Rattle.plan_model.proofs.Extended.{is_extension, is_valid}
 pub use Rattle.plan_model.specs.Bounds.{end_of_arrivals}
-pub use Rattle.plan_model.specs.Network.{AreLinksInto, IsValid, arr_of, count, dep_of}
+pub use Rattle.plan_model.specs.Network.{AreLinksInto, IsValid, arr_of, count, dep_of, from_of, links_into}
 pub use Rattle.plan_model.specs.NetworkModel.{NetworkModel, plain_network}
 pub use Rattle.plan_model.specs.Strategy.{IsLeastWorst, IsLeg}
 pub use Rattle.plan_model.specs.Tree.{Done, Kids, Ride, Stuck, Tree}
-pub use Rattle.plan_model.specs.View.{IsExtension, extended, links_from_added}
+pub use Rattle.plan_model.specs.Ways.{own_way, way_in, way_of, ways_into}
 pub use Rattle.plan_model.specs.declared.model.Connection.{Connection}
 pub use Rattle.plan_model.specs.declared.model.Leg.{Leg}
 pub use Rattle.plan_model.specs.declared.model.Moment.{Moment}
+pub use Rattle.plan_model.specs.declared.model.PlaceId.{PlaceId}
 pub use Rattle.plan_model.specs.declared.model.Query.{Query}
+pub use Rattle.plan_model.specs.declared.model.Way.{Way}
 pub use Rattle.value_laws.specs.declared.MeanSpan.{MeanSpan}
-pub use Rattle.departure_table.specs.Departures.{BeginsWith, IsASecondAway, IsBestFrom, IsDepartureRow, IsExtendedFor, IsGreatestMoment, IsNoneSafeFrom, IsTable, SafeAfter, SafeFrom, SaysOfSource}
+pub use Rattle.departure_table.specs.Departures.{BeginsWith, IsASecondAway, IsBestFrom, IsDepartureRow, IsExtendedFor, IsGreatestMoment, IsNoneSafeFrom, IsTable, LooksAhead, SafeAfter, SafeFrom, SaysOfSource, SolvesArrivals}
 pub use Rattle.departure_table.specs.Departures.{first_row_by}
+pub use Rattle.departure_table.specs.Gates.{HasGates, IsGate, SafeFromGate, extended_by, links_with_gates, places_with, source_at, way_from, way_if_to, ways_from_gates}
 pub use Rattle.departure_table.specs.Looked.{AreLooked, row_found, row_of_choice}
 pub use Rattle.departure_table.specs.declared.DepartureRow.{DepartureRow}

@@ -1,6 +1,11 @@
 mod Common
 pub mod Looks
 pub mod Growth
+pub mod GateWays
+pub mod GateLists
+pub mod GateTrees
 pub mod Sources
-pub mod Added
 pub mod Latest
+pub mod Reached
+pub mod ReachGrowth
+pub mod SameGates

@@ -1,18 +1,19 @@
 -- What a choice at a moment says of all from then on.
-use Rattle.departure_table.proofs.Common.{◌≡◌, ℕ, ◌-◌, ◌<◌, ◌≤◌, arith, Some, refl, sym, ap, ◌∙◌, subst, Leg, Query, NetworkModel, IsValid, count, dep_of, arr_of, Tree, Done, Ride, Stuck, Kids}
-use Rattle.departure_table.proofs.Common.{IsLeg, MeanSpan, DepartureRow, IsASecondAway, SafeAfter, IsNoneSafeFrom, BeginsWith, IsBestFrom, IsDepartureRow, end_of_arrivals}
+use Rattle.departure_table.proofs.Common.{◌≡◌, ◌≢◌, ℕ, ◌-◌, ◌<◌, ◌≤◌, arith, Some, refl, sym, ap, ◌∙◌, subst, Leg, Query, NetworkModel, IsValid, count, dep_of, arr_of, Tree, Done, Ride, Stuck, Kids}
+use Rattle.departure_table.proofs.Common.{IsLeg, Moment, MeanSpan, DepartureRow, IsGreatestMoment, row_of_choice, None, IsASecondAway, SafeAfter, IsNoneSafeFrom, BeginsWith, IsBestFrom, IsDepartureRow, SolvesArrivals, end_of_arrivals}
+use Rattle.std.proofs.lemmas.Option.{MatchOption-at_some, MatchOption-at_none}
 use Rattle.plan_model.specs.Unfold.{by_place, unfold_after, kids_after, outcomes_of}
 use Rattle.value_laws.specs.Means.{mean_scoring}
 use Rattle.meat_scan.specs.ScanResult.{ScanResult, choice_of, leg_choice, chosen_at}
-use Rattle.meat_scan.specs.Solves.{Solves, SolvesEach, IsSafeAt}
+use Rattle.meat_scan.specs.Solves.{SolvesEach, IsSafeAt}
 
-module _ (n : NetworkModel) (q : Query) (found : ScanResult MeanSpan) (solves : Solves mean_scoring found n q) (second : IsASecondAway n q.source.0) where
+module _ (n : NetworkModel) (q : Query) (found : ScanResult MeanSpan) (solves : SolvesArrivals found n q) (differ : q.source.0 ≢ q.target.0) (second : IsASecondAway n q.source.0) where
   abbrev here : ℕ
   here = q.source.0
 
   -- who may be later may be sooner
   earlier : (tree : Tree) (x y : ℕ) → x ≤ y → IsSafeAt n q here y tree → IsSafeAt n q here x tree
-  earlier (Done a) x y le h = absurd (solves.differ h.1)
+  earlier (Done a) x y le h = absurd (differ h.1)
   earlier (Ride i j kids) x y le h = grind (arith, here)
   earlier (Stuck p z) x y le h = absurd h
 
@@ -22,6 +23,9 @@ module _ (n : NetworkModel) (q : Query) (found : ScanResult MeanSpan) (solves : 
 
   pub none_ahead : (next : ℕ) → ((tree : Tree) → IsSafeAt n q here (next - 1) tree → ⊥) → (moment : ℕ) → next ≤ moment → IsNoneSafeFrom (SafeAfter n q) moment
   none_ahead next none moment ahead tree safe = none tree (earlier tree (next - 1) (moment - 1) (omega arith) safe)
+
+  none_at : (x : ℕ) → choice_of found here x ≡ None → (tree : Tree) → IsSafeAt n q here x tree → ⊥
+  none_at x none = MatchOption-at_none _ _ none (solves here x differ)
 
   module _ (x : ℕ) (choice : MeanSpan × Leg) (is : choice_of found here x ≡ Some choice) where
     abbrev chosen_children : Kids
@@ -66,3 +70,29 @@ module _ (n : NetworkModel) (q : Query) (found : ScanResult MeanSpan) (solves : 
               gap = rw bounds answer.gap_within;
             },
           )
+
+  -- the departure of the last choice is the greatest moment, unless that is before the first one
+  module _ (last : MeanSpan × Leg) (x : ℕ) (is : choice_of found here x ≡ Some last) (none_after : (arrival : ℕ) → x < arrival → choice_of found here arrival ≡ None) where
+    answer_last : SolvesEach mean_scoring n q found here x last
+    answer_last = MatchOption-at_some _ _ _ is (solves here x differ)
+
+    pub last_enter : last.1.enter.0 < count n
+    last_enter = (safe_ride x last is answer_last).1.enter
+
+    none_past : IsValid n → (moment : ℕ) → dep_of n last.1.enter.0 < moment → IsNoneSafeFrom (SafeAfter n q) moment
+    none_past valid moment past =
+        let ahead = looks_ahead x last is answer_last valid (row_of_choice n last) refl refl refl in
+        none_at (moment - 1) (none_after (moment - 1) (omega (arith, ahead.0, past)))
+
+    pub last_is_greatest : IsValid n → (first : ℕ) (by : Moment) → by.0 ≡ dep_of n last.1.enter.0 → first ≤ by.0 → IsGreatestMoment (SafeAfter n q) first (Some by)
+    last_is_greatest valid first by departs within =
+        let ahead = looks_ahead x last is answer_last valid (row_of_choice n last) refl refl refl in
+        let best = ahead.3 by.0 (omega (arith, ahead.0, departs)) (omega (arith, departs)) in
+        (within, (best.covers_one.0, best.covers_one.1), λ moment later. none_past valid moment (omega (arith, later, departs)))
+
+    pub none_is_greatest : IsValid n → (first : ℕ) (by : Moment) → by.0 ≡ dep_of n last.1.enter.0 → by.0 < first → IsGreatestMoment (SafeAfter n q) first None
+    none_is_greatest valid first by departs past = λ moment later. none_past valid moment (omega (arith, later, departs, past))
+
+  -- nor is there one without a choice
+  pub no_greatest : ((arrival : ℕ) → choice_of found here arrival ≡ None) → (first : ℕ) → IsGreatestMoment (SafeAfter n q) first None
+  no_greatest none first = λ moment later. none_at (moment - 1) (none (moment - 1))

@@ -1,9 +1,9 @@
--- What is said of an extended network is said of the network itself.
-use Rattle.departure_table.proofs.Common.{◌≡◌, ℕ, zero, ◌≤◌, arith, Option, Some, None, List, [], ◌∷◌, length, true, refl, sym, subst, MatchOption, nat_le, ◌↔◌, nat_tests, Query, Moment}
-use Rattle.departure_table.proofs.Common.{NetworkModel, IsExtension, IsValid, count, Tree, DepartureRow, IsASecondAway, SafeAfter, SafeFrom, IsNoneSafeFrom, IsBestFrom, IsTable, IsGreatestMoment}
+-- What is said of a gate is said of its source in the network.
+use Rattle.departure_table.proofs.Common.{◌≡◌, ℕ, zero, ◌≤◌, arith, Option, Some, None, List, [], ◌∷◌, true, refl, subst, MatchOption, nat_le, ◌↔◌, nat_tests, Query, Moment}
+use Rattle.departure_table.proofs.Common.{NetworkModel, IsGate, IsValid, count, Tree, DepartureRow, IsASecondAway, SafeAfter, SafeFrom, IsNoneSafeFrom, IsBestFrom, IsTable, IsGreatestMoment}
 use Rattle.departure_table.proofs.Common.{IsExtendedFor, SaysOfSource, first_row_by}
 use Rattle.plan_model.proofs.Views.{seen, leg_there}
-use Rattle.plan_model.proofs.Extensions.{added_there, added_back}
+use Rattle.departure_table.proofs.GateTrees.{gate_there, gate_back}
 
 -- a table has no row exactly where nothing is safe from the first moment on
 module _ (m : NetworkModel) (Safe : ℕ → Tree → Type 0) (first last : ℕ) (order : first ≤ last) where
@@ -31,16 +31,16 @@ module _ (n m : NetworkModel) (S T : ℕ → Tree → Type 0) (many : count n �
   greatest_reported first None some none = λ moment later tree safe. none moment later tree (from moment tree (omega arith) safe)
   greatest_reported first (Some g) some is = grind arith
 
--- from the place that was added everything is a second away
-pub second_away : (n m : NetworkModel) (source : ℕ) → IsExtension n m source → IsValid m → IsASecondAway n (length m.change)
-second_away n m source extends v i seconds less way = grind (arith, seen)
+-- from a gate everything is a second away
+pub second_away : (n m : NetworkModel) (gate source : ℕ) → IsGate n m gate source → IsValid m → IsASecondAway n gate
+second_away n m gate source g v i seconds less way = grind (arith, seen)
 
 module _ (n : NetworkModel) (q : Query) (m : NetworkModel) (source : ℕ) (e : IsExtendedFor n q m source) where
-  to_source : (moment : ℕ) (tree : Tree) → 1 ≤ moment → SafeAfter n q moment tree → SafeFrom m source q moment tree
-  to_source moment tree some safe = grind (arith, added_there)
+  pub to_source : (moment : ℕ) (tree : Tree) → 1 ≤ moment → SafeAfter n q moment tree → SafeFrom m source q moment tree
+  to_source moment tree some safe = grind (arith, gate_there)
 
-  from_source : (moment : ℕ) (tree : Tree) → 1 ≤ moment → SafeFrom m source q moment tree → SafeAfter n q moment tree
-  from_source moment tree some safe = grind (arith, added_back)
+  pub from_source : (moment : ℕ) (tree : Tree) → 1 ≤ moment → SafeFrom m source q moment tree → SafeAfter n q moment tree
+  from_source moment tree some safe = grind (arith, gate_back)
 
   table_reported : (first last : ℕ) (rows : List DepartureRow) → 1 ≤ first → IsTable n (SafeAfter n q) first last rows → IsTable m (SafeFrom m source q) first last rows
   table_reported first last rows some t = grind (arith, answer_reported, to_source, from_source, leg_there, seen)
@@ -50,8 +50,8 @@ module _ (n : NetworkModel) (q : Query) (m : NetworkModel) (source : ℕ) (e : I
 
   pub says : SaysOfSource n q m source
   says = record {
-    second = subst (λ (place : ℕ). IsASecondAway n place) (sym e.last_place) (second_away n m source e.extends e.valid);
+    second = second_away n m q.source.0 source e.gate e.valid;
     empty_exactly = empty_reported;
     tables = table_reported;
-    greatest = λ first result some g. greatest_reported n m (SafeAfter n q) (SafeFrom m source q) e.extends.view.as_many to_source from_source first result some g;
+    greatest = λ first result some g. greatest_reported n m (SafeAfter n q) (SafeFrom m source q) e.gate.view.as_many to_source from_source first result some g;
   }

@@ -10,14 +10,25 @@ use Rattle.plan_model.specs.Ways.{way_of}
 use Rattle.plan_model.specs.Tree.{Tree, Ride, Kids}
 use Rattle.plan_model.specs.Expected.{Below, Covers, arrival}
 use Rattle.plan_model.specs.Strategy.{IsLeg, IsSafeFromStart}
-use Rattle.plan_model.specs.View.{IsExtension}
 use Rattle.value_laws.specs.Rounded.{rounded_up, rounded_down}
-use Rattle.meat_scan.specs.Solves.{IsSafeAt}
+use Rattle.value_laws.specs.declared.MeanSpan.{MeanSpan}
+use Rattle.value_laws.specs.Means.{mean_scoring}
+use Rattle.meat_scan.specs.ScanResult.{ScanResult, choice_of}
+use Rattle.meat_scan.specs.Solves.{SolvesEach, IsSafeAt}
+use Rattle.departure_table.specs.Gates.{IsGate}
 use Rattle.departure_table.specs.declared.DepartureRow.{DepartureRow}
 
 -- each way from a place to where a connection can be boarded takes one second
 abbrev pub IsASecondAway : NetworkModel → (place : ℕ) → Type 0
 IsASecondAway network place = (i seconds : ℕ) → i < count network → way_of network place (from_of network i) ≡ Some seconds → seconds ≡ 1
+
+-- what was found solves the query after each arrival at each place, wherever the query has its source
+abbrev pub SolvesArrivals : ScanResult MeanSpan → NetworkModel → Query → Type 0
+SolvesArrivals found network query =
+    (place arrival : ℕ) → place ≢ query.target.0 →
+    MatchOption (choice_of found place arrival)
+    ((tree : Tree) → IsSafeAt network query place arrival tree → ⊥)
+    (SolvesEach mean_scoring network query found place arrival)
 
 -- the tree is safe for a traveller who has been at the source since a second before
 abbrev pub SafeAfter : NetworkModel → Query → ℕ → Tree → Type 0
@@ -76,11 +87,10 @@ LooksAhead m Safe next found =
     ((moment : ℕ) → next ≤ moment → IsNoneSafeFrom Safe moment)
     (λ row. (next ≤ row.by.0) × (row.by.0 < end_of_arrivals) × IsDepartureRow m row × ((moment : ℕ) → next ≤ moment → moment ≤ row.by.0 → IsBestFrom m Safe moment row))
 
--- the network is that of m with one more place, at which the query has its source; its target is another place of m than the one that this leads to
+-- the query has its source at a gate of the network, which leads to another place of m than the target
 pub record IsExtendedFor (network : NetworkModel) (query : Query) (m : NetworkModel) (source : ℕ) : Type 0 where
-  pub extends : IsExtension network m source
+  pub gate : IsGate network m query.source.0 source
   pub valid : IsValid m
-  pub last_place : query.source.0 ≡ length m.change
   pub target_there : query.target.0 < length m.change
   pub away : source ≢ query.target.0
 

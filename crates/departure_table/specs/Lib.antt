@@ -1,3 +1,5 @@
+pub mod Gates
 pub mod Departures
 pub mod Latest
 pub mod Looked
+pub mod Reach

@@ -1,12 +1,18 @@
 -- The rows that are looked up one behind the other.
-use Rattle.std.specs.Prelude.{◌≡◌, ℕ, ◌+◌, ◌-◌, ◌<◌, ◌≤◌, ◌⊎◌, List, [], ◌∷◌, Option, None, Some}
+use Rattle.std.specs.Prelude.{◌≡◌, ℕ, ◌+◌, ◌-◌, ◌^◌, ◌<◌, ◌≤◌, ◌⊎◌, List, [], ◌∷◌, Option, None, Some, All, length}
 use Rattle.std.specs.Option.{option_map}
+use Rattle.plan_model.specs.declared.model.ConnectionId.{ConnectionId}
 use Rattle.plan_model.specs.declared.model.Leg.{Leg}
+use Rattle.plan_model.specs.declared.model.PlaceId.{PlaceId}
 use Rattle.plan_model.specs.declared.model.Query.{Query}
 use Rattle.plan_model.specs.NetworkModel.{NetworkModel}
 use Rattle.plan_model.specs.Network.{connection}
 use Rattle.value_laws.specs.declared.MeanSpan.{MeanSpan}
+use Rattle.value_laws.specs.Means.{mean_scoring}
+use Rattle.plan_model.specs.Order.{IsScanOrder}
+use Rattle.meat_scan.specs.Rules.{FollowsRules}
 use Rattle.meat_scan.specs.ScanResult.{ScanResult, choice_of}
+use Rattle.departure_table.specs.Gates.{extended_by}
 use Rattle.departure_table.specs.declared.DepartureRow.{DepartureRow}
 
 -- the row of a leg with its value, by its departure
@@ -21,3 +27,19 @@ row_found network query found next = option_map (row_of_choice network) (choice_
 abbrev pub AreLooked : (ℕ → Option DepartureRow) → (last next : ℕ) → List DepartureRow → Type 0
 AreLooked look last next [] = (last < next) ⊎ (look next ≡ None)
 AreLooked look last next (row ∷ rows) = (next ≤ last) × (look next ≡ Some row) × AreLooked look last (row.by.0 + 1) rows
+
+-- the sources are places of the network, and there is a number for each gate
+pub record FitGates (m : NetworkModel) (sources : List PlaceId) : Type 0 where
+  pub there : All (λ source. source.0 < length m.change) sources
+  pub few : length m.change + length sources < 2 ^ 32
+
+-- the query with its source elsewhere
+abbrev pub asked_at : Query → ℕ → Query
+asked_at q place = record { source = record { 0 = place }; target = q.target; start = q.start; deadline = q.deadline }
+
+-- with gates for xs and with gates for ys a scan of the connections in their order finds the same rows at gate k and at gate j
+abbrev pub FindAlike : NetworkModel → (xs ys : List PlaceId) → Query → (x y k j : ℕ) → Type 0
+FindAlike m xs ys q x y k j =
+    (order : List ConnectionId) (a b : ScanResult MeanSpan) → IsScanOrder (extended_by m xs) order
+    → FollowsRules mean_scoring (extended_by m xs) (asked_at q x) order a → FollowsRules mean_scoring (extended_by m ys) (asked_at q y) order b
+    → (next : ℕ) → row_found (extended_by m xs) (asked_at q (length m.change + k)) a next ≡ row_found (extended_by m ys) (asked_at q (length m.change + j)) b next

@@ -1,17 +1,15 @@
 //! The departures from a place in a span of time, each with the best that can still be done by it,
 //! and the latest moment at which one can still set out. A scan answers a traveller who has arrived at a
-//! place, so the network is extended by a place from which one is at the source a second later:
+//! place, so the network is extended by gates, places from which one is at a source a second later:
 //! there the departures are legs after an arrival, and one scan has a row for each.
 //!
 //! A call that takes an allocator may answer that there is no memory, as `NoMemory` or as the variant
 //! of that name; then what it was lent is as it was, unless its own comment says otherwise.
 #![tactic(auto)]
 
-ghost use Rattle.std.specs.Prelude.{◌≡◌, ℕ, ◌+◌, ◌<◌, ◌≤◌, IfOk};
+ghost use Rattle.std.specs.Prelude.{◌≡◌, ◌≢◌, ℕ, ◌+◌, ◌<◌, ◌≤◌, IfOk};
 ghost use Rattle.plan_model.specs.NetworkModel.{NetworkModel};
-ghost use Rattle.value_laws.specs.Means.{mean_scoring};
-ghost use Rattle.meat_scan.specs.Solves.{Solves};
-ghost use Rattle.departure_table.specs.Departures.{IsASecondAway, SafeAfter, IsExtendedFor, IsTable, IsGreatestMoment, LooksAhead, SaysOfSource};
+ghost use Rattle.departure_table.specs.Departures.{SolvesArrivals, IsASecondAway, SafeAfter, IsExtendedFor, IsTable, IsGreatestMoment, LooksAhead, SaysOfSource};
 ghost use Rattle.departure_table.specs.Looked.{row_found, AreLooked};
 ghost use Rattle.plan_model.specs.declared.model.Query.{Query as Asked};
 
@@ -21,11 +19,16 @@ use plan_model::{Leg, List, Moment, Network, NoMemory, Query};
 use std::alloc::Global;
 use value_laws::MeanSpan;
 
-mod added_place;
+mod gates;
 mod laws;
+mod reach_rows;
 
-pub use added_place::extended;
-pub use laws::{greatest_moment_agrees_with_the_least_worst, greatest_moment_is_of_the_last_row};
+pub use gates::{extended_by, safe_from_gate};
+pub use laws::{
+    finds_the_same_at_gates, greatest_moment_agrees_with_the_least_worst,
+    greatest_moment_is_of_the_last_row, row_begins_the_departures,
+};
+pub use reach_rows::{ReachRow, reach, with_every_gate};
 
 /// A row of the table: what is best for a traveller who sets out by its moment, and too late for the row before.
 #[derive(Clone, Copy, Debug)]
@@ -46,7 +49,8 @@ fn row_from(
     next: Moment,
 ) -> Option<DepartureRow>
     requires next { 1 ≤ next.0 }
-    requires solves { Solves mean_scoring scanned.now network.now query.now }
+    requires solves { SolvesArrivals scanned.now network.now query.now }
+    requires differ { query.now.source.0 ≢ query.now.target.0 }
     requires second { IsASecondAway network.now query.now.source.0 }
     ensures ahead { LooksAhead network.now (SafeAfter network.now query.now) next.0 result }
     ensures found { result ≡ row_found network.now query.now scanned.now next.0 }
@@ -74,7 +78,8 @@ pub fn table(
     last: Moment,
 ) -> Result<List<DepartureRow>, NoMemory>
     requires first { 1 ≤ first.0 }
-    requires solves { Solves mean_scoring scanned.now network.now query.now }
+    requires solves { SolvesArrivals scanned.now network.now query.now }
+    requires differ { query.now.source.0 ≢ query.now.target.0 }
     requires second { IsASecondAway network.now query.now.source.0 }
     ensures table { IfOk result (IsTable network.now (SafeAfter network.now query.now) first.0 last.0) }
     ensures looked { IfOk result (AreLooked (row_found network.now query.now scanned.now) last.0 first.0) }
@@ -102,21 +107,20 @@ pub fn greatest(
     first: Moment,
 ) -> Option<Moment>
     requires first { 1 ≤ first.0 }
-    requires solves { Solves mean_scoring scanned.now network.now query.now }
+    requires solves { SolvesArrivals scanned.now network.now query.now }
+    requires differ { query.now.source.0 ≢ query.now.target.0 }
     requires second { IsASecondAway network.now query.now.source.0 }
     ensures { IsGreatestMoment (SafeAfter network.now query.now) first.0 result }
 {
-    let mut greatest = None;
-    let mut next = first.0;
-    while let Some(row) = row_from(scanned, network, query, Moment(next)) {
-        let by = row.by;
-        greatest = Some(by);
-        next = by.0 + 1;
+    let (_, leg) = scanned.last(query.source)?;
+    let by = network.get(leg.enter).dep;
+    if by.0 < first.0 {
+        return None;
     }
-    greatest
+    Some(by)
 }
 
-/// A law, with no code: what the table and the greatest moment say of an extended network, they say of the
+/// A law, with no code: what the table and the greatest moment say of a gate, they say of its source in the
 /// network.
 pub fn says_of_source()
     ensures { (n : NetworkModel) (q : Asked) (m : NetworkModel) (source : ℕ) → IsExtendedFor n q m source → SaysOfSource n q m source }

@@ -3,5 +3,6 @@ pub mod Sought
 pub mod Bounds
 pub mod Departing
 pub mod Ruled
+pub mod SameReach
 pub mod TripFaults
 pub mod Unsafe

@@ -1,15 +1,15 @@
 -- The departures that the rules of a scan give.
-use Rattle.std.specs.Prelude.{ℕ, List, length}
+use Rattle.std.specs.Prelude.{ℕ, List, [], ◌∷◌, length}
 use Rattle.plan_model.specs.declared.model.ConnectionId.{ConnectionId}
 use Rattle.plan_model.specs.declared.model.Query.{Query}
 use Rattle.plan_model.specs.NetworkModel.{NetworkModel}
 use Rattle.plan_model.specs.Order.{IsScanOrder}
-use Rattle.plan_model.specs.View.{extended}
 use Rattle.value_laws.specs.declared.MeanSpan.{MeanSpan}
 use Rattle.value_laws.specs.Means.{mean_scoring}
 use Rattle.meat_scan.specs.Rules.{FollowsRules}
 use Rattle.meat_scan.specs.ScanResult.{ScanResult}
 use Rattle.departure_table.specs.declared.DepartureRow.{DepartureRow}
+use Rattle.departure_table.specs.Gates.{extended_by}
 use Rattle.departure_table.specs.Looked.{row_found, AreLooked}
 use Rattle.journey_model.specs.declared.problem.Problem.{Problem}
 
@@ -26,5 +26,5 @@ added_query network query = record { source = record { 0 = length network.change
 -- the rows are those that the rules give in the network with a place more
 pub record AreByRules (p : Problem) (query : Query) (last : ℕ) (rows : List DepartureRow) : Type 0 where
   pub found : ScanResult MeanSpan
-  pub ruled : IsRuled (extended p.timetable.network query.source.0) (added_query p.timetable.network query) found
-  pub looked : AreLooked (row_found (extended p.timetable.network query.source.0) (added_query p.timetable.network query) found) last query.start.0 rows
+  pub ruled : IsRuled (extended_by p.timetable.network (query.source ∷ [])) (added_query p.timetable.network query) found
+  pub looked : AreLooked (row_found (extended_by p.timetable.network (query.source ∷ [])) (added_query p.timetable.network query) found) last query.start.0 rows

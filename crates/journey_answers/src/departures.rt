@@ -1,5 +1,5 @@
 //! The departures of a journey, and the latest moment at which one can leave.
-ghost use Rattle.std.specs.Prelude.{◌≡◌, ◌≢◌, ◌<◌, ◌≤◌, length, Some, IfOk, IfErr, MatchOption};
+ghost use Rattle.std.specs.Prelude.{◌≡◌, ◌≢◌, ◌<◌, ◌≤◌, ◌∷◌, [], length, Some, IfOk, IfErr, MatchOption};
 ghost use Rattle.command_line.specs.Ranges.{IsLater};
 ghost use Rattle.decision_graph.specs.Expanded.{IsNoneSafe};
 ghost use Rattle.departure_table.specs.Departures.{IsExtendedFor, IsGreatestMoment, IsTable};
@@ -7,13 +7,13 @@ ghost use Rattle.meat_scan.specs.Solves.{Solves};
 ghost use Rattle.value_laws.specs.Means.{mean_scoring};
 ghost use Rattle.command_line.specs.Values.{last_until};
 ghost use Rattle.journey_model.specs.Wants.{OrNoMemory};
-ghost use Rattle.plan_model.specs.View.{extended as with_added};
+ghost use Rattle.departure_table.specs.Gates.{extended_by as with_gates};
 ghost use Rattle.journey_answers.specs.ByRules.{IsRuled, AreByRules, added_query};
 ghost use Rattle.journey_answers.specs.Departures.{query_until, SafeOf, AreDepartures, HasSafeFor, IsUntil, AnswersDepartures, AnswersLatest, FailsDepartures, FailsLatest};
 ghost use Rattle.journey_report.specs.Findings.{findings_of};
 
 use crate::answers::Answered;
-use departure_table::{DepartureRow, extended, greatest, says_of_source, table};
+use departure_table::{DepartureRow, extended_by, greatest, says_of_source, table};
 use journey_model::{Fault, Problem, Start};
 use journey_report::{Answer, NamedQuery, Report, departures_text, latest_text};
 use meat_scan::{ScanTables, Scanned, scan};
@@ -53,7 +53,11 @@ fn query_until(problem: &Problem, start: Start, until: Moment) -> Query
 }
 
 /// What a scan of a network finds for a query.
-fn scan_of(alloc: Global, network: &Network, query: &Query) -> Result<Scanned<MeanSpan>, NoMemory>
+pub(crate) fn scan_of(
+    alloc: Global,
+    network: &Network,
+    query: &Query,
+) -> Result<Scanned<MeanSpan>, NoMemory>
     requires source { query.now.source.0 < length network.now.change }
     requires target { query.now.target.0 < length network.now.change }
     requires differ { query.now.source.0 ≢ query.now.target.0 }
@@ -78,7 +82,7 @@ fn scan_from_added(alloc: Global, asked: &QueryUntil) -> Result<FromAdded, NoMem
         found.scanned found.network found.query) }
     ensures ruled { IfOk result (λ found. IsRuled found.network found.query found.scanned) }
     ensures network { IfOk result (λ found. found.network
-        ≡ with_added asked.now.problem.now.timetable.network asked.now.query.source.0) }
+        ≡ with_gates asked.now.problem.now.timetable.network (asked.now.query.source ∷ [])) }
     ensures query { IfOk result (λ found. found.query
         ≡ added_query asked.now.problem.now.timetable.network asked.now.query) }
 {
@@ -87,7 +91,7 @@ fn scan_from_added(alloc: Global, asked: &QueryUntil) -> Result<FromAdded, NoMem
     if places == u32::MAX {
         return Err(NoMemory);
     }
-    let network = extended(alloc, before, asked.query.source)?;
+    let network = extended_by(alloc, before, &[asked.query.source])?;
     let query = Query {
         source: PlaceId(places),
         ..asked.query

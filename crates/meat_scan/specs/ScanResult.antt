@@ -1,5 +1,5 @@
 -- What a scan found, and the trees that it chooses.
-use Rattle.std.specs.Prelude.{ℕ, List, [], Option, Some, slice_index_or, map}
+use Rattle.std.specs.Prelude.{◌≡◌, ℕ, ◌<◌, List, [], Option, Some, None, MatchOption, slice_index_or, map}
 use Rattle.std.specs.Option.{option_map}
 use Rattle.plan_model.specs.declared.model.Leg.{Leg}
 use Rattle.plan_model.specs.declared.model.Query.{Query}
@@ -27,6 +27,13 @@ found_rows found place = slice_index_or found.rows place []
 -- what is chosen after an arrival at a place
 abbrev pub choice_of : {V : Type 0} → ScanResult V → ℕ → ℕ → Option (V × Leg)
 choice_of found place arrival = option_map (λ row. (row.value, row.leg)) (row_in_time arrival (found_rows found place))
+
+-- the choice after the latest arrivals at a place: after a later one there is none
+abbrev pub IsLastChoice : {V : Type 0} → ScanResult V → ℕ → Option (V × Leg) → Type 0
+IsLastChoice found place choice =
+    MatchOption choice
+    ((arrival : ℕ) → choice_of found place arrival ≡ None)
+    (λ last. (by : ℕ) × (choice_of found place by ≡ Some last) × ((arrival : ℕ) → by < arrival → choice_of found place arrival ≡ None))
 
 -- the leg that is chosen after an arrival at a place
 abbrev pub leg_choice : {V : Type 0} → ScanResult V → ℕ → ℕ → Option Leg

@@ -17,7 +17,7 @@ ghost use Rattle.plan_model.specs.Network.{count, from_of, run_of, IsValid};
 ghost use Rattle.plan_model.specs.Order.{IsScanOrder};
 ghost use Rattle.std.specs.Option.{option_map};
 ghost use Rattle.meat_scan.specs.ScanTables.{rows_of_profile, spare_at, capacity_at, exit_at, is_boardable_by, ways_between, HasRoomFor, FitsTables, FitsTablesBy, IsEmpty};
-ghost use Rattle.meat_scan.specs.ScanResult.{choice_of, found_in};
+ghost use Rattle.meat_scan.specs.ScanResult.{choice_of, found_in, IsLastChoice};
 ghost use Rattle.meat_scan.specs.Values.{value_after_arrival, values_after};
 ghost use Rattle.meat_scan.specs.Step.{alighted_by, exits_with, way_of_place, with_way, rows_with, start_with};
 ghost use Rattle.meat_scan.specs.Step.{boarding_exit};
@@ -402,6 +402,20 @@ impl<V: Score> Scanned<V> {
     {
         let profile = self.profiles.get(place.0 as usize)?;
         let row = profile.first(arrival)?;
+        Some((row.value, row.leg))
+    }
+
+    /// The leg to take after the latest arrivals at a place other than the target, with its value; `None` if no strategy is safe
+    /// from there after any arrival, or if there is no such place.
+    pub fn last(&self, place: PlaceId) -> Option<(V, Leg)>
+        ensures { IsLastChoice self.now place.0 result }
+    {
+        let profile = self.profiles.get(place.0 as usize)?;
+        let rows = profile.rows();
+        if rows.is_empty() {
+            return None;
+        }
+        let row = rows[rows.len() - 1];
         Some((row.value, row.leg))
     }
 }

@@ -2,12 +2,12 @@
 use Rattle.run_laws.proofs.Common.{◌≡◌, ℕ, ◌+◌, ◌-◌, List, [], ◌∷◌, Option, sym, subst, refl, ap, ap₂, ◌∙◌, inl, inr, arith, cases_eq, ConnectionId, Query, NetworkModel, mean_scoring, kept_after}
 use Rattle.run_laws.proofs.Common.{one_found, Problem, Findings, departures_findings, departures_text, AreDepartures, AnswersDepartures, IsOneAnswer}
 use Rattle.std.specs.Option.{option_map}
-use Rattle.plan_model.specs.View.{extended}
 use Rattle.value_laws.specs.declared.MeanSpan.{MeanSpan}
 use Rattle.stop_profile.specs.declared.Row.{Row}
 use Rattle.stop_profile.specs.Inserts.{row_in_time}
 use Rattle.meat_scan.specs.ScanResult.{ScanResult}
 use Rattle.departure_table.specs.declared.DepartureRow.{DepartureRow}
+use Rattle.departure_table.specs.Gates.{extended_by}
 use Rattle.departure_table.specs.Looked.{row_of_choice, row_found, AreLooked}
 use Rattle.journey_answers.specs.ByRules.{IsRuled, AreByRules, added_query}
 use Rattle.run_laws.proofs.OneOrder.{one_order}
@@ -35,7 +35,7 @@ one_look n q a b is other next =
 module _ (p : Problem) (q : Query) (last : ℕ) where
   one_by_rules : (xs ys : List DepartureRow) → AreByRules p q last xs → AreByRules p q last ys → xs ≡ ys
   one_by_rules xs ys is other =
-      let n = extended p.timetable.network q.source.0 in
+      let n = extended_by p.timetable.network (q.source ∷ []) in
       let asked = added_query p.timetable.network q in
       let same = one_look n asked is.found other.found is.ruled other.ruled in
       one_looked (row_found n asked is.found) last q.start.0 xs ys is.looked

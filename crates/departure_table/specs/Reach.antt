@@ -1,0 +1,74 @@
+-- What the reach of a target says.
+use Rattle.std.specs.Prelude.{◌≡◌, ◌≢◌, ℕ, ◌+◌, ◌-◌, ◌<◌, ◌≤◌, ◌==◌, List, ◌∷◌, [], Option, Some, MatchOption, All, AllPairs, find, length, map}
+use Rattle.std.specs.List.{range_with_len}
+use Rattle.interval_fixed.specs.Interval.{Interval}
+use Rattle.plan_model.specs.declared.model.PlaceId.{PlaceId}
+use Rattle.plan_model.specs.declared.model.Query.{Query}
+use Rattle.plan_model.specs.Bounds.{nanos_per_second}
+use Rattle.plan_model.specs.NetworkModel.{NetworkModel}
+use Rattle.plan_model.specs.Network.{count}
+use Rattle.plan_model.specs.Tree.{Tree}
+use Rattle.plan_model.specs.Expected.{Below, Covers, arrival}
+use Rattle.value_laws.specs.Rounded.{rounded_up, rounded_down}
+use Rattle.departure_table.specs.Departures.{SafeFrom, IsNoneSafeFrom, IsGreatestMoment}
+use Rattle.value_laws.specs.declared.MeanSpan.{MeanSpan}
+use Rattle.value_laws.specs.Means.{mean_scoring}
+use Rattle.plan_model.specs.declared.model.ConnectionId.{ConnectionId}
+use Rattle.plan_model.specs.Order.{IsScanOrder}
+use Rattle.meat_scan.specs.Rules.{FollowsRules}
+use Rattle.departure_table.specs.Gates.{extended_by}
+use Rattle.meat_scan.specs.ScanResult.{ScanResult}
+use Rattle.departure_table.specs.declared.DepartureRow.{DepartureRow}
+use Rattle.departure_table.specs.Looked.{asked_at, row_found, AreLooked}
+use Rattle.departure_table.specs.declared.reach_rows.ReachRow.{ReachRow}
+
+-- so many places, by rising number
+abbrev pub places_up_to : ℕ → List PlaceId
+places_up_to count = map (λ (k : ℕ). record { 0 = k }) (range_with_len 0 count)
+
+-- the places of a network
+abbrev pub places_of : NetworkModel → List PlaceId
+places_of m = places_up_to (length m.change)
+
+-- bounds on the least mean of what is safe: the lower one is below all that is safe, and at most that with each mean rounded down,
+-- ride by ride; the upper one covers one that is safe, and is that rounded up
+pub record AreBounds (m : NetworkModel) (Safe : Tree → Type 0) (bounds : Interval) : Type 0 where
+  pub below_safe : (tree : Tree) → Safe tree → Below bounds.lo tree
+  pub least : (tree : Tree) → Safe tree → bounds.lo ≤ rounded_down nanos_per_second arrival tree
+  pub covers_one : (tree : Tree) × Safe tree × Covers bounds.hi tree × (bounds.hi ≡ rounded_up nanos_per_second arrival tree)
+  pub gap : bounds.hi - bounds.lo ≤ count m
+
+-- what the row says of its place: the latest moment from the start on at which one can set out there and be safe, and
+-- bounds on the least expected arrival of who sets out there at the start
+pub record IsReachRow (m : NetworkModel) (query : Query) (start : ℕ) (row : ReachRow) : Type 0 where
+  pub latest : IsGreatestMoment (SafeFrom m row.place.0 query) start (Some row.latest)
+  pub bounds : AreBounds m (SafeFrom m row.place.0 query start) row.bounds
+
+-- the bounds of the row are those that a scan found at the gate of its place, for who sets out there at the start
+abbrev pub IsFoundAtGate : (longer m : NetworkModel) → Query → ScanResult MeanSpan → ReachRow → Type 0
+IsFoundAtGate longer m query found row =
+    (best : DepartureRow) × (row_found longer (asked_at query (length m.change + row.place.0)) found query.start.0 ≡ Some best) × (row.bounds ≡ best.bounds)
+
+-- the first row of a place
+abbrev pub row_of_place : ℕ → List ReachRow → Option ReachRow
+row_of_place place rows = find (λ row. row.place.0 == place) rows
+
+-- for each place but the target one row, by rising place; none exactly if nobody who sets out there at the start is safe
+pub record IsReach (m : NetworkModel) (query : Query) (start : ℕ) (rows : List ReachRow) : Type 0 where
+  pub answers : (place : ℕ) → place < length m.change → place ≢ query.target.0 →
+      MatchOption (row_of_place place rows) (IsNoneSafeFrom (SafeFrom m place query) start) (IsReachRow m query start)
+  pub places : All (λ row. (row.place.0 < length m.change) × (row.place.0 ≢ query.target.0)) rows
+  pub rising : AllPairs (λ a b. a.place.0 < b.place.0) rows
+
+-- the first of the departures has the bounds of the row
+abbrev pub BeginsWithBounds : ReachRow → List DepartureRow → Type 0
+BeginsWithBounds row departures = (first : DepartureRow) × (rest : List DepartureRow) × (departures ≡ first ∷ rest) × (row.bounds ≡ first.bounds)
+
+-- scans of the network with a gate for each place and with one for a place alone: the row of the place in a reach has the bounds of
+-- the first of its departures up to a last moment
+abbrev pub FirstAlike : NetworkModel → Query → PlaceId → (x y last : ℕ) → Type 0
+FirstAlike m q place x y last =
+    (order : List ConnectionId) (a b : ScanResult MeanSpan) (row : ReachRow) (departures : List DepartureRow) → IsScanOrder (extended_by m (places_of m)) order
+    → FollowsRules mean_scoring (extended_by m (places_of m)) (asked_at q x) order a → FollowsRules mean_scoring (extended_by m (place ∷ [])) (asked_at q y) order b
+    → row.place.0 ≡ place.0 → IsFoundAtGate (extended_by m (places_of m)) m q a row
+    → AreLooked (row_found (extended_by m (place ∷ [])) (asked_at q (length m.change)) b) last q.start.0 departures → BeginsWithBounds row departures
