@@ -1,12 +1,12 @@
 //! The change times of the places of a feed, and the links between them.
-ghost use Rattle.std.specs.Prelude.{◌≡◌, ◌≢◌, ◌<◌, ◌≤◌, ◌+◌, ◌-◌, ◌^◌, ℕ, None, Ok, Err, IfOk, IfErr, IfSome, IsOkAnd, OnOk, is_none, nat_eq, length, if◌then◌else◌, []};
+ghost use Rattle.std.specs.Prelude.{◌≡◌, ◌<◌, ◌≤◌, ◌+◌, ◌-◌, ◌^◌, ℕ, None, Ok, IfOk, IfSome, IsOkAnd, OnOk, is_none, nat_eq, length, if◌then◌else◌, []};
 ghost use Rattle.plan_model.specs.Bounds.{seconds_per_day};
 ghost use Rattle.std.specs.HashMap.{get};
 ghost use Rattle.csv_rows.specs.declared.feed_tables.Table.TheVariants.{Transfers as TransfersTable};
-ghost use Rattle.csv_rows.specs.FeedTables.{unread_table, IsFaultOf};
 ghost use Rattle.csv_rows.specs.First.{first_below};
 ghost use Rattle.csv_rows.specs.RowFaults.{ReportsFirst};
-ghost use Rattle.table_files.specs.Loading.{HasFeedCauses, loaded_rows};
+ghost use Rattle.table_files.specs.Loading.{loaded_rows};
+ghost use Rattle.table_files.specs.Reading.{ReadsTable};
 ghost use Rattle.csv_rows.specs.Tables.{row_count};
 ghost use Rattle.table_files.specs.Required.{Records};
 ghost use Rattle.gtfs_tables.specs.Feeds.{FeedParts};
@@ -15,7 +15,7 @@ ghost use Rattle.change_times.specs.Greatest.{greater};
 ghost use Rattle.plan_model.specs.Network.{AreLinksInto};
 ghost use Rattle.change_times.specs.Walks.{walks_of, most_to, seconds_between, link_between};
 ghost use Rattle.change_times.specs.TransfersSoFar.{AreCollected};
-ghost use Rattle.change_times.specs.Changes.{fault_of_transfers, place_seconds, links_of, transfers_in, AreCollectedChanges, AreReportedBySome, LinksComeFrom};
+ghost use Rattle.change_times.specs.Changes.{fault_of_transfers, place_seconds, links_of, transfers_from, AreCollectedChanges, AreReportedBySome, LinksComeFrom};
 
 use crate::links::{Walk, Ways, add_walk, links_of, no_walks};
 use crate::stops::FeedStops;
@@ -221,14 +221,10 @@ impl Changes {
         feed: &Feed,
         limits: &Limits,
     ) -> Result<Changes, FeedFault>
-        ensures changes { IfSome (F.state files.old).files (λ m. IfOk result (λ c. IsOkAnd
-            (transfers_in m folder.now limits.now None feed.now) (AreCollectedChanges feed.now c))) }
+        ensures reads { ReadsTable TransfersTable folder.now limits.now (F.state files.old) (F.state files.new)
+            (transfers_from feed.now) (λ read c. IsOkAnd read (AreCollectedChanges feed.now c)) result }
         ensures sound { IfOk result (AreReportedBySome feed.now) }
         ensures links { IfOk result (λ c. LinksComeFrom (length feed.now.stop_ids) c) }
-        ensures fault { IfSome (F.state files.old).files (λ m. IfErr result (λ f. f ≢ FeedFault.NoMemory
-            → transfers_in m folder.now limits.now (unread_table f) feed.now ≡ Err f)) }
-        ensures own { IfErr result (IsFaultOf TransfersTable) }
-        ensures causes { HasFeedCauses folder.now (F.state files.old) (F.state files.new) result }
     {
         let loaded = read_table(alloc, files, folder, Table::Transfers, limits)?;
         changes_of(alloc, feed, &loaded)

@@ -1,8 +1,7 @@
 //! The tables of stops, routes and trips, each loaded and read.
-ghost use Rattle.std.specs.Prelude.{◌≡◌, ◌≢◌, None, Err, IfOk, IfErr, IfSome};
+ghost use Rattle.std.specs.Prelude.{IfOk};
 ghost use Rattle.csv_rows.specs.declared.feed_tables.Table.TheVariants.{Stops as StopsTable, Routes as RoutesTable, Trips as TripsTable};
-ghost use Rattle.csv_rows.specs.FeedTables.{unread_table, IsFaultOf};
-ghost use Rattle.table_files.specs.Loading.{HasFeedCauses, load_in};
+ghost use Rattle.table_files.specs.Reading.{ReadsTable};
 ghost use Rattle.feed_lists.specs.Lists.{stops_from, routes_from, trips_from, HasStops, HasRoutes, HasTrips, AreSoundStops, AreSoundRoutes, AreSoundTrips};
 
 use crate::routes::Routes;
@@ -22,13 +21,9 @@ pub fn load_stops<F: Files>(
     folder: &str,
     limits: &Limits,
 ) -> Result<Stops, FeedFault>
-    ensures stops { IfSome (F.state files.old).files (λ m. IfOk result
-        (HasStops (stops_from (load_in m folder.now limits.now None StopsTable)))) }
-    ensures fault { IfSome (F.state files.old).files (λ m. IfErr result (λ f. f ≢ FeedFault.NoMemory
-        → stops_from (load_in m folder.now limits.now (unread_table f) StopsTable) ≡ Err f)) }
+    ensures reads { ReadsTable StopsTable folder.now limits.now (F.state files.old) (F.state files.new)
+        stops_from HasStops result }
     ensures sound { IfOk result AreSoundStops }
-    ensures own { IfErr result (IsFaultOf StopsTable) }
-    ensures causes { HasFeedCauses folder.now (F.state files.old) (F.state files.new) result }
 {
     let rows = read_required(alloc, files, folder, Table::Stops, Column::StopId, limits)?;
     Stops::read(alloc, &rows)
@@ -42,13 +37,9 @@ pub fn load_routes<F: Files>(
     folder: &str,
     limits: &Limits,
 ) -> Result<Routes, FeedFault>
-    ensures routes { IfSome (F.state files.old).files (λ m. IfOk result
-        (HasRoutes (routes_from (load_in m folder.now limits.now None RoutesTable)))) }
-    ensures fault { IfSome (F.state files.old).files (λ m. IfErr result (λ f. f ≢ FeedFault.NoMemory
-        → routes_from (load_in m folder.now limits.now (unread_table f) RoutesTable) ≡ Err f)) }
+    ensures reads { ReadsTable RoutesTable folder.now limits.now (F.state files.old) (F.state files.new)
+        routes_from HasRoutes result }
     ensures sound { IfOk result AreSoundRoutes }
-    ensures own { IfErr result (IsFaultOf RoutesTable) }
-    ensures causes { HasFeedCauses folder.now (F.state files.old) (F.state files.new) result }
 {
     let rows = read_required(alloc, files, folder, Table::Routes, Column::RouteId, limits)?;
     Routes::read(alloc, &rows)
@@ -64,14 +55,9 @@ pub fn load_trips<F: Files>(
     limits: &Limits,
     routes: &Routes,
 ) -> Result<Trips, FeedFault>
-    ensures trips { IfSome (F.state files.old).files (λ m. IfOk result (HasTrips routes.now
-        (trips_from (load_in m folder.now limits.now None TripsTable) routes.now.ids))) }
-    ensures fault { IfSome (F.state files.old).files (λ m. IfErr result (λ f. f ≢ FeedFault.NoMemory
-        → trips_from (load_in m folder.now limits.now (unread_table f) TripsTable) routes.now.ids
-        ≡ Err f)) }
+    ensures reads { ReadsTable TripsTable folder.now limits.now (F.state files.old) (F.state files.new)
+        (λ loaded. trips_from loaded routes.now.ids) (HasTrips routes.now) result }
     ensures sound { IfOk result (AreSoundTrips routes.now) }
-    ensures own { IfErr result (IsFaultOf TripsTable) }
-    ensures causes { HasFeedCauses folder.now (F.state files.old) (F.state files.new) result }
 {
     let rows = read_required(alloc, files, folder, Table::Trips, Column::RouteId, limits)?;
     read_trips(alloc, &rows, routes)

@@ -2,7 +2,7 @@
 pub use Rattle.std.proofs.Common.{AllPairs, Bool, Err, IfOk, IfSome, IsErr, List, None, Ok, Option, Result, Some, [], ap, ap₂, arith, eq-eqb, false, filter, if◌then◌else◌, length, map}
 pub use Rattle.std.proofs.Common.{option_and_then, refl, slice_index, slice_index_or, subst, suc, sum_by, sym, true, unwrap_or, zero, ℕ, ◌++◌, ◌+◌, ◌<◌, ◌==◌, ◌∙◌, ◌∷◌, ◌≡◌, ◌≢◌, ◌≤◌}
 pub use Rattle.std.proofs.lemmas.Bool.{cases_lt}
-pub use Rattle.csv_rows.proofs.FaultLemmas.{some_raised}
+pub use Rattle.table_files.proofs.ReadingLemmas.{own-of, reads-after, reads-both, reads-fault, reads-raised, reads-value}
 pub use Rattle.csv_rows.proofs.ListLemmas.{get-list_below, length-list_below, list_below-next, list_below-zero}
 pub use Rattle.csv_rows.specs.Tables.{field, field_at, number_in, row_count}
 pub use Rattle.csv_rows.specs.declared.columns.Column.TheVariants.{EndTime, ExactTimes, HeadwaySecs, StartTime, StopId, TripId}
@@ -20,7 +20,7 @@ unfoldable pub use Rattle.trip_frequencies.specs.Frequencies.{frequencies_fault,
 pub use Rattle.trip_frequencies.specs.Repeats.{all_repeats_in, repeats_in}
 pub use Rattle.trip_frequencies.specs.declared.frequencies.FrequencyRow.{FrequencyRow}
 pub use Rattle.gtfs_tables.specs.FeedInside.{IsWholeFeed, feed_parts_of}
-pub use Rattle.gtfs_tables.specs.Feeds.{FeedParts, IsFeed, IsFeedOf, IsSoundFeed, Tables, tables_by, tables_from}
+pub use Rattle.gtfs_tables.specs.Feeds.{FeedParts, IsFeed, IsFeedOf, IsFeedTable, IsSoundFeed, Tables, tables_by, tables_from}
 unfoldable pub use Rattle.gtfs_tables.specs.Feeds.{tables_in}
 pub use Rattle.gtfs_tables.specs.Timed.{AreTimed, IsTimed, rows_of}
 pub use Rattle.gtfs_tables.specs.TripRepeats.{AreRepeating, AreRepeats, IsFrequency, IsSmall}

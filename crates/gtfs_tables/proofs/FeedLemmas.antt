@@ -1,12 +1,12 @@
 -- The tables of a feed, one after the other.
-use Rattle.gtfs_tables.proofs.Common.{◌≡◌, ◌≢◌, ℕ, ◌==◌, false, List, Option, Some, None, IfSome, sym, ap, ap₂, ◌∙◌, subst, arith, Result, Ok, Err, IfOk, IsErr, and_then, Stops, Routes, Trips}
-use Rattle.gtfs_tables.proofs.Common.{StopTimes, Frequencies, FeedFault, NoMemory, Loaded, load_in, stop_ids, trip_ids, trips_fault, fault_of_frequencies, frequencies_from, Tables, tables_by}
+use Rattle.gtfs_tables.proofs.Common.{◌≡◌, ℕ, ◌==◌, false, List, None, sym, ap, ap₂, ◌∙◌, subst, arith, Result, Ok, Err, and_then, Stops, Routes, Trips}
+use Rattle.gtfs_tables.proofs.Common.{StopTimes, Frequencies, FeedFault, Loaded, load_in, stop_ids, trip_ids, trips_fault, fault_of_frequencies, frequencies_from, Tables, tables_by}
 use Rattle.gtfs_tables.proofs.Common.{tables_from, tables_in, IsFeed, IsFeedOf, IsSoundFeed, length-list_below, and_then-err}
-use Rattle.std.proofs.lemmas.Result.{IfOk-from_err}
 use Rattle.file_ports.specs.Ports.{FileMap}
 use Rattle.csv_rows.specs.declared.feed_tables.Table.{Table}
 use Rattle.csv_rows.specs.declared.limits.Limits.{Limits}
 use Rattle.csv_rows.specs.FeedTables.{rank_of, unread_table, IsFaultOf}
+use Rattle.gtfs_tables.specs.Feeds.{IsFirstOfTables}
 use Rattle.stop_times.specs.declared.rows.StopRow.{StopRow}
 use Rattle.stop_times.specs.StopTimes.{stop_times_fault}
 use Rattle.table_files.specs.Required.{Records}
@@ -18,9 +18,6 @@ use Rattle.gtfs_tables.specs.declared.lists.FeedLists.{FeedLists}
 use Rattle.gtfs_tables.specs.declared.times.TripTimes.{TripTimes}
 use Rattle.gtfs_tables.specs.Parts.{parts_by, HasVisits, HasRepeats, AreLists, AreTripTimes, AreSoundLists, AreSoundTimes}
 use Rattle.table_files.proofs.LoadLemmas.{load_in-other}
-
-pub if_same : {A : Type 0} (o o' : Option A) (P : A → Type 0) → o' ≡ o → IfSome o' P → IfSome o P
-if_same o o' P e h = subst (λ (z : Option _). IfSome z P) e h
 
 -- what was read is the feed of its tables
 is_feed : (l : FeedLists) (t : TripTimes) (s r d x : Records) (q : Loaded) → HasStops (Ok s) l.stops → HasRoutes (Ok r) l.routes → HasTrips l.routes (Ok d) l.trips
@@ -85,82 +82,46 @@ module _ (load : Table → Result Loaded FeedFault) where
   lists_read : (l : FeedLists) → AreLists load l → AreRead l (tables_from load) (times_by l) (frequencies_from (load Frequencies) l.trips.ids)
   lists_read l a = grind (arith, are_read)
 
--- and of a folder, where it is known
-module _ (folder : List ℕ) (limits : Limits) where
-  pub fault_at_stops : (o : Option FileMap) (f : FeedFault) → IfSome o (λ m. f ≢ NoMemory → stops_from (load_in m folder limits (unread_table f) Stops) ≡ Err f)
-      → IfSome o (λ m. f ≢ NoMemory → tables_in m folder limits (unread_table f) ≡ Err f)
+-- and of a folder
+module _ (m : FileMap) (folder : List ℕ) (limits : Limits) where
+  pub fault_at_stops : (f : FeedFault) → stops_from (load_in m folder limits (unread_table f) Stops) ≡ Err f → IsFirstOfTables folder limits m f
   unfolding tables_in
-  fault_at_stops None f h = tt
-  fault_at_stops (Some m) f h = grind arith
+  fault_at_stops f h = grind arith
 
-  pub fault_at_routes : (stops : StopLists) (o : Option FileMap) (f : FeedFault) → IsFaultOf Routes f
-      → IfSome o (λ m. HasStops (stops_from (load_in m folder limits None Stops)) stops)
-      → IfSome o (λ m. f ≢ NoMemory → routes_from (load_in m folder limits (unread_table f) Routes) ≡ Err f)
-      → IfSome o (λ m. f ≢ NoMemory → tables_in m folder limits (unread_table f) ≡ Err f)
+  pub fault_at_routes : (stops : StopLists) (f : FeedFault) → IsFaultOf Routes f → HasStops (stops_from (load_in m folder limits None Stops)) stops
+      → routes_from (load_in m folder limits (unread_table f) Routes) ≡ Err f → IsFirstOfTables folder limits m f
   unfolding tables_in
-  fault_at_routes stops None f own a h = tt
-  fault_at_routes stops (Some m) f own a h = grind (arith, routes_stop, load_in-other)
+  fault_at_routes stops f own a h = grind (arith, routes_stop, load_in-other)
 
-  pub fault_at_trips : (stops : StopLists) (routes : RouteLists) (o : Option FileMap) (f : FeedFault) → IsFaultOf Trips f
-      → IfSome o (λ m. HasStops (stops_from (load_in m folder limits None Stops)) stops)
-      → IfSome o (λ m. HasRoutes (routes_from (load_in m folder limits None Routes)) routes)
-      → IfSome o (λ m. f ≢ NoMemory → trips_from (load_in m folder limits (unread_table f) Trips) routes.ids ≡ Err f)
-      → IfSome o (λ m. f ≢ NoMemory → tables_in m folder limits (unread_table f) ≡ Err f)
+  pub fault_at_trips : (stops : StopLists) (routes : RouteLists) (f : FeedFault) → IsFaultOf Trips f → HasStops (stops_from (load_in m folder limits None Stops)) stops
+      → HasRoutes (routes_from (load_in m folder limits None Routes)) routes → trips_from (load_in m folder limits (unread_table f) Trips) routes.ids ≡ Err f
+      → IsFirstOfTables folder limits m f
   unfolding tables_in
-  fault_at_trips stops routes None f own a b h = tt
-  fault_at_trips stops routes (Some m) f own a b h = grind (arith, trips_stop, load_in-other)
+  fault_at_trips stops routes f own a b h = grind (arith, trips_stop, load_in-other)
 
-  -- stops, routes and trips that were read, put together
   module _ (l : FeedLists) where
-    pub lists_of : (o : Option FileMap) → IfSome o (λ m. HasStops (stops_from (load_in m folder limits None Stops)) l.stops)
-        → IfSome o (λ m. HasRoutes (routes_from (load_in m folder limits None Routes)) l.routes)
-        → IfSome o (λ m. HasTrips l.routes (trips_from (load_in m folder limits None Trips) l.routes.ids) l.trips) → IfSome o (λ m. AreLists (load_in m folder limits None) l)
-    lists_of None a b d = tt
-    lists_of (Some m) a b d = record { stops = a; routes = b; trips = d }
-
-    -- they are the same where another table could not be read
-    beside : (m : FileMap) (f : FeedFault) (table : Table) → IsFaultOf table f
-        → (rank_of table == 0) ≡ false → (rank_of table == 1) ≡ false → (rank_of table == 2) ≡ false
+    -- the lists are the same where another table could not be read
+    beside : (f : FeedFault) (table : Table) → IsFaultOf table f → (rank_of table == 0) ≡ false → (rank_of table == 1) ≡ false → (rank_of table == 2) ≡ false
         → AreLists (load_in m folder limits None) l → AreLists (load_in m folder limits (unread_table f)) l
-    beside m f table own s r t a = grind (arith, load_in-other)
+    beside f table own s r t a = grind (arith, load_in-other)
 
-    pub fault_at_times : (o : Option FileMap) (f : FeedFault) → IsFaultOf StopTimes f
-        → IfSome o (λ m. f ≢ NoMemory → times_by (load_in m folder limits (unread_table f)) l ≡ Err f)
-        → IfSome o (λ m. f ≢ NoMemory → AreLists (load_in m folder limits None) l → tables_in m folder limits (unread_table f) ≡ Err f)
+    pub fault_at_times : (f : FeedFault) → IsFaultOf StopTimes f → times_by (load_in m folder limits (unread_table f)) l ≡ Err f → AreLists (load_in m folder limits None) l
+        → IsFirstOfTables folder limits m f
     unfolding tables_in
-    fault_at_times None f own h = tt
-    fault_at_times (Some m) f own h = grind (arith, lists_read, beside, and_then-err, times_by)
+    fault_at_times f own h a = grind (arith, lists_read, beside, and_then-err, times_by)
 
-    pub fault_at_repeats : (visits : List (List StopRow)) (o : Option FileMap) (f : FeedFault) → IsFaultOf Frequencies f
-        → IfSome o (λ m. AreVisits l.trips.ids l.stops.ids l.stops.places.items (times_by (load_in m folder limits None) l) visits)
-        → IfSome o (λ m. f ≢ NoMemory → frequencies_from (load_in m folder limits (unread_table f) Frequencies) l.trips.ids ≡ Err f)
-        → IfSome o (λ m. f ≢ NoMemory → AreLists (load_in m folder limits None) l → tables_in m folder limits (unread_table f) ≡ Err f)
+    pub fault_at_repeats : (visits : List (List StopRow)) (f : FeedFault) → IsFaultOf Frequencies f
+        → AreVisits l.trips.ids l.stops.ids l.stops.places.items (times_by (load_in m folder limits None) l) visits
+        → frequencies_from (load_in m folder limits (unread_table f) Frequencies) l.trips.ids ≡ Err f → AreLists (load_in m folder limits None) l
+        → IsFirstOfTables folder limits m f
     unfolding tables_in
-    fault_at_repeats visits None f own v h = tt
-    fault_at_repeats visits (Some m) f own v h = grind (arith, repeats_stop, times_by, lists_read, beside, load_in-other)
+    fault_at_repeats visits f own v h a = grind (arith, repeats_stop, times_by, lists_read, beside, load_in-other)
 
-    module _ (t : TripTimes) where
-      pub times_of : (o : Option FileMap) → IfSome o (λ m. HasVisits (times_by (load_in m folder limits None) l) l t)
-          → IfSome o (λ m. HasRepeats (frequencies_from (load_in m folder limits None Frequencies) l.trips.ids) l t) → IfSome o (λ m. AreTripTimes (load_in m folder limits None) l t)
-      times_of None v u = tt
-      times_of (Some m) v u = record { visits = v; repeats = u }
-
-      pub feed_of_tables : (o : Option FileMap) → IfSome o (λ m. AreLists (load_in m folder limits None) l) → IfSome o (λ m. AreTripTimes (load_in m folder limits None) l t)
-          → IfSome o (λ m. IsFeedOf (tables_in m folder limits None) (parts_by l t))
-      unfolding tables_in
-      feed_of_tables None a v = tt
-      feed_of_tables (Some m) a v = let load = load_in m folder limits None in
-          feed_of l (tables_from load) (times_by load l) (frequencies_from (load Frequencies) l.trips.ids) t (lists_read load l a) v.visits v.repeats
-
--- no value was read
-pub none_read : {F A E : Type 0} (o : Option F) (P : F → A → Type 0) (r : Result A E) → IsErr r → IfSome o (λ m. IfOk r (P m))
-none_read None P r h = tt
-none_read (Some m) P r h = IfOk-from_err r (P m) h
-
--- a fault that comes after lists which are those of the tables
-pub fault_after : {F : Type 0} (o : Option F) (L P : F → Type 0) (N : Type 0) → IfSome o L → IfSome o (λ m. N → L m → P m) → IfSome o (λ m. N → P m)
-fault_after None L P N a h = tt
-fault_after (Some m) L P N a h = λ n. h n a
+    pub feed_of_tables : (t : TripTimes) → AreLists (load_in m folder limits None) l → AreTripTimes (load_in m folder limits None) l t
+        → IsFeedOf (tables_in m folder limits None) (parts_by l t)
+    unfolding tables_in
+    feed_of_tables t a v = let load = load_in m folder limits None in
+        feed_of l (tables_from load) (times_by load l) (frequencies_from (load Frequencies) l.trips.ids) t (lists_read load l a) v.visits v.repeats
 
 -- whatever the files say
 pub sound_feed : (l : FeedLists) (t : TripTimes) → AreSoundLists l → AreSoundTimes l t → IsSoundFeed (parts_by l t)

@@ -7,7 +7,7 @@ use Rattle.csv_rows.specs.declared.feed_tables.Table.TheVariants.{Stops, Routes,
 use Rattle.csv_rows.specs.declared.feed_tables.FeedFault.{FeedFault}
 use Rattle.csv_rows.specs.declared.limits.Limits.{Limits}
 use Rattle.table_files.specs.declared.loading.Loaded.{Loaded}
-use Rattle.csv_rows.specs.FeedTables.{table_of_fault}
+use Rattle.csv_rows.specs.FeedTables.{table_of_fault, unread_table}
 use Rattle.table_files.specs.Loading.{load_in, loaded_rows}
 use Rattle.csv_rows.specs.Tables.{row_count}
 use Rattle.trip_frequencies.specs.declared.frequencies.FrequencyRow.{FrequencyRow}
@@ -49,6 +49,10 @@ tables_from load =
 -- the tables of the folder, or the first of all faults
 unfoldable pub tables_in : FileMap → List ℕ → Limits → Option Table → Result Tables FeedFault
 tables_in files folder limits unread = tables_from (load_in files folder limits unread)
+
+-- the first fault of the tables is this one, if no table but that of the fault is unread
+abbrev pub IsFirstOfTables : List ℕ → Limits → FileMap → FeedFault → Type 0
+IsFirstOfTables folder limits files fault = tables_in files folder limits (unread_table fault) ≡ Err fault
 
 -- a feed: the ids and places of its stops, the ids of its routes, the ids, services and route types of its trips and the number of
 -- the route of each, and the kept rows and the rows of frequencies of each trip

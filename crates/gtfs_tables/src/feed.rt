@@ -39,10 +39,9 @@ impl Model for Feed {
 }
 
 impl Feed {
-    ghost use Rattle.std.specs.Prelude.{◌≡◌, ◌≢◌, ◌<◌, ◌≤◌, None, Some, Ok, Err, IfOk, IfErr, IfSome, length, slice_get, slice_index, slice_index_or, option_map, []};
-    ghost use Rattle.csv_rows.specs.FeedTables.{unread_table};
+    ghost use Rattle.std.specs.Prelude.{◌≡◌, ◌<◌, ◌≤◌, Some, IfSome, length, slice_get, slice_index, slice_index_or, option_map, []};
     ghost use Rattle.csv_rows.specs.Ids.{AreIds};
-    ghost use Rattle.table_files.specs.Loading.{HasFeedCauses};
+    ghost use Rattle.table_files.specs.Reading.{ReadsWanted};
     ghost use Rattle.csv_rows.specs.Tables.{number_in};
     ghost use Rattle.gtfs_tables.specs.Feeds.{tables_in, IsFeedOf, IsFeedTableFault, IsSoundFeed};
     ghost use Rattle.gtfs_tables.specs.TripRepeats.{AreRepeating, IsSmall};
@@ -57,13 +56,8 @@ impl Feed {
         folder: &str,
         limits: &Limits,
     ) -> Result<Feed, FeedFault>
-        // If the files are known: the feed of their tables, or the first of all faults.
-        ensures feed { IfSome (F.state files.old).files (λ m. IfOk result (λ feed.
-            IsFeedOf (tables_in m folder.now limits.now None) feed)) }
-        ensures fault { IfSome (F.state files.old).files (λ m. IfErr result (λ f. f ≢ FeedFault.NoMemory
-            → tables_in m folder.now limits.now (unread_table f) ≡ Err f)) }
-        ensures own { IfErr result IsFeedTableFault }
-        ensures causes { HasFeedCauses folder.now (F.state files.old) (F.state files.new) result }
+        ensures { ReadsWanted folder.now (F.state files.old) (F.state files.new)
+            (λ m. tables_in m folder.now limits.now) IsFeedOf IsFeedTableFault result }
     {
         let lists = load_lists(alloc, files, folder, limits)?;
         let times = load_times(alloc, files, folder, limits, &lists)?;

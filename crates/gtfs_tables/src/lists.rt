@@ -1,8 +1,8 @@
 //! The stops, the routes and the trips of a feed.
-ghost use Rattle.std.specs.Prelude.{◌≡◌, ◌≢◌, None, Err, IfOk, IfErr, IfSome};
-ghost use Rattle.csv_rows.specs.FeedTables.{unread_table};
-ghost use Rattle.table_files.specs.Loading.{HasFeedCauses, load_in};
-ghost use Rattle.gtfs_tables.specs.Feeds.{tables_in, IsFeedTableFault};
+ghost use Rattle.std.specs.Prelude.{None, IfOk};
+ghost use Rattle.table_files.specs.Loading.{load_in};
+ghost use Rattle.table_files.specs.Reading.{Reads};
+ghost use Rattle.gtfs_tables.specs.Feeds.{IsFeedTableFault, IsFirstOfTables};
 ghost use Rattle.gtfs_tables.specs.Parts.{AreLists, AreSoundLists};
 
 use csv_rows::{FeedFault, Limits};
@@ -35,13 +35,10 @@ pub(crate) fn load_lists<F: Files>(
     folder: &str,
     limits: &Limits,
 ) -> Result<FeedLists, FeedFault>
-    ensures lists { IfSome (F.state files.old).files (λ m. IfOk result
-        (AreLists (load_in m folder.now limits.now None))) }
-    ensures fault { IfSome (F.state files.old).files (λ m. IfErr result (λ f. f ≢ FeedFault.NoMemory
-        → tables_in m folder.now limits.now (unread_table f) ≡ Err f)) }
+    ensures reads { Reads folder.now (F.state files.old) (F.state files.new)
+        (λ m. AreLists (load_in m folder.now limits.now None))
+        (IsFirstOfTables folder.now limits.now) IsFeedTableFault result }
     ensures sound { IfOk result AreSoundLists }
-    ensures own { IfErr result IsFeedTableFault }
-    ensures causes { HasFeedCauses folder.now (F.state files.old) (F.state files.new) result }
 {
     let stops = load_stops(alloc, files, folder, limits)?;
     let routes = load_routes(alloc, files, folder, limits)?;

@@ -1,10 +1,10 @@
 //! The table of stop times, loaded and read.
-ghost use Rattle.std.specs.Prelude.{◌≡◌, ◌≢◌, ◌<◌, ◌≤◌, ℕ, [], length, slice_index_or, None, Ok, Err, IfOk, IfErr, IfSome};
+ghost use Rattle.std.specs.Prelude.{◌≡◌, ◌<◌, ◌≤◌, ℕ, [], length, slice_index_or, Ok, IfOk};
 ghost use Rattle.csv_rows.specs.declared.columns.Column.TheVariants.{TripId};
 ghost use Rattle.csv_rows.specs.declared.feed_tables.Table.TheVariants.{StopTimes as StopTimesTable};
-ghost use Rattle.csv_rows.specs.FeedTables.{unread_table, IsFaultOf};
 ghost use Rattle.csv_rows.specs.Limits.{rows_of};
-ghost use Rattle.table_files.specs.Loading.{HasFeedCauses, load_in, loaded_from};
+ghost use Rattle.table_files.specs.Loading.{loaded_from};
+ghost use Rattle.table_files.specs.Reading.{ReadsTable};
 ghost use Rattle.csv_rows.specs.Tables.{table_of};
 ghost use Rattle.stop_times.specs.StopTimeBounds.{most_stop_times};
 ghost use Rattle.table_files.specs.Required.{required, IsOfSomeTable};
@@ -25,13 +25,9 @@ fn load_times_text<F: Files>(
     folder: &str,
     limits: &Limits,
 ) -> Result<Vec<u8>, FeedFault>
-    ensures text { IfSome (F.state files.old).files (λ m. IfOk result (λ text.
-        load_in m folder.now limits.now None StopTimesTable
-        ≡ loaded_from StopTimesTable (rows_of limits.now StopTimesTable) (table_of text.items))) }
-    ensures fault { IfSome (F.state files.old).files (λ m. IfErr result (λ f. f ≢ FeedFault.NoMemory
-        → required StopTimesTable TripId (load_in m folder.now limits.now (unread_table f) StopTimesTable) ≡ Err f)) }
-    ensures own { IfErr result (IsFaultOf StopTimesTable) }
-    ensures causes { HasFeedCauses folder.now (F.state files.old) (F.state files.new) result }
+    ensures { ReadsTable StopTimesTable folder.now limits.now (F.state files.old) (F.state files.new)
+        (required StopTimesTable TripId) (λ read text. read ≡ required StopTimesTable TripId
+        (loaded_from StopTimesTable (rows_of limits.now StopTimesTable) (table_of text.items))) result }
 {
     match read_file(alloc, files, folder, Table::StopTimes, limits)? {
         Some(text) => Ok(text),
@@ -48,22 +44,15 @@ pub(crate) fn load_stop_times<F: Files>(
     trips: &Ids,
     stops: &Stops,
 ) -> Result<StopTimes, FeedFault>
-    ensures visits { IfSome (F.state files.old).files (λ m. IfOk result (λ v.
-        AreVisits trips.now stops.now.ids stops.now.places.items
-        (stop_times_from (load_in m folder.now limits.now None StopTimesTable)
-        trips.now stops.now.ids stops.now.places.items)
-        v)) }
-    ensures fault { IfSome (F.state files.old).files (λ m. IfErr result (λ f. f ≢ FeedFault.NoMemory
-        → stop_times_from (load_in m folder.now limits.now (unread_table f) StopTimesTable)
-        trips.now stops.now.ids stops.now.places.items ≡ Err f)) }
+    ensures reads { ReadsTable StopTimesTable folder.now limits.now (F.state files.old) (F.state files.new)
+        (λ loaded. stop_times_from loaded trips.now stops.now.ids stops.now.places.items)
+        (AreVisits trips.now stops.now.ids stops.now.places.items) result }
     ensures sound { IfOk result (λ v.
         IsOfSomeTable (stop_times_fault trips.now stops.now.ids stops.now.places.items)
         (λ t. AreVisits trips.now stops.now.ids stops.now.places.items (Ok t) v)) }
     ensures few { IfOk result (λ v. (trip : ℕ) → trip < length trips.now
         → length (slice_index_or v trip []) ≤ most_stop_times) }
     ensures sized { IfOk result (λ v. length v ≡ length trips.now) }
-    ensures own { IfErr result (IsFaultOf StopTimesTable) }
-    ensures causes { HasFeedCauses folder.now (F.state files.old) (F.state files.new) result }
 {
     let text = load_times_text(alloc, files, folder, limits)?;
     read_stop_times(

@@ -1,8 +1,8 @@
 //! When the trips of a feed run.
-ghost use Rattle.std.specs.Prelude.{◌≡◌, ◌≢◌, None, Err, IfOk, IfErr, IfSome};
-ghost use Rattle.csv_rows.specs.FeedTables.{unread_table};
-ghost use Rattle.table_files.specs.Loading.{HasFeedCauses, load_in};
-ghost use Rattle.gtfs_tables.specs.Feeds.{tables_in, IsFeedTableFault};
+ghost use Rattle.std.specs.Prelude.{None, IfOk};
+ghost use Rattle.table_files.specs.Loading.{load_in};
+ghost use Rattle.table_files.specs.Reading.{Reads};
+ghost use Rattle.gtfs_tables.specs.Feeds.{IsFeedTableFault, IsFirstOfTables};
 ghost use Rattle.gtfs_tables.specs.Parts.{AreLists, AreTripTimes, AreSoundTimes};
 
 use crate::lists::FeedLists;
@@ -34,14 +34,11 @@ pub(crate) fn load_times<F: Files>(
     limits: &Limits,
     lists: &FeedLists,
 ) -> Result<TripTimes, FeedFault>
-    ensures times { IfSome (F.state files.old).files (λ m. IfOk result
-        (AreTripTimes (load_in m folder.now limits.now None) lists.now)) }
-    ensures fault { IfSome (F.state files.old).files (λ m. IfErr result (λ f. f ≢ FeedFault.NoMemory
-        → AreLists (load_in m folder.now limits.now None) lists.now
-        → tables_in m folder.now limits.now (unread_table f) ≡ Err f)) }
+    ensures reads { Reads folder.now (F.state files.old) (F.state files.new)
+        (λ m. AreTripTimes (load_in m folder.now limits.now None) lists.now)
+        (λ m f. AreLists (load_in m folder.now limits.now None) lists.now
+        → IsFirstOfTables folder.now limits.now m f) IsFeedTableFault result }
     ensures sound { IfOk result (AreSoundTimes lists.now) }
-    ensures own { IfErr result IsFeedTableFault }
-    ensures causes { HasFeedCauses folder.now (F.state files.old) (F.state files.new) result }
 {
     let trips = &lists.trips.ids;
     let visits = load_stop_times(alloc, files, folder, limits, trips, &lists.stops)?;

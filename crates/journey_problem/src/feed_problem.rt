@@ -1,6 +1,6 @@
 //! A journey over a feed.
-ghost use Rattle.std.specs.Prelude.{◌≡◌, ◌≢◌, ◌<◌, ◌≤◌, ℕ, List as Bytes, length, None, Some, IfSome, IfOk, IfErr, OnOk};
-ghost use Rattle.table_files.specs.Loading.{HasFeedCauses};
+ghost use Rattle.std.specs.Prelude.{◌≡◌, ◌≢◌, ◌<◌, ◌≤◌, ℕ, List as Bytes, length, None, Some, IfSome, IfOk, IfErr, OnOk, ⊤};
+ghost use Rattle.table_files.specs.Reading.{Reads};
 ghost use Rattle.change_times.specs.Transfers.{place_of_stop};
 ghost use Rattle.change_times.specs.Changes.{LinksComeFrom, AreReportedBySome};
 ghost use Rattle.connections.specs.Cut.{IsNetworkFrom};
@@ -38,14 +38,12 @@ fn read_rules<F: Files>(
     feed: &Feed,
     limits: &Limits,
 ) -> Result<FeedRules, FeedFault>
-    ensures rules { IfSome (F.state files.old).files (λ m. IfOk result (λ r.
-        AreRules limits.now m folder.now feed.now r.services r.changes)) }
-    ensures fault { IfSome (F.state files.old).files (λ m. IfErr result (λ f. f ≢ FeedFault.NoMemory
-        → IsLaterTableFault limits.now m folder.now feed.now f)) }
+    ensures reads { Reads folder.now (F.state files.old) (F.state files.new)
+        (λ m r. AreRules limits.now m folder.now feed.now r.services r.changes)
+        (λ m. IsLaterTableFault limits.now m folder.now feed.now) (λ f. ⊤) result }
     ensures services { IfOk result (λ r. RunsBySome (runs r.services)) }
     ensures changes { IfOk result (λ r. AreReportedBySome feed.now r.changes) }
     ensures links { IfOk result (λ r. LinksComeFrom (length feed.now.stop_ids) r.changes) }
-    ensures causes { HasFeedCauses folder.now (F.state files.old) (F.state files.new) result }
 {
     let services = match Services::read(alloc, files, folder, limits) {
         Err(fault) => return Err(fault),
@@ -64,12 +62,10 @@ fn read_folder<F: Files>(
     folder: &str,
     limits: &Limits,
 ) -> Result<FeedTables, FeedFault>
-    ensures folder { IfSome (F.state files.old).files (λ m.
-        IfOk result (λ t. IsFolder limits.now m folder.now (gtfs_folder_of t))) }
-    ensures fault { IfSome (F.state files.old).files (λ m. IfErr result (λ f. f ≢ FeedFault.NoMemory
-        → IsFolderFault limits.now m folder.now f)) }
+    ensures reads { Reads folder.now (F.state files.old) (F.state files.new)
+        (λ m t. IsFolder limits.now m folder.now (gtfs_folder_of t))
+        (λ m. IsFolderFault limits.now m folder.now) (λ f. ⊤) result }
     ensures sound { IfOk result (λ t. IsSoundFolder (gtfs_folder_of t)) }
-    ensures causes { HasFeedCauses folder.now (F.state files.old) (F.state files.new) result }
 {
     let feed = match Feed::read(alloc, files, folder, limits) {
         Err(fault) => return Err(fault),

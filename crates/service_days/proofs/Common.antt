@@ -6,7 +6,7 @@ pub use Rattle.std.proofs.lemmas.Int.{to_z-of_z}
 pub use Rattle.std.proofs.lemmas.List.Elements.{All-push, filter-append}
 pub use Rattle.std.proofs.lemmas.Option.{none-some, slice_get-get_or, slice_get_past}
 pub use Rattle.std.specs.Result.{result_err}
-pub use Rattle.csv_rows.proofs.FaultLemmas.{fault-at, match_raised, some_raised}
+pub use Rattle.csv_rows.proofs.FaultLemmas.{fault-at, match_raised}
 pub use Rattle.csv_rows.proofs.FirstLemmas.{first-next, first-zero, none-each}
 pub use Rattle.csv_rows.proofs.IdLemmas.{no_row, number-here, number-push, number-same, one_row}
 pub use Rattle.csv_rows.proofs.ListLemmas.{get-list_below, length-list_below, list_below-next, list_below-zero}

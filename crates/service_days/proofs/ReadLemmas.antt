@@ -1,5 +1,5 @@
 -- The calendars of a folder, by what was read of each table.
-use Rattle.service_days.proofs.Common.{arith, ◌≡◌, ◌≢◌, ℕ, ◌&&◌, Bool, true, false, List, Option, Some, None, Ok, Err, IfSome, IsOkAnd, if◌then◌else◌, sym, ap, ap₂, ◌∙◌, subst, Result, FileMap}
+use Rattle.service_days.proofs.Common.{arith, ◌≡◌, ℕ, ◌&&◌, Bool, true, false, List, None, Ok, Err, IsOkAnd, if◌then◌else◌, sym, ap, ap₂, ◌∙◌, subst, Result, FileMap}
 use Rattle.service_days.proofs.Common.{unread_table, IsFaultOf, load_in, loaded_rows, Exception, row_count, AreNumbered, ServiceParts, runs, service_ids, periods_of, Calendars, RunsBy, RunsBySome}
 use Rattle.service_days.proofs.Common.{both_of, has_no_record, fault_of_calendar, fault_of_dates, calendar_from, dates_from, calendars_from, calendars_in, AreDistinctRows, IsCalendar, AreDates}
 use Rattle.service_days.proofs.Common.{IsOfCalendar, AreOfDates}
@@ -7,9 +7,6 @@ use Rattle.plan_model.specs.Results.{and_then}
 use Rattle.csv_rows.specs.declared.feed_tables.Table.TheVariants as table
 use Rattle.csv_rows.specs.declared.feed_tables.FeedFault.{FeedFault}
 use Rattle.csv_rows.specs.declared.feed_tables.FeedFault.TheVariants as fault
-use Rattle.file_ports.specs.Ports.{FilesState}
-use Rattle.std.proofs.Common.{IsErr, IsErrAnd}
-use Rattle.table_files.specs.Loading.{HasFeedCauses}
 use Rattle.table_files.specs.declared.loading.Loaded.{Loaded}
 use Rattle.csv_rows.specs.declared.limits.Limits.{Limits}
 use Rattle.service_days.specs.declared.periods.Period.{Period}
@@ -46,43 +43,33 @@ module _ (missing missing' : Bool) (ids ids' : List (List ℕ)) (periods : List 
   services_from (Err f) d s same h k e = absurd h
 
 -- the fault of the calendar comes first
-pub calendar_first : (files : Option FileMap) (folder : List ℕ) (limits : Limits) (f : FeedFault)
-    → IfSome files (λ m. f ≢ fault.NoMemory → calendar_from (load_in m folder limits (unread_table f) table.Calendar) ≡ Err f)
-    → IfSome files (λ m. f ≢ fault.NoMemory → calendars_in m folder limits (unread_table f) ≡ Err f)
-unfolding calendars_in
-calendar_first None folder limits f h = tt
-calendar_first (Some m) folder limits f h = grind arith
+module _ (m : FileMap) (folder : List ℕ) (limits : Limits) where
+  pub calendar_first : (f : FeedFault) → calendar_from (load_in m folder limits (unread_table f) table.Calendar) ≡ Err f → calendars_in m folder limits (unread_table f) ≡ Err f
+  unfolding calendars_in
+  calendar_first f h = grind arith
 
--- and then that of the exceptions
-pub dates_first : (files : Option FileMap) (folder : List ℕ) (limits : Limits) (f : FeedFault) (missing : Bool) (ids : List (List ℕ)) (periods : List Period)
-    → IfSome files (λ m. IsCalendar (calendar_from (load_in m folder limits None table.Calendar)) missing ids periods)
-    → IsFaultOf table.CalendarDates f
-    → IfSome files (λ m. f ≢ fault.NoMemory → dates_from (load_in m folder limits (unread_table f) table.CalendarDates) ≡ Err f)
-    → IfSome files (λ m. f ≢ fault.NoMemory → calendars_in m folder limits (unread_table f) ≡ Err f)
-unfolding calendars_in
-dates_first None folder limits f missing ids periods c own h = tt
-dates_first (Some m) folder limits f missing ids periods c own h = grind (arith, dates_stop, load_in-other)
+  -- and then that of the exceptions
+  pub dates_first : (f : FeedFault) (missing : Bool) (ids : List (List ℕ)) (periods : List Period)
+      → IsCalendar (calendar_from (load_in m folder limits None table.Calendar)) missing ids periods → IsFaultOf table.CalendarDates f
+      → dates_from (load_in m folder limits (unread_table f) table.CalendarDates) ≡ Err f → calendars_in m folder limits (unread_table f) ≡ Err f
+  unfolding calendars_in
+  dates_first f missing ids periods c own h = grind (arith, dates_stop, load_in-other)
 
--- none of them is there
-pub none_there : (files : Option FileMap) (folder : List ℕ) (limits : Limits) (missing missing' : Bool) (ids ids' : List (List ℕ)) (periods : List Period) (exceptions : List Exception)
-    → IfSome files (λ m. IsCalendar (calendar_from (load_in m folder limits None table.Calendar)) missing ids periods)
-    → IfSome files (λ m. AreDates (dates_from (load_in m folder limits None table.CalendarDates)) ids missing' ids' exceptions)
-    → (missing && missing') ≡ true
-    → IfSome files (λ m. fault.MissingTable table.Calendar ≢ fault.NoMemory → calendars_in m folder limits None ≡ Err (fault.MissingTable table.Calendar))
-unfolding calendars_in
-none_there None folder limits missing missing' ids ids' periods exceptions h k e = tt
-none_there (Some m) folder limits missing missing' ids ids' periods exceptions h k e = grind (arith, none_from)
+  module _ (missing missing' : Bool) (ids ids' : List (List ℕ)) (periods : List Period) (exceptions : List Exception) where
+    -- none of them is there
+    pub none_there : IsCalendar (calendar_from (load_in m folder limits None table.Calendar)) missing ids periods
+        → AreDates (dates_from (load_in m folder limits None table.CalendarDates)) ids missing' ids' exceptions → (missing && missing') ≡ true
+        → calendars_in m folder limits None ≡ Err (fault.MissingTable table.Calendar)
+    unfolding calendars_in
+    none_there h k e = grind (arith, none_from)
 
--- services run as the tables say
-pub services_here : (files : Option FileMap) (folder : List ℕ) (limits : Limits) (missing missing' : Bool) (ids ids' : List (List ℕ)) (periods : List Period) (exceptions : List Exception)
-    (s : ServiceParts) → s ≡ record { ids = ids'; periods = periods; exceptions = exceptions }
-    → IfSome files (λ m. IsCalendar (calendar_from (load_in m folder limits None table.Calendar)) missing ids periods)
-    → IfSome files (λ m. AreDates (dates_from (load_in m folder limits None table.CalendarDates)) ids missing' ids' exceptions)
-    → (missing && missing') ≡ false
-    → IfSome files (λ m. IsOkAnd (calendars_in m folder limits None) (RunsBy (runs s)))
-unfolding calendars_in
-services_here None folder limits missing missing' ids ids' periods exceptions s same h k e = tt
-services_here (Some m) folder limits missing missing' ids ids' periods exceptions s same h k e = grind (arith, services_from)
+    -- services run as the tables say
+    pub services_here : (s : ServiceParts) → s ≡ record { ids = ids'; periods = periods; exceptions = exceptions }
+        → IsCalendar (calendar_from (load_in m folder limits None table.Calendar)) missing ids periods
+        → AreDates (dates_from (load_in m folder limits None table.CalendarDates)) ids missing' ids' exceptions → (missing && missing') ≡ false
+        → IsOkAnd (calendars_in m folder limits None) (RunsBy (runs s))
+    unfolding calendars_in
+    services_here s same h k e = grind (arith, services_from)
 
 -- what was read of a table with no fault is of some table
 pub of_calendar : (l : Loaded) (missing : Bool) (ids : List (List ℕ)) (periods : List Period) → fault_of_calendar l ≡ None → missing ≡ has_no_record l
@@ -102,9 +89,3 @@ runs_by_some missing missing' ids ids' periods exceptions s same (c, calendar) (
   dates = d;
   runs_by = services_from missing missing' ids ids' periods exceptions (calendar_from (Ok c)) (dates_from (Ok d)) s same calendar dates some;
 }
-
--- the causes of a step that failed are those of what `?` passes on
-pub causes_raised : (T : Type 0) (folder : List ℕ) (before now : FilesState) (e : FeedFault) (r : Result T FeedFault)
-    → IsErr r × IsErrAnd r (λ raised. raised ≡ e) → HasFeedCauses {T = T} folder before now (Err e) → HasFeedCauses folder before now r
-causes_raised T folder before now e (Ok value) h k = absurd h.1
-causes_raised T folder before now e (Err raised) h k = subst (λ (fault : FeedFault). HasFeedCauses {T = T} folder before now (Err fault)) (sym h.1) k

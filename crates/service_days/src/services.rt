@@ -1,7 +1,6 @@
 //! Services and the days on which they run.
-ghost use Rattle.std.specs.Prelude.{◌≡◌, ◌≢◌, None, Some, Err, IfOk, IfErr, IfSome, IsOkAnd, ◌<◌, ◌+ℤ◌, pos, filter};
-ghost use Rattle.csv_rows.specs.FeedTables.{unread_table};
-ghost use Rattle.table_files.specs.Loading.{HasFeedCauses};
+ghost use Rattle.std.specs.Prelude.{◌≡◌, Some, IfOk, IsOkAnd, ◌<◌, ◌+ℤ◌, pos, filter};
+ghost use Rattle.table_files.specs.Reading.{ReadsWanted};
 ghost use Rattle.service_days.specs.Services.{period_runs, runs, runs_at};
 ghost use Rattle.service_days.specs.Days.{day_count, days_between};
 ghost use Rattle.service_days.specs.Calendars.{calendars_in, RunsBy, RunsBySome, IsCalendarFault};
@@ -67,13 +66,10 @@ impl Services {
         folder: &str,
         limits: &Limits,
     ) -> Result<Services, FeedFault>
-        ensures services { IfSome (F.state files.old).files (λ m. IfOk result (λ s.
-            IsOkAnd (calendars_in m folder.now limits.now None) (RunsBy (runs s)))) }
+        ensures reads { ReadsWanted folder.now (F.state files.old) (F.state files.new)
+            (λ m. calendars_in m folder.now limits.now) (λ read s. IsOkAnd read (RunsBy (runs s)))
+            IsCalendarFault result }
         ensures sound { IfOk result (λ s. RunsBySome (runs s)) }
-        ensures fault { IfSome (F.state files.old).files (λ m. IfErr result (λ f. f ≢ FeedFault.NoMemory
-            → calendars_in m folder.now limits.now (unread_table f) ≡ Err f)) }
-        ensures own { IfErr result IsCalendarFault }
-        ensures causes { HasFeedCauses folder.now (F.state files.old) (F.state files.new) result }
     {
         let LoadedCalendar { missing, calendar } = load_calendar(alloc, files, folder, limits)?;
         let dates = load_dates(alloc, files, folder, limits, calendar.ids)?;

@@ -1,8 +1,8 @@
 //! The calendars of a feed, each loaded and read.
-ghost use Rattle.std.specs.Prelude.{◌≡◌, ◌≢◌, ◌≤◌, ◌^◌, [], length, None, Some, Ok, Err, IfOk, IfErr, IfSome, OnOk};
+ghost use Rattle.std.specs.Prelude.{◌≡◌, ◌≤◌, ◌^◌, [], length, IfOk, OnOk};
 ghost use Rattle.csv_rows.specs.declared.feed_tables.Table.TheVariants.{Calendar as CalendarTable, CalendarDates as DatesTable};
-ghost use Rattle.csv_rows.specs.FeedTables.{unread_table, IsFaultOf};
-ghost use Rattle.table_files.specs.Loading.{HasAtMost, HasFeedCauses, load_in, loaded_rows};
+ghost use Rattle.table_files.specs.Loading.{HasAtMost, loaded_rows};
+ghost use Rattle.table_files.specs.Reading.{ReadsTable};
 ghost use Rattle.csv_rows.specs.RowFaults.{ReportsFirst};
 ghost use Rattle.csv_rows.specs.Tables.{row_count};
 ghost use Rattle.service_days.specs.Periods.{service_ids, periods_of};
@@ -103,15 +103,10 @@ pub(crate) fn load_calendar<F: Files>(
     folder: &str,
     limits: &Limits,
 ) -> Result<LoadedCalendar, FeedFault>
-    ensures calendar { IfSome (F.state files.old).files (λ m. IfOk result (λ c.
-        IsCalendar (calendar_from (load_in m folder.now limits.now None CalendarTable))
-        c.missing c.calendar.ids c.calendar.periods.items)) }
+    ensures reads { ReadsTable CalendarTable folder.now limits.now (F.state files.old) (F.state files.new)
+        calendar_from (λ read c. IsCalendar read c.missing c.calendar.ids c.calendar.periods.items) result }
     ensures sound { IfOk result (λ c. IsOfCalendar c.missing c.calendar.ids c.calendar.periods.items) }
-    ensures fault { IfSome (F.state files.old).files (λ m. IfErr result (λ f. f ≢ FeedFault.NoMemory
-        → calendar_from (load_in m folder.now limits.now (unread_table f) CalendarTable) ≡ Err f)) }
     ensures few { IfOk result (λ c. length c.calendar.ids ≤ 2 ^ 20) }
-    ensures own { IfErr result (IsFaultOf CalendarTable) }
-    ensures causes { HasFeedCauses folder.now (F.state files.old) (F.state files.new) result }
 {
     let loaded = read_table(alloc, files, folder, Table::Calendar, limits)?;
     let missing = has_no_record(&loaded);
@@ -128,15 +123,11 @@ pub(crate) fn load_dates<F: Files>(
     ids: Ids,
 ) -> Result<LoadedDates, FeedFault>
     requires ids { length ids ≤ 2 ^ 20 }
-    ensures dates { IfSome (F.state files.old).files (λ m. IfOk result (λ d.
-        AreDates (dates_from (load_in m folder.now limits.now None DatesTable))
-        ids d.missing d.numbered.ids d.numbered.exceptions.keys)) }
+    ensures reads { ReadsTable DatesTable folder.now limits.now (F.state files.old) (F.state files.new)
+        dates_from (λ read d. AreDates read ids d.missing d.numbered.ids d.numbered.exceptions.keys)
+        result }
     ensures sound { IfOk result (λ d.
         AreOfDates ids d.missing d.numbered.ids d.numbered.exceptions.keys) }
-    ensures fault { IfSome (F.state files.old).files (λ m. IfErr result (λ f. f ≢ FeedFault.NoMemory
-        → dates_from (load_in m folder.now limits.now (unread_table f) DatesTable) ≡ Err f)) }
-    ensures own { IfErr result (IsFaultOf DatesTable) }
-    ensures causes { HasFeedCauses folder.now (F.state files.old) (F.state files.new) result }
 {
     let loaded = read_table(alloc, files, folder, Table::CalendarDates, limits)?;
     let missing = has_no_record(&loaded);

@@ -1,2 +1,3 @@
 pub mod LoadLemmas
 pub mod ReadSteps
+pub mod ReadingLemmas

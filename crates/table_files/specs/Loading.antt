@@ -4,7 +4,7 @@ use Rattle.file_ports.specs.Counts.{HasCausesOf}
 use Rattle.file_ports.specs.Ports.{FileMap, FilesState, file_at}
 use Rattle.csv_rows.specs.declared.feed_tables.Table.{Table}
 use Rattle.csv_rows.specs.declared.feed_tables.FeedFault.{FeedFault}
-use Rattle.csv_rows.specs.declared.feed_tables.FeedFault.TheVariants.{Read, TooLong, MissingTable, MissingColumn, BadField, UnknownKey, DuplicateKey, BackwardTime, TooManyRows, NoMemory}
+use Rattle.csv_rows.specs.declared.feed_tables.FeedFault.TheVariants.{Read, TooLong, TooManyRows}
 use Rattle.table_files.specs.declared.loading.Loaded.{Loaded}
 use Rattle.table_files.specs.declared.loading.Loaded.TheVariants.{Absent, NoRecord, Found}
 use Rattle.csv_rows.specs.declared.limits.Limits.{Limits}
@@ -54,19 +54,6 @@ abbrev pub HasAtMost : ℕ → Loaded → Type 0
 HasAtMost most Absent = Unit {0}
 HasAtMost most NoRecord = Unit {0}
 HasAtMost most (Found t) = row_count t ≤ most
-
--- the faults that loading this table may have
-abbrev pub IsLoadFault : Table → FeedFault → Type 0
-IsLoadFault table (Read t) = t ≡ table
-IsLoadFault table (TooLong t) = t ≡ table
-IsLoadFault table (TooManyRows t count) = t ≡ table
-IsLoadFault table NoMemory = Unit {0}
-IsLoadFault table (MissingTable t) = ⊥
-IsLoadFault table (MissingColumn t column) = ⊥
-IsLoadFault table (BadField t line column) = ⊥
-IsLoadFault table (UnknownKey t line column) = ⊥
-IsLoadFault table (DuplicateKey t line) = ⊥
-IsLoadFault table (BackwardTime line) = ⊥
 
 -- the files are kept, and `Read` of a table of this folder comes only where the counts rose, and always where the count of all grew
 abbrev pub HasFeedCauses : {T : Type 0} (folder : List ℕ) (before now : FilesState) → Result T FeedFault → Type 0

@@ -1,10 +1,10 @@
 //! The tables of a feed from its folder.
-ghost use Rattle.std.specs.Prelude.{◌≡◌, ◌≢◌, ◌≤◌, ◌^◌, ◌↔◌, None, Ok, Err, IfOk, IfErr, IfSome, IsNone, OnOk, option_map, vec_items, string_bytes};
+ghost use Rattle.std.specs.Prelude.{◌≡◌, ◌≢◌, ◌≤◌, ◌^◌, ◌↔◌, None, Ok, Err, IfOk, IfErr, IsNone, option_map, vec_items, string_bytes};
 ghost use Rattle.file_ports.specs.Counts.{KeepsOthers};
-ghost use Rattle.file_ports.specs.Ports.{file_at};
-ghost use Rattle.csv_rows.specs.FeedTables.{path_of, unread_table, is_unread_table};
+ghost use Rattle.csv_rows.specs.FeedTables.{path_of, unread_table, IsFaultOf};
 ghost use Rattle.csv_rows.specs.Limits.{rows_of};
-ghost use Rattle.table_files.specs.Loading.{load_of, loaded_from, loaded_bytes, HasAtMost, IsAbsent, IsLoadFault, HasFeedCauses};
+ghost use Rattle.table_files.specs.Loading.{loaded_from, loaded_bytes, HasAtMost, IsAbsent};
+ghost use Rattle.table_files.specs.Reading.{ReadsTable};
 ghost use Rattle.csv_rows.specs.Tables.{table_of};
 
 use csv_rows::{FeedFault, Limits, Rows, RowsFault, Table};
@@ -46,7 +46,7 @@ fn records_of(
     ensures read { IfErr result (λ f. unread_table f ≡ None) }
     ensures present { IfOk result (λ l. IsAbsent l → ⊥) }
     ensures few { IfOk result (HasAtMost most) }
-    ensures own { IfErr result (IsLoadFault table) }
+    ensures own { IfErr result (IsFaultOf table) }
 {
     match Rows::read(alloc, bytes) {
         Ok(rows) => {
@@ -72,14 +72,10 @@ pub fn read_file<F: Files>(
     limits: &Limits,
 ) -> Result<Option<Vec<u8>>, FeedFault>
     // If the files are known: the bytes, or the fault of this file.
-    ensures loaded { IfSome (F.state files.old).files (λ m. IfOk result (λ o.
-        load_of None limits.now table (file_at m (path_of folder.now table))
-        ≡ loaded_bytes limits.now table (option_map vec_items o))) }
-    ensures fault { IfSome (F.state files.old).files (λ m. IfErr result (λ f. f ≢ FeedFault.NoMemory
-        → load_of (unread_table f) limits.now table (file_at m (path_of folder.now table)) ≡ Err f)) }
-    ensures own { IfErr result (IsLoadFault table) }
+    ensures reads { ReadsTable table folder.now limits.now (F.state files.old) (F.state files.new)
+        (λ loaded. loaded) (λ loaded o. loaded ≡ loaded_bytes limits.now table (option_map vec_items o))
+        result }
     ensures absent { IfOk result (λ o. IsNone o ↔ ((F.state files.new).in_hand ≡ None)) }
-    ensures causes { HasFeedCauses folder.now (F.state files.old) (F.state files.new) result }
     ensures others { KeepsOthers (path_of folder.now table) (F.state files.old) (F.state files.new) }
 {
     let path = path_of(alloc, folder, table)?;
@@ -101,14 +97,10 @@ pub fn read_table<F: Files>(
     limits: &Limits,
 ) -> Result<Loaded, FeedFault>
     // If the files are known: the records, or the fault of this file.
-    ensures loaded { IfSome (F.state files.old).files (λ m. IfOk result (λ l.
-        load_of None limits.now table (file_at m (path_of folder.now table)) ≡ Ok l)) }
-    ensures fault { IfSome (F.state files.old).files (λ m. IfErr result (λ f. f ≢ FeedFault.NoMemory
-        → load_of (unread_table f) limits.now table (file_at m (path_of folder.now table)) ≡ Err f)) }
+    ensures reads { ReadsTable table folder.now limits.now (F.state files.old) (F.state files.new)
+        (λ loaded. loaded) (λ loaded l. loaded ≡ Ok l) result }
     ensures few { IfOk result (HasAtMost (rows_of limits.now table)) }
-    ensures own { IfErr result (IsLoadFault table) }
     ensures absent { IfOk result (λ l. IsAbsent l ↔ ((F.state files.new).in_hand ≡ None)) }
-    ensures causes { HasFeedCauses folder.now (F.state files.old) (F.state files.new) result }
     ensures others { KeepsOthers (path_of folder.now table) (F.state files.old) (F.state files.new) }
 {
     match read_file(alloc, files, folder, table, limits)? {

@@ -1,9 +1,8 @@
 //! The tables that must be present in a feed.
-ghost use Rattle.std.specs.Prelude.{◌≡◌, ◌≢◌, ◌≤◌, None, Ok, Err, IfOk, IfErr, IfSome};
-ghost use Rattle.csv_rows.specs.FeedTables.{unread_table, IsFaultOf};
+ghost use Rattle.std.specs.Prelude.{◌≡◌, ◌≤◌, Ok, IfOk};
 ghost use Rattle.csv_rows.specs.Limits.{rows_of};
 ghost use Rattle.csv_rows.specs.Tables.{row_count};
-ghost use Rattle.table_files.specs.Loading.{HasFeedCauses, load_in};
+ghost use Rattle.table_files.specs.Reading.{ReadsTable};
 ghost use Rattle.table_files.specs.Required.{required};
 
 use crate::loading::{Loaded, read_table};
@@ -21,13 +20,9 @@ pub fn read_required<F: Files>(
     first: Column,
     limits: &Limits,
 ) -> Result<Rows, FeedFault>
-    ensures rows { IfSome (F.state files.old).files (λ m. IfOk result (λ t.
-        required table first (load_in m folder.now limits.now None table) ≡ Ok t)) }
-    ensures fault { IfSome (F.state files.old).files (λ m. IfErr result (λ f. f ≢ FeedFault.NoMemory
-        → required table first (load_in m folder.now limits.now (unread_table f) table) ≡ Err f)) }
+    ensures reads { ReadsTable table folder.now limits.now (F.state files.old) (F.state files.new)
+        (required table first) (λ loaded t. loaded ≡ Ok t) result }
     ensures few { IfOk result (λ t. row_count t ≤ rows_of limits.now table) }
-    ensures own { IfErr result (IsFaultOf table) }
-    ensures causes { HasFeedCauses folder.now (F.state files.old) (F.state files.new) result }
 {
     match read_table(alloc, files, folder, table, limits)? {
         Loaded::Found(rows) => Ok(rows),

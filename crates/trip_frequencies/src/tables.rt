@@ -1,9 +1,8 @@
 //! The table of frequencies, loaded and read.
-ghost use Rattle.std.specs.Prelude.{◌≡◌, ◌≢◌, ◌≤◌, length, None, Ok, Err, IfOk, IfErr, IfSome};
+ghost use Rattle.std.specs.Prelude.{◌≡◌, ◌≤◌, length, Ok, IfOk};
 ghost use Rattle.std.specs.List.Sorted.{IsNonDecreasing};
 ghost use Rattle.csv_rows.specs.declared.feed_tables.Table.TheVariants.{Frequencies as FrequenciesTable};
-ghost use Rattle.csv_rows.specs.FeedTables.{unread_table, IsFaultOf};
-ghost use Rattle.table_files.specs.Loading.{HasFeedCauses, load_in};
+ghost use Rattle.table_files.specs.Reading.{ReadsTable};
 ghost use Rattle.table_files.specs.Required.{IsOfSomeTable};
 ghost use Rattle.trip_frequencies.specs.FrequencyBounds.{most_frequencies};
 ghost use Rattle.trip_frequencies.specs.Frequencies.{frequencies_from, fault_of_frequencies, AreFrequencies};
@@ -26,19 +25,14 @@ pub fn load_frequencies<F: Files>(
     limits: &Limits,
     trips: &Ids,
 ) -> Result<Repeats, FeedFault>
-    ensures repeats { IfSome (F.state files.old).files (λ m. IfOk result (λ r. AreFrequencies trips.now
-        (frequencies_from (load_in m folder.now limits.now None FrequenciesTable) trips.now)
-        (all_repeats_in r.trips.items r.rows.items (length trips.now)))) }
-    ensures fault { IfSome (F.state files.old).files (λ m. IfErr result (λ f. f ≢ FeedFault.NoMemory
-        → frequencies_from (load_in m folder.now limits.now (unread_table f) FrequenciesTable) trips.now
-        ≡ Err f)) }
+    ensures reads { ReadsTable FrequenciesTable folder.now limits.now (F.state files.old) (F.state files.new)
+        (λ loaded. frequencies_from loaded trips.now) (λ read r. AreFrequencies trips.now read
+        (all_repeats_in r.trips.items r.rows.items (length trips.now))) result }
     ensures sound { IfOk result (λ r. IsOfSomeTable (fault_of_frequencies trips.now) (λ l.
         AreFrequencies trips.now (Ok l) (all_repeats_in r.trips.items r.rows.items (length trips.now)))) }
     ensures ordered { IfOk result (λ r. IsNonDecreasing r.trips.items) }
     ensures paired { IfOk result (λ r. length r.rows.items ≡ length r.trips.items) }
     ensures few { IfOk result (λ r. length r.rows.items ≤ most_frequencies) }
-    ensures own { IfErr result (IsFaultOf FrequenciesTable) }
-    ensures causes { HasFeedCauses folder.now (F.state files.old) (F.state files.new) result }
 {
     let loaded = read_table(alloc, files, folder, Table::Frequencies, limits)?;
     repeats_from(alloc, &loaded, trips)

@@ -1,20 +1,18 @@
-use Rattle.gtfs_tables.proofs.Common.{some_raised}
-use Rattle.gtfs_tables.proofs.FeedLemmas.{if_same, fault_at_times, fault_at_repeats, times_of}
+use Rattle.gtfs_tables.proofs.Common.{IsFeedTable, own-of, StopTimes, Frequencies, reads-raised, reads-value, reads-fault, reads-both, reads-after}
+use Rattle.gtfs_tables.proofs.FeedLemmas.{fault_at_times, fault_at_repeats}
 use Rattle.gtfs_tables.proofs.times.load_times.Goals as goal
 
-pub returns-in_err-visits-clause-fault : goal.returns-in_err-visits-clause-fault
-returns-in_err-visits-clause-fault g c = some_raised _ _ _ c.from_residual.result c.from_residual.ensures
-    (fault_at_times c.args.folder.now c.args.limits.now c.args.lists.now (g.F.Files.state c.args.files.now).files _ c.in_err-visits.ensures.own c.in_err-visits.ensures.fault)
+pub returns-in_err-visits-clause-reads : goal.returns-in_err-visits-clause-reads
+returns-in_err-visits-clause-reads g c = reads-raised c.from_residual.result c.from_residual.ensures
+    (reads-fault (own-of IsFeedTable StopTimes _ tt) (λ m. fault_at_times m c.args.folder.now c.args.limits.now c.args.lists.now _) c.in_err-visits.ensures.reads)
 
-pub returns-in_err-repeats-clause-fault : goal.returns-in_err-repeats-clause-fault
-returns-in_err-repeats-clause-fault g c = some_raised _ _ _ c.from_residual-in_err-repeats.result c.from_residual-in_err-repeats.ensures
-    (fault_at_repeats c.args.folder.now c.args.limits.now c.args.lists.now _ (g.F.Files.state c.args.files.now).files _ c.in_err-repeats.ensures.own
-    c.in_ok-visits.ensures.visits (if_same _ _ _ c.in_ok-visits.ensures.causes.same c.in_err-repeats.ensures.fault))
+pub returns-in_err-repeats-clause-reads : goal.returns-in_err-repeats-clause-reads
+returns-in_err-repeats-clause-reads g c = reads-raised c.from_residual-in_err-repeats.result c.from_residual-in_err-repeats.ensures
+    (reads-fault (own-of IsFeedTable Frequencies _ tt) (λ m own p. fault_at_repeats m c.args.folder.now c.args.limits.now c.args.lists.now _ _ own p.0 p.1)
+    (reads-after c.in_ok-visits.ensures.reads c.in_err-repeats.ensures.reads))
 
-pub returns-clause-times : goal.returns-clause-times
-returns-clause-times g c =
-    times_of c.args.folder.now c.args.limits.now c.args.lists.now _ (g.F.Files.state c.args.files.now).files c.in_ok-visits.ensures.visits
-    (if_same _ _ _ c.in_ok-visits.ensures.causes.same c.in_ok-repeats.ensures.repeats)
+pub returns-clause-reads : goal.returns-clause-reads
+returns-clause-reads g c = reads-value (λ m p. record { visits = p.0; repeats = p.1 }) (reads-both c.in_ok-visits.ensures.reads c.in_ok-repeats.ensures.reads)
 
 pub returns-clause-sound : goal.returns-clause-sound
 returns-clause-sound g c = record {

@@ -1,27 +1,17 @@
-use Rattle.journey_problem.proofs.Common.{inl, inr, causes-next, IfSome_then}
-use Rattle.journey_problem.proofs.FeedSteps.{if_some_both}
+use Rattle.journey_problem.proofs.Common.{inl, inr}
+use Rattle.table_files.proofs.ReadingLemmas.{reads-value, reads-fault, reads-both, reads-after}
 use Rattle.journey_problem.proofs.feed_problem.read_folder.Goals as goal
 
-pub returns-in-Err-clause-fault : goal.returns-in-Err-clause-fault
-returns-in-Err-clause-fault g c = IfSome_then (g.F.Files.state c.args.files.now).files c.in-Err.ensures.fault (λ m first free. inl (first free))
+pub returns-in-Err-clause-reads : goal.returns-in-Err-clause-reads
+returns-in-Err-clause-reads g c = reads-fault (λ own. tt) (λ m own first. inl first) c.in-Err.ensures
 
-pub returns-in-Err-read_rules-clause-fault : goal.returns-in-Err-read_rules-clause-fault
-returns-in-Err-read_rules-clause-fault g c =
-    if_some_both (g.F.Files.state c.args.files.now).files (g.F.Files.state c.read.new.files).files c.in-Ok.ensures.causes.same c.in-Ok.ensures.feed c.in-Err-read_rules.ensures.fault
-    (λ m is later free. inr (c.in-Ok.feed, is, later free))
+pub returns-in-Err-read_rules-clause-reads : goal.returns-in-Err-read_rules-clause-reads
+returns-in-Err-read_rules-clause-reads g c =
+    reads-fault (λ own. tt) (λ m own p. inr (c.in-Ok.feed, p.0, p.1)) (reads-after c.in-Ok.ensures c.in-Err-read_rules.ensures.reads)
 
-pub returns-in-Err-read_rules-clause-causes : goal.returns-in-Err-read_rules-clause-causes
-returns-in-Err-read_rules-clause-causes g c =
-    causes-next (λ table is. is) c.in-Ok.ensures.causes c.in-Err-read_rules.ensures.causes
-
-pub returns-in-Ok-read_rules-clause-folder : goal.returns-in-Ok-read_rules-clause-folder
-returns-in-Ok-read_rules-clause-folder g c =
-    if_some_both (g.F.Files.state c.args.files.now).files (g.F.Files.state c.read.new.files).files c.in-Ok.ensures.causes.same c.in-Ok.ensures.feed c.in-Ok-read_rules.ensures.rules
-    (λ m is are. record { feed = is; services = are.0; changes = are.1 })
-
-pub returns-in-Ok-read_rules-clause-causes : goal.returns-in-Ok-read_rules-clause-causes
-returns-in-Ok-read_rules-clause-causes g c =
-    causes-next (λ table is. is) c.in-Ok.ensures.causes c.in-Ok-read_rules.ensures.causes
+pub returns-in-Ok-read_rules-clause-reads : goal.returns-in-Ok-read_rules-clause-reads
+returns-in-Ok-read_rules-clause-reads g c =
+    reads-value (λ m p. record { feed = p.0; services = p.1.0; changes = p.1.1 }) (reads-both c.in-Ok.ensures c.in-Ok-read_rules.ensures.reads)
 
 pub returns-in-Ok-read_rules-clause-sound : goal.returns-in-Ok-read_rules-clause-sound
 returns-in-Ok-read_rules-clause-sound g c = record {

@@ -1,10 +1,6 @@
-use Rattle.gtfs_tables.proofs.Common.{some_raised}
-use Rattle.gtfs_tables.proofs.FeedLemmas.{if_same, none_read, fault_after, feed_of_tables, sound_feed}
+use Rattle.gtfs_tables.proofs.Common.{reads-raised, reads-value, reads-fault, reads-both, reads-after}
+use Rattle.gtfs_tables.proofs.FeedLemmas.{feed_of_tables, sound_feed}
 use Rattle.gtfs_tables.proofs.feed.Feed.read.Goals as goal
-
-pub returns-in_err-times-clause-fault : goal.returns-in_err-times-clause-fault
-returns-in_err-times-clause-fault g c = some_raised _ _ _ c.from_residual-in_err-times.result c.from_residual-in_err-times.ensures
-    (fault_after _ _ _ _ c.in_ok-lists.ensures.lists (if_same _ _ _ c.in_ok-lists.ensures.causes.same c.in_err-times.ensures.fault))
 
 pub invariant_of-result : goal.invariant_of-result
 invariant_of-result g c =
@@ -26,13 +22,13 @@ invariant_of-result g c =
       sound = sound_feed c.in_ok-lists.lists c.in_ok-times.times l t;
     }
 
-pub returns-clause-feed : goal.returns-clause-feed
-returns-clause-feed g c =
-    feed_of_tables c.args.folder.now c.args.limits.now c.in_ok-lists.lists c.in_ok-times.times (g.F.Files.state c.args.files.now).files
-    c.in_ok-lists.ensures.lists (if_same _ _ _ c.in_ok-lists.ensures.causes.same c.in_ok-times.ensures.times)
+pub returns-in_err-lists : goal.returns-in_err-lists
+returns-in_err-lists g c = reads-raised c.from_residual.result c.from_residual.ensures (reads-fault (λ own. own) (λ m own first. first) c.in_err-lists.ensures.reads)
 
-pub returns-in_err-lists-clause-feed : goal.returns-in_err-lists-clause-feed
-returns-in_err-lists-clause-feed g c = none_read (g.F.Files.state c.args.files.now).files _ c.from_residual.result c.from_residual.ensures.0
+pub returns-in_err-times : goal.returns-in_err-times
+returns-in_err-times g c = reads-raised c.from_residual-in_err-times.result c.from_residual-in_err-times.ensures
+    (reads-fault (λ own. own) (λ m own p. p.1 p.0) (reads-after c.in_ok-lists.ensures.reads c.in_err-times.ensures.reads))
 
-pub returns-in_err-times-clause-feed : goal.returns-in_err-times-clause-feed
-returns-in_err-times-clause-feed g c = none_read (g.F.Files.state c.args.files.now).files _ c.from_residual-in_err-times.result c.from_residual-in_err-times.ensures.0
+pub returns : goal.returns
+returns g c = reads-value (λ m p. feed_of_tables m c.args.folder.now c.args.limits.now c.in_ok-lists.lists c.in_ok-times.times p.0 p.1)
+    (reads-both c.in_ok-lists.ensures.reads c.in_ok-times.ensures.reads)

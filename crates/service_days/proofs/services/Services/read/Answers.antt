@@ -1,36 +1,43 @@
-use Rattle.service_days.proofs.Common.{refl, and_from, and_left, and_right, some_raised}
-use Rattle.file_ports.proofs.CauseLemmas.{causes-next, causes-silent}
-use Rattle.service_days.proofs.ReadLemmas.{causes_raised, calendar_first, dates_first, none_there, services_here, runs_by_some}
+use Rattle.service_days.proofs.Common.{refl, and_from, and_left, and_right}
+use Rattle.csv_rows.specs.declared.feed_tables.Table.TheVariants.{Calendar, CalendarDates}
+use Rattle.table_files.proofs.ReadingLemmas.{own-of, reads-raised, reads-value, reads-fault, reads-both, reads-after, reads-refused}
+use Rattle.service_days.proofs.ReadLemmas.{calendar_first, dates_first, none_there, services_here, runs_by_some}
+use Rattle.service_days.specs.Calendars.{IsCalendarTable}
 use Rattle.service_days.proofs.services.Services.read.Goals as goal
 use Rattle.service_days.proofs.services.Services.read.Goals.{else-missing-via-then-missing+else-dates, else-missing-via-else-missing}
 
-pub returns-in_err-missing-clause-fault : goal.returns-in_err-missing-clause-fault
-returns-in_err-missing-clause-fault g c = some_raised _ _ _ c.from_residual.result c.from_residual.ensures
-    (calendar_first (g.F.Files.state c.args.files.now).files c.args.folder.now c.args.limits.now _ c.in_err-missing.ensures.fault)
+pub returns-in_err-missing-clause-reads : goal.returns-in_err-missing-clause-reads
+returns-in_err-missing-clause-reads g c = reads-raised c.from_residual.result c.from_residual.ensures
+    (reads-fault (own-of IsCalendarTable Calendar _ tt) (λ m own first. calendar_first m c.args.folder.now c.args.limits.now _ first) c.in_err-missing.ensures.reads)
 
-pub returns-in_err-dates-clause-fault : goal.returns-in_err-dates-clause-fault
-returns-in_err-dates-clause-fault g c = some_raised _ _ _ c.from_residual-in_err-dates.result c.from_residual-in_err-dates.ensures
+pub returns-in_err-dates-clause-reads : goal.returns-in_err-dates-clause-reads
+returns-in_err-dates-clause-reads g c = reads-raised c.from_residual-in_err-dates.result c.from_residual-in_err-dates.ensures
     (let x = c.in_ok-missing.field-0 in
-    dates_first (g.F.Files.state c.args.files.now).files c.args.folder.now c.args.limits.now c.in_err-dates.field-0.0 x.missing x.calendar.ids x.calendar.periods.items
-    c.in_ok-missing.ensures.calendar c.in_err-dates.ensures.own (rw c.in_ok-missing.ensures.causes.same at c.in_err-dates.ensures.fault))
+    reads-fault (own-of IsCalendarTable CalendarDates _ tt)
+    (λ m own p. dates_first m c.args.folder.now c.args.limits.now _ x.missing x.calendar.ids x.calendar.periods.items p.0 own p.1)
+    (reads-after c.in_ok-missing.ensures.reads c.in_err-dates.ensures.reads))
 
-pub returns-then-dates-clause-fault : goal.returns-then-dates-clause-fault
-returns-then-dates-clause-fault g c =
+pub returns-then-dates-clause-reads : goal.returns-then-dates-clause-reads
+returns-then-dates-clause-reads g c =
     let x = c.in_ok-missing.field-0 in
     let d = c.in_ok-dates.dates in
-    none_there (g.F.Files.state c.args.files.now).files c.args.folder.now c.args.limits.now x.missing d.missing x.calendar.ids d.numbered.ids x.calendar.periods.items d.numbered.exceptions.keys
-    c.in_ok-missing.ensures.calendar (rw c.in_ok-missing.ensures.causes.same at c.in_ok-dates.ensures.dates) (and_from x.missing d.missing c.if-missing.true c.if-dates.true)
+    reads-refused refl tt
+    (λ m p. none_there m c.args.folder.now c.args.limits.now x.missing d.missing x.calendar.ids d.numbered.ids x.calendar.periods.items d.numbered.exceptions.keys
+    p.0 p.1 (and_from x.missing d.missing c.if-missing.true c.if-dates.true))
+    (reads-both c.in_ok-missing.ensures.reads c.in_ok-dates.ensures.reads)
 
-pub returns-clause-services : goal.returns-clause-services
-returns-clause-services g c =
+pub returns-clause-reads : goal.returns-clause-reads
+returns-clause-reads g c =
     let x = c.in_ok-missing.field-0 in
     let d = c.in_ok-dates.dates in
-    services_here (g.F.Files.state c.args.files.now).files c.args.folder.now c.args.limits.now x.missing d.missing x.calendar.ids d.numbered.ids x.calendar.periods.items d.numbered.exceptions.keys
-    _ refl c.in_ok-missing.ensures.calendar (rw c.in_ok-missing.ensures.causes.same at c.in_ok-dates.ensures.dates)
+    reads-value
+    (λ m p. services_here m c.args.folder.now c.args.limits.now x.missing d.missing x.calendar.ids d.numbered.ids x.calendar.periods.items d.numbered.exceptions.keys
+    _ refl p.0 p.1
     (elim c.else-missing.branch [
       | else-missing-via-then-missing+else-dates w ↦ and_right x.missing d.missing w.if-dates.false
       | else-missing-via-else-missing w ↦ and_left x.missing d.missing w.if-missing.false
-    ])
+    ]))
+    (reads-both c.in_ok-missing.ensures.reads c.in_ok-dates.ensures.reads)
 
 pub returns-clause-sound : goal.returns-clause-sound
 returns-clause-sound g c =
@@ -41,17 +48,3 @@ returns-clause-sound g c =
       | else-missing-via-then-missing+else-dates w ↦ and_right x.missing d.missing w.if-dates.false
       | else-missing-via-else-missing w ↦ and_left x.missing d.missing w.if-missing.false
     ])
-
-pub returns-in_err-missing-clause-causes : goal.returns-in_err-missing-clause-causes
-returns-in_err-missing-clause-causes g c = causes_raised _ _ _ _ _ c.from_residual.result c.from_residual.ensures c.in_err-missing.ensures.causes
-
-pub returns-in_err-dates-clause-causes : goal.returns-in_err-dates-clause-causes
-returns-in_err-dates-clause-causes g c = causes_raised _ _ _ _ _ c.from_residual-in_err-dates.result c.from_residual-in_err-dates.ensures
-    (causes-next (λ table is. is) c.in_ok-missing.ensures.causes c.in_err-dates.ensures.causes)
-
-pub returns-then-dates-clause-causes : goal.returns-then-dates-clause-causes
-returns-then-dates-clause-causes g c =
-    causes-silent (λ table is. is) (λ table is. absurd (cc)) (causes-next (λ table is. is) c.in_ok-missing.ensures.causes c.in_ok-dates.ensures.causes)
-
-pub returns-clause-causes : goal.returns-clause-causes
-returns-clause-causes g c = causes-next (λ table is. is) c.in_ok-missing.ensures.causes c.in_ok-dates.ensures.causes
