@@ -1,15 +1,18 @@
 //! The plain values against those of the scans and the plans.
-ghost use Rattle.std.specs.Prelude.{◌<◌, ◌≤◌, length};
+ghost use Rattle.std.specs.Prelude.{◌<◌, ◌≤◌, ◌+◌, length};
 ghost use Rattle.interval_fixed.specs.Interval.{end_of_nanos};
+ghost use Rattle.late_chance.specs.Chances.{seconds_per_week};
 ghost use Rattle.plan_model.specs.Bounds.{end_of_time};
 
-use crate::made::{Numbers, cut_text, delay_text};
+use crate::made::{FIRST, Numbers, cut_text, delay_text};
 use crate::strategies::{Goal, best, scale_of};
-use decision_graph::plan;
+use decision_graph::{PromisedQuery, expand, plan, punctual_plan};
 use interval_fixed::Span;
+use late_chance::{LateChance, SECONDS_PER_WEEK};
 use meat_scan::ScanTables;
+use merged_runs::MergedRuns;
 use plan_model::{Moment, Network, PlaceId, Query, SortedOrder};
-use safe_arrival::least_worst;
+use safe_arrival::{least_worst, reserved_worst};
 use std::alloc::Global;
 use std::test::Fail;
 use test_networks::network_with;
@@ -21,7 +24,12 @@ const NETWORKS: u64 = 300;
 const JOURNEYS: u32 = 2;
 
 /// No strategy arrives later than this in a network of one hour.
-const NEVER: Moment = Moment(100_000);
+const NEVER: Moment = Moment(FIRST.0 + 100_000);
+
+/// How many decimal digits a chance has, and the ten thousandths of one outcome.
+const CHANCE_DIGITS: u32 = 18;
+
+const WEIGHT_DIGITS: u32 = 4;
 
 /// How many journeys between two places have a safe strategy, and how many have none.
 #[derive(Clone, Copy)]
@@ -40,27 +48,109 @@ fn encloses(bounds: Span, expected: u128, rides: u32) -> bool {
         && bounds.hi().saturating_sub(bounds.lo()) <= u64::from(rides)
 }
 
-/// Compares the plan of a query with the plain value, and returns whether a strategy is safe.
-fn compare_plan(alloc: Global, network: &Network, query: &Query) -> Result<bool, Fail>
-    requires source { query.now.source.0 < length network.now.change }
-    requires target { query.now.target.0 < length network.now.change }
+/// Ten, this many times.
+fn power_of_ten(digits: u32) -> u128 {
+    let mut power: u128 = 1;
+    for _ in 0..digits {
+        power = power.saturating_mul(10);
+    }
+    power
+}
+
+/// Whether bounds on a chance enclose an exact one over this many rides.
+fn encloses_chance(chance: LateChance, exact: u128, rides: u32) -> bool {
+    let weights = rides.saturating_mul(WEIGHT_DIGITS);
+    let digits = weights.max(CHANCE_DIGITS);
+    let exact = exact.saturating_mul(power_of_ten(digits.saturating_sub(weights)));
+    let unit = power_of_ten(digits.saturating_sub(CHANCE_DIGITS));
+    u128::from(chance.lo()).saturating_mul(unit) <= exact
+        && exact <= u128::from(chance.hi()).saturating_mul(unit)
+}
+
+/// The bounds of the plan of a query, by the sorted order.
+fn sorted_plan(alloc: Global, network: &Network, query: &Query) -> Result<Option<Span>, Fail>
     requires start { query.now.start.0 < end_of_nanos }
-    requires deadline { query.now.start.0 ≤ query.now.deadline.0 }
 {
     let mut order = SortedOrder::new(alloc, network)?;
-    let Some(found) = plan(alloc, &mut order, network, query)? else {
-        if best(network, query, Goal::Expected).is_some() {
-            return Err("no plan where something is safe".into());
-        }
-        return Ok(false);
-    };
-    let Some(expected) = best(network, query, Goal::Expected) else {
-        return Err("a plan where nothing is safe".into());
-    };
-    if !encloses(found.value, expected, network.count()) {
-        return Err("the bounds do not enclose the expected arrival".into());
+    match plan(alloc, &mut order, network, query)? {
+        None => Ok(None),
+        Some(found) => Ok(Some(found.value)),
     }
-    Ok(true)
+}
+
+/// The bounds of the plan of a query, by the merged order, as the program makes it.
+fn merged_plan(alloc: Global, network: &Network, query: &Query) -> Result<Option<Span>, Fail>
+    requires start { query.now.start.0 < end_of_nanos }
+{
+    let mut order = MergedRuns::new(alloc, network)?;
+    match plan(alloc, &mut order, network, query)? {
+        None => Ok(None),
+        Some(found) => Ok(Some(found.value)),
+    }
+}
+
+/// The bounds of the plan ride by ride.
+fn expanded_plan(alloc: Global, network: &Network, query: &Query) -> Result<Option<Span>, Fail>
+    requires start { query.now.start.0 < end_of_nanos }
+{
+    let mut order = MergedRuns::new(alloc, network)?;
+    match expand(alloc, &mut order, network, query)? {
+        None => Ok(None),
+        Some(found) => Ok(Some(found.value)),
+    }
+}
+
+/// The bounds on the chance of being late of the plan for a promise.
+fn least_chance(alloc: Global, promised: &PromisedQuery) -> Result<Option<LateChance>, Fail> {
+    match punctual_plan(alloc, promised)? {
+        None => Ok(None),
+        Some(found) => Ok(Some(found.value)),
+    }
+}
+
+/// Whether both have no bounds, or the same.
+fn are_alike(one: Option<Span>, other: Option<Span>) -> bool {
+    match (one, other) {
+        (None, None) => true,
+        (Some(a), Some(b)) => a.lo() == b.lo() && a.hi() == b.hi(),
+        (None, Some(_)) | (Some(_), None) => false,
+    }
+}
+
+/// Compares the plans of a query with the plain value and with each other, and returns whether a strategy is safe.
+fn compare_plan(alloc: Global, network: &Network, query: &Query) -> Result<bool, Fail>
+    requires start { query.now.start.0 < end_of_nanos }
+{
+    let found = merged_plan(alloc, network, query)?;
+    if !are_alike(found, sorted_plan(alloc, network, query)?) {
+        return Err("other bounds by the sorted order".into());
+    }
+    if !are_alike(found, expanded_plan(alloc, network, query)?) {
+        return Err("other bounds ride by ride".into());
+    }
+    match (found, best(network, query, Goal::Expected)) {
+        (None, None) => Ok(false),
+        (None, Some(_)) => Err("no plan where something is safe".into()),
+        (Some(_), None) => Err("a plan where nothing is safe".into()),
+        (Some(bounds), Some(expected)) => {
+            if encloses(bounds, expected, network.count()) {
+                Ok(true)
+            } else {
+                Err("the bounds do not enclose the expected arrival".into())
+            }
+        }
+    }
+}
+
+/// Compares the least chance of an arrival after a promised moment.
+fn compare_chance(alloc: Global, promised: &PromisedQuery) -> Result<(), Fail> {
+    let network = promised.network;
+    let plain = best(network, &promised.query, Goal::Late(promised.moment));
+    match (least_chance(alloc, promised)?, plain) {
+        (None, None) => Ok(()),
+        (Some(chance), Some(exact)) if encloses_chance(chance, exact, network.count()) => Ok(()),
+        _ => Err("another least chance of being late".into()),
+    }
 }
 
 /// Compares the least worst arrivals.
@@ -78,6 +168,10 @@ fn compare_worst(
     let mut order = SortedOrder::new(alloc, network)?;
     let tables = ScanTables::reserve(alloc, network)?;
     let found = least_worst(tables, network, &mut order, source, target, start);
+    let mut merged = MergedRuns::new(alloc, network)?;
+    if reserved_worst(alloc, network, &mut merged, source, target, start)? != found {
+        return Err("another least worst arrival by the merged order".into());
+    }
     let query = Query {
         source,
         target,
@@ -101,7 +195,8 @@ fn compare(
 ) -> Result<bool, Fail>
     requires source { source.0 < length network.now.change }
     requires target { target.0 < length network.now.change }
-    requires start { start.0 < 100000 }
+    requires week { seconds_per_week ≤ start.0 }
+    requires start { start.0 < end_of_time }
 {
     let found = compare_worst(alloc, network, source, target, start)?;
     let worst = found.unwrap_or(NEVER).0.max(start.0);
@@ -117,6 +212,16 @@ fn compare(
     }
     query.deadline = Moment(worst.saturating_add(600));
     compare_plan(alloc, network, &query)?;
+    let half = (query.deadline.0 - start.0).min(SECONDS_PER_WEEK) / 2;
+    let moment = Moment(start.0 + half);
+    compare_chance(
+        alloc,
+        &PromisedQuery {
+            network,
+            query,
+            moment,
+        },
+    )?;
     query.deadline = Moment(worst.saturating_sub(1).max(start.0));
     let early = compare_plan(alloc, network, &query)?;
     if early && worst > start.0 {
@@ -134,7 +239,7 @@ fn compare_made(alloc: Global, numbers: &mut Numbers, counts: Counts) -> Result<
     let mut counts = counts;
     for _ in 0..JOURNEYS {
         let (source, target) = (numbers.below(places), numbers.below(places));
-        let start = Moment(u64::from(numbers.below(30).min(30)) * 60);
+        let start = Moment(FIRST.0 + u64::from(numbers.below(30).min(30)) * 60);
         if source >= places || target >= places {
             return Err("a place of another network".into());
         }

@@ -1,4 +1,5 @@
 //! Networks that are made by a seed, as the texts of a cut file and of a delay file.
+use plan_model::Moment;
 use std::alloc::Global;
 use std::test::Fail;
 
@@ -105,7 +106,7 @@ fn push_ride(
     let exit = if numbers.one_in(9) { 0 } else { 1 };
     let change = numbers.below(4).saturating_mul(60);
     let row = format!(in alloc;
-        "r{run},{step},p{place},p{to},1970-01-01T00:{dep}:00,1970-01-01T00:{arr}:00,{class},{board},{exit},{change}\n"
+        "r{run},{step},p{place},p{to},1970-01-15T00:{dep}:00,1970-01-15T00:{arr}:00,{class},{board},{exit},{change}\n"
     )?;
     text.push_str(row.as_str())?;
     Ok(Stop {
@@ -116,7 +117,10 @@ fn push_ride(
     })
 }
 
-/// A cut file of one to six connections between two to four places.
+/// When the first hour of a made timetable begins, two weeks after the first moment of all.
+pub(crate) const FIRST: Moment = Moment(1_209_600);
+
+/// A cut file of one to six connections between two to four places, all within an hour.
 pub(crate) fn cut_text(alloc: Global, numbers: &mut Numbers) -> Result<String, Fail> {
     let mut text = String::new(alloc);
     text.push_str("run,step,from,to,dep,arr,class,board,exit,change\n")?;

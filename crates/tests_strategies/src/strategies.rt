@@ -12,6 +12,8 @@ pub(crate) enum Goal {
     Worst,
     /// Its expected arrival, in seconds times 10,000 for each ride that may still come.
     Expected,
+    /// Its chance of an arrival after this moment, where certainty is 10,000 for each ride that may still come.
+    Late(Moment),
 }
 
 /// What the strategies are for.
@@ -86,6 +88,8 @@ fn from_place(search: Search<'_>, place: PlaceId, arrival: Moment, remaining: u3
         return match search.goal {
             Goal::Worst => Some(moment),
             Goal::Expected => Some(moment.saturating_mul(scale_of(remaining))),
+            Goal::Late(promise) if arrival.0 <= promise.0 => Some(0),
+            Goal::Late(_) => Some(scale_of(remaining)),
         };
     }
     let mut best = None;
@@ -122,9 +126,9 @@ fn by_exit(search: Search<'_>, exit: u32, remaining: u32) -> Option<u128> {
         let child = from_place(search, connection.to, arrival, remaining - 1)?;
         value = match search.goal {
             Goal::Worst => value.max(child),
-            Goal::Expected => value.saturating_add(child.saturating_mul(u128::from(
-                outcome.weight,
-            ))),
+            Goal::Expected | Goal::Late(_) => {
+                value.saturating_add(child.saturating_mul(u128::from(outcome.weight)))
+            }
         };
     }
     Some(value)
