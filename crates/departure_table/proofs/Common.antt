@@ -5,6 +5,7 @@ pub use Rattle.std.proofs.lemmas.Bool.{cases_eq, cases_lt, cases_order}
 pub use Rattle.std.proofs.lemmas.Bool.Decides.{nat_tests}
 pub use Rattle.std.specs.List.{range_with_len}
 pub use Rattle.plan_model.specs.Bounds.{end_of_arrivals}
+pub use Rattle.plan_model.specs.Gates.{FitGates, HasGates, IsGate, extended_by, links_with_gates, places_with, source_at, way_from, way_if_to, ways_from_gates}
 pub use Rattle.plan_model.specs.Network.{AreLinksInto, IsValid, arr_of, count, dep_of, from_of, links_into}
 pub use Rattle.plan_model.specs.NetworkModel.{NetworkModel, plain_network}
 pub use Rattle.plan_model.specs.Strategy.{IsLeastWorst, IsLeg}
@@ -19,6 +20,5 @@ pub use Rattle.plan_model.specs.declared.model.Way.{Way}
 pub use Rattle.value_laws.specs.declared.MeanSpan.{MeanSpan}
 pub use Rattle.departure_table.specs.Departures.{BeginsWith, IsASecondAway, IsBestFrom, IsDepartureRow, IsExtendedFor, IsGreatestMoment, IsNoneSafeFrom, IsTable, LooksAhead, SafeAfter, SafeFrom, SaysOfSource, SolvesArrivals}
 pub use Rattle.departure_table.specs.Departures.{first_row_by}
-pub use Rattle.departure_table.specs.Gates.{HasGates, IsGate, SafeFromGate, extended_by, links_with_gates, places_with, source_at, way_from, way_if_to, ways_from_gates}
 pub use Rattle.departure_table.specs.Looked.{AreLooked, row_found, row_of_choice}
 pub use Rattle.departure_table.specs.declared.DepartureRow.{DepartureRow}

@@ -6,7 +6,7 @@ use Rattle.std.proofs.lemmas.List.{get_or-set_same, get_or-set_other, take_more,
 use Rattle.std.proofs.lemmas.List.FromFn.{map-range_with_len_more, length-map-range_with_len, get_or-map-range_with_len}
 use Rattle.plan_model.specs.declared.model.Outcome.{Outcome}
 use Rattle.plan_model.proofs.Links.{IsValid-relinked, AreLinks-none}
-use Rattle.departure_table.proofs.GateWays.{ways_from_gates-push, if_here, if_away, places, is_valid}
+use Rattle.plan_model.proofs.GateWays.{ways_from_gates-push, if_here, if_away, places, is_valid}
 
 -- the lists for one place more
 pub lists_more : (f : ℕ → List Way) (place : ℕ) (old now : List (List Way)) (one : List Way) → old ≡ map f (range_with_len 0 place) → one ≡ f place → now ≡ old ++ one ∷ [] → now ≡ map f (range_with_len 0 (place + 1))

@@ -1,9 +1,7 @@
 mod Common
 pub mod Looks
 pub mod Growth
-pub mod GateWays
 pub mod GateLists
-pub mod GateTrees
 pub mod Sources
 pub mod Latest
 pub mod Reached

@@ -1,6 +1,6 @@
 -- A scan finds the same at the gates of one source, whatever other gates there are.
 use Rattle.departure_table.proofs.Common.{◌≡◌, ℕ, zero, suc, ◌+◌, ◌-◌, ◌<◌, ◌≤◌, ◌==◌, arith, inl, inr, Option, Some, None, List, [], ◌∷◌, length, All, false, refl, ap, sym, ◌∙◌, if◌then◌else◌, nat_le, nat_tests}
-use Rattle.departure_table.proofs.Common.{Query, PlaceId, NetworkModel, IsValid, MeanSpan, way_of, from_of, extended_by, source_at, row_found, row_of_choice, DepartureRow, AreLooked}
+use Rattle.departure_table.proofs.Common.{Query, PlaceId, NetworkModel, IsValid, MeanSpan, way_of, from_of, extended_by, source_at, FitGates, row_found, row_of_choice, DepartureRow, AreLooked}
 unfoldable use Rattle.plan_model.specs.Network.{connection, row_of}
 use Rattle.std.specs.Option.{option_map, option_and_then}
 use Rattle.plan_model.specs.Network.{count, to_of, arr_of, outcomes, run_of, dep_of}
@@ -18,8 +18,8 @@ use Rattle.meat_scan.specs.Rules.{Kept, kept_after, kept_next, FollowsRules}
 use Rattle.meat_scan.specs.ScanResult.{ScanResult, found_rows}
 use Rattle.meat_scan.specs.Step.{alighted_by, boarding_exit, exits_next, exits_with, rows_with, leg_of}
 use Rattle.meat_scan.specs.Values.{values_after, value_after_arrival}
-use Rattle.departure_table.proofs.GateWays.{same_ways, from_the_gate}
-use Rattle.departure_table.specs.Looked.{FitGates, asked_at}
+use Rattle.plan_model.proofs.GateWays.{same_ways, from_the_gate}
+use Rattle.departure_table.specs.Looked.{asked_at}
 use Rattle.departure_table.specs.Reach.{BeginsWithBounds, FirstAlike, places_of}
 use Rattle.departure_table.proofs.ReachGrowth.{count_up_to, place_at}
 

@@ -3,7 +3,7 @@ use Rattle.departure_table.proofs.Common.{◌≡◌, ℕ, zero, ◌≤◌, arith
 use Rattle.departure_table.proofs.Common.{NetworkModel, IsGate, IsValid, count, Tree, DepartureRow, IsASecondAway, SafeAfter, SafeFrom, IsNoneSafeFrom, IsBestFrom, IsTable, IsGreatestMoment}
 use Rattle.departure_table.proofs.Common.{IsExtendedFor, SaysOfSource, first_row_by}
 use Rattle.plan_model.proofs.Views.{seen, leg_there}
-use Rattle.departure_table.proofs.GateTrees.{gate_there, gate_back}
+use Rattle.plan_model.proofs.GateTrees.{gate_there, gate_back}
 
 -- a table has no row exactly where nothing is safe from the first moment on
 module _ (m : NetworkModel) (Safe : ℕ → Tree → Type 0) (first last : ℕ) (order : first ≤ last) where

@@ -15,7 +15,7 @@ use Rattle.value_laws.specs.declared.MeanSpan.{MeanSpan}
 use Rattle.value_laws.specs.Means.{mean_scoring}
 use Rattle.meat_scan.specs.ScanResult.{ScanResult, choice_of}
 use Rattle.meat_scan.specs.Solves.{SolvesEach, IsSafeAt}
-use Rattle.departure_table.specs.Gates.{IsGate}
+use Rattle.plan_model.specs.Gates.{IsGate}
 use Rattle.departure_table.specs.declared.DepartureRow.{DepartureRow}
 
 -- each way from a place to where a connection can be boarded takes one second

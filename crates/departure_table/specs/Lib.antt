@@ -1,4 +1,3 @@
-pub mod Gates
 pub mod Departures
 pub mod Latest
 pub mod Looked

@@ -12,7 +12,7 @@ use Rattle.value_laws.specs.Means.{mean_scoring}
 use Rattle.plan_model.specs.Order.{IsScanOrder}
 use Rattle.meat_scan.specs.Rules.{FollowsRules}
 use Rattle.meat_scan.specs.ScanResult.{ScanResult, choice_of}
-use Rattle.departure_table.specs.Gates.{extended_by}
+use Rattle.plan_model.specs.Gates.{extended_by}
 use Rattle.departure_table.specs.declared.DepartureRow.{DepartureRow}
 
 -- the row of a leg with its value, by its departure
@@ -27,11 +27,6 @@ row_found network query found next = option_map (row_of_choice network) (choice_
 abbrev pub AreLooked : (ℕ → Option DepartureRow) → (last next : ℕ) → List DepartureRow → Type 0
 AreLooked look last next [] = (last < next) ⊎ (look next ≡ None)
 AreLooked look last next (row ∷ rows) = (next ≤ last) × (look next ≡ Some row) × AreLooked look last (row.by.0 + 1) rows
-
--- the sources are places of the network, and there is a number for each gate
-pub record FitGates (m : NetworkModel) (sources : List PlaceId) : Type 0 where
-  pub there : All (λ source. source.0 < length m.change) sources
-  pub few : length m.change + length sources < 2 ^ 32
 
 -- the query with its source elsewhere
 abbrev pub asked_at : Query → ℕ → Query

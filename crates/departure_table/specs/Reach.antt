@@ -16,7 +16,7 @@ use Rattle.value_laws.specs.Means.{mean_scoring}
 use Rattle.plan_model.specs.declared.model.ConnectionId.{ConnectionId}
 use Rattle.plan_model.specs.Order.{IsScanOrder}
 use Rattle.meat_scan.specs.Rules.{FollowsRules}
-use Rattle.departure_table.specs.Gates.{extended_by}
+use Rattle.plan_model.specs.Gates.{extended_by}
 use Rattle.meat_scan.specs.ScanResult.{ScanResult}
 use Rattle.departure_table.specs.declared.DepartureRow.{DepartureRow}
 use Rattle.departure_table.specs.Looked.{asked_at, row_found, AreLooked}

@@ -3,7 +3,7 @@ ghost use Rattle.std.specs.Prelude.{◌≡◌, ℕ, ◌+◌, ◌*◌, ◌^◌, �
 ghost use Rattle.std.specs.List.{range_with_len};
 ghost use Rattle.plan_model.specs.Network.{IsValid, links_into};
 ghost use Rattle.plan_model.specs.NetworkModel.{NetworkModel};
-ghost use Rattle.departure_table.specs.Gates.{IsGate, HasGates, SafeFromGate, extended_by as with_gates, links_with_gates, places_with, ways_from_gates};
+ghost use Rattle.plan_model.specs.Gates.{HasGates, extended_by as with_gates, links_with_gates, places_with, ways_from_gates};
 
 use plan_model::{List, Network, NoMemory, PlaceId, Way};
 use std::alloc::Global;
@@ -96,9 +96,3 @@ pub fn extended_by(
     let links = links_by(alloc, network, sources)?;
     Ok(Network::from_parts(connections, change, classes).with_links(links))
 }
-
-/// A law, with no code: from a gate exactly those trees are safe which are safe from its source a second
-/// later.
-pub fn safe_from_gate()
-    ensures { (n m : NetworkModel) (gate source : ℕ) → IsGate n m gate source → IsValid m → SafeFromGate n m gate source }
-{}

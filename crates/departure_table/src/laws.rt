@@ -7,8 +7,8 @@ ghost use Rattle.plan_model.specs.declared.model.PlaceId.{PlaceId as Place};
 ghost use Rattle.plan_model.specs.declared.model.Moment.{Moment as When};
 ghost use Rattle.departure_table.specs.declared.DepartureRow.{DepartureRow as Row};
 ghost use Rattle.departure_table.specs.Departures.{SafeFrom, IsTable, IsGreatestMoment};
-ghost use Rattle.departure_table.specs.Gates.{source_at};
-ghost use Rattle.departure_table.specs.Looked.{FitGates, FindAlike};
+ghost use Rattle.plan_model.specs.Gates.{FitGates, source_at};
+ghost use Rattle.departure_table.specs.Looked.{FindAlike};
 ghost use Rattle.departure_table.specs.Reach.{FirstAlike, places_of};
 ghost use Rattle.departure_table.specs.Latest.{IsOfLastRow, AgreesWithLeastWorst};
 

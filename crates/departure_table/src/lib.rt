@@ -23,7 +23,7 @@ mod gates;
 mod laws;
 mod reach_rows;
 
-pub use gates::{extended_by, safe_from_gate};
+pub use gates::extended_by;
 pub use laws::{
     finds_the_same_at_gates, greatest_moment_agrees_with_the_least_worst,
     greatest_moment_is_of_the_last_row, row_begins_the_departures,

@@ -2,7 +2,7 @@
 ghost use Rattle.std.specs.Prelude.{◌≡◌, ◌≢◌, ◌+◌, ◌*◌, ◌^◌, ◌<◌, ◌≤◌, All, IfOk, IfSome, MatchOption, length};
 ghost use Rattle.plan_model.specs.Network.{IsValid};
 ghost use Rattle.departure_table.specs.Departures.{SafeFrom, SolvesArrivals, IsNoneSafeFrom};
-ghost use Rattle.departure_table.specs.Gates.{IsGate, HasGates, extended_by as with_gates};
+ghost use Rattle.plan_model.specs.Gates.{IsGate, HasGates, extended_by as with_gates};
 ghost use Rattle.departure_table.specs.Reach.{IsReach, IsReachRow, IsFoundAtGate, places_of};
 
 use crate::{extended_by, greatest, row_from, says_of_source};

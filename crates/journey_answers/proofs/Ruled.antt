@@ -2,7 +2,7 @@
 use Rattle.journey_answers.proofs.Common.{◌≡◌, ℕ, List, [], ◌∷◌, subst, Query, NetworkModel, DepartureRow, Problem, IsRuled, AreByRules, added_query}
 use Rattle.value_laws.specs.declared.MeanSpan.{MeanSpan}
 use Rattle.meat_scan.specs.ScanResult.{ScanResult}
-use Rattle.departure_table.specs.Gates.{extended_by}
+use Rattle.plan_model.specs.Gates.{extended_by}
 use Rattle.departure_table.specs.Looked.{row_found, AreLooked}
 
 pub by_rules : (p : Problem) (q : Query) (last : ℕ) (rows : List DepartureRow) (n : NetworkModel) (asked : Query) (found : ScanResult MeanSpan)

@@ -9,7 +9,7 @@ use Rattle.value_laws.specs.Means.{mean_scoring}
 use Rattle.meat_scan.specs.Rules.{FollowsRules}
 use Rattle.meat_scan.specs.ScanResult.{ScanResult}
 use Rattle.departure_table.specs.declared.DepartureRow.{DepartureRow}
-use Rattle.departure_table.specs.Gates.{extended_by}
+use Rattle.plan_model.specs.Gates.{extended_by}
 use Rattle.departure_table.specs.Looked.{row_found, AreLooked}
 use Rattle.journey_model.specs.declared.problem.Problem.{Problem}
 

@@ -7,7 +7,7 @@ ghost use Rattle.meat_scan.specs.Solves.{Solves};
 ghost use Rattle.value_laws.specs.Means.{mean_scoring};
 ghost use Rattle.command_line.specs.Values.{last_until};
 ghost use Rattle.journey_model.specs.Wants.{OrNoMemory};
-ghost use Rattle.departure_table.specs.Gates.{extended_by as with_gates};
+ghost use Rattle.plan_model.specs.Gates.{extended_by as with_gates};
 ghost use Rattle.journey_answers.specs.ByRules.{IsRuled, AreByRules, added_query};
 ghost use Rattle.journey_answers.specs.Departures.{query_until, SafeOf, AreDepartures, HasSafeFor, IsUntil, AnswersDepartures, AnswersLatest, FailsDepartures, FailsLatest};
 ghost use Rattle.journey_report.specs.Findings.{findings_of};

@@ -1,7 +1,7 @@
 -- The names that most proofs of this crate cite, passed on from one place. Declares nothing.
 pub use Rattle.std.proofs.Common.{All, AllPairs, Bool, Contains, Err, Global, IfNone, IfSome, IsPermutation, IsSorted, IsUtf8, List, None, Ok, Option, Ordering, Result, Some, String, [], add-mul, ap}
 pub use Rattle.std.proofs.Common.{append-nil, append_assoc, arith, cond, count_by, drop, eqb, ext_get_or, false, get_or, get_or-drop, get_or-take, if◌then◌else◌, inl, inr, is_lt, is_some, length}
-pub use Rattle.std.proofs.Common.{length-append, length-drop, length-take, length-take-le, map, mul-add, mul-le-mul_right, mul_assoc, mul_comm, nat_cmp, nat_lt, option_and_then, refl, rules}
+pub use Rattle.std.proofs.Common.{length-append, length-drop, length-take, length-take-le, map, mul-add, mul-le-mul_right, mul_assoc, mul_comm, nat_cmp, nat_lt, option_and_then, refl, replicate, rules}
 pub use Rattle.std.proofs.Common.{slice_get, slice_index_or, string_bytes, subst, suc, sum_by, sym, take, take-append-drop, take_all, true, zero, ℕ, ⊎_elim, ◌&&◌, ◌*◌, ◌++◌, ◌+◌, ◌-◌, ◌/◌, ◌<◌, ◌==◌}
 pub use Rattle.std.proofs.Common.{◌^◌, ◌||◌, ◌∙◌, ◌∷◌, ◌≡◌, ◌≢◌, ◌≤◌, ◌⊎◌}
 pub use Rattle.std.proofs.lemmas.Bool.{cases_eq, cases_lt, cases_order, false≢true}
@@ -27,7 +27,8 @@ pub use Rattle.plan_model.specs.Search.{Rises, StandsBefore, connection_at}
 pub use Rattle.plan_model.specs.Strategy.{AreSafe, IsBoardable, IsBoardableAtStart, IsInTime, IsLeast, IsLeastWorst, IsLeg, IsSafe, IsSafeFromStart, Reaches}
 pub use Rattle.plan_model.specs.Tree.{Done, Kid, Kids, Nil, Ride, Stuck, Tree, height, height_of, worst, worst_of}
 pub use Rattle.plan_model.specs.Unfold.{arrival_of, end_of, kids_after, outcomes_of, ride_of, ride_or_stuck, unfold_after, unfold_from}
-pub use Rattle.plan_model.specs.View.{IsExtension, IsSeen, IsView, SafeAlike, all_later_by, deadline_later_by, extended, first_way, later_by, links_from_added}
+pub use Rattle.plan_model.specs.Gates.{HasGates, IsGate, extended_by, links_with_gates, places_with, source_at, way_from, way_if_to, ways_from_gates}
+pub use Rattle.plan_model.specs.View.{IsSeen, IsView, SafeAlike, all_later_by, deadline_later_by, later_by}
 pub use Rattle.plan_model.specs.Ways.{earlier_by, limit_of, own_way, way_in, way_of, ways_into}
 pub use Rattle.plan_model.specs.declared.departure.Departure.{Departure}
 pub use Rattle.plan_model.specs.declared.model.Connection.{Connection}
@@ -35,4 +36,5 @@ pub use Rattle.plan_model.specs.declared.model.ConnectionId.{ConnectionId}
 pub use Rattle.plan_model.specs.declared.model.Leg.{Leg}
 pub use Rattle.plan_model.specs.declared.model.Moment.{Moment}
 pub use Rattle.plan_model.specs.declared.model.Outcome.{Outcome}
+pub use Rattle.plan_model.specs.declared.model.PlaceId.{PlaceId}
 pub use Rattle.plan_model.specs.declared.model.Way.{Way}

@@ -1,8 +1,9 @@
 -- What is safe in a network is safe in a view of it, and the other way round.
 use Rattle.plan_model.proofs.Common.{◌≡◌, ℕ, ◌+◌, ◌<◌, ◌≤◌, arith, Option, Some, None, List, [], ◌∷◌, length, refl, sym, ap, ◌∙◌, Outcome, NetworkModel, IsValid, count, connection, from_of, to_of}
 use Rattle.plan_model.proofs.Common.{dep_of, arr_of, row_of, outcomes, way_of, Tree, Done, Ride, Stuck, Kids, Nil, Kid, IsLeg, IsBoardable, IsBoardableAtStart, IsInTime, IsSafe, AreSafe}
-use Rattle.plan_model.proofs.Common.{IsSafeFromStart, later_by, all_later_by, deadline_later_by, IsSeen, IsView, nat_tests, common_steps}
+use Rattle.plan_model.proofs.Common.{IsSafeFromStart, later_by, all_later_by, deadline_later_by, IsSeen, IsView, SafeAlike, subst, nat_tests, common_steps}
 use Rattle.plan_model.proofs.Bounds.{forward}
+use Rattle.plan_model.proofs.Later.{later_by-same}
 
 in_time_there : (shift : ℕ) (by : Option ℕ) (x : ℕ) → IsInTime by x → IsInTime (deadline_later_by shift by) (x + shift)
 in_time_there shift None x h = tt
@@ -138,3 +139,19 @@ module _ (n m : NetworkModel) (shift first : ℕ) (view : IsView n m shift first
         let board : IsBoardableAtStart n source x i = ((seen i leg.enter).from ∙ h.2.0, omega (arith, h.2.1, departs i j leg open_leg)) in
         (Ride i j kids.0, ap (Ride i j) kids.1, (h.0, leg_back i j leg open_leg, board, kids.2))
     start_back (Stuck q y) source x late h = absurd h
+
+pub alike : (n m : NetworkModel) (shift first : ℕ) → IsView n m shift first → IsValid m → SafeAlike n m shift first
+alike n m shift first view valid = record {
+  there = λ target by tree p x inside h. safe_there n m shift first view valid target by tree p x inside h;
+  back = λ target by tree p x inside late h.
+      let from = safe_back n m shift first view valid target by (later_by shift tree) p x inside late h in
+      let same = later_by-same shift from.0 tree from.1 in
+      subst (λ (t : Tree). IsSafe n target by t p x) same from.2;
+  each = λ target by u p x inside late h. let from = safe_back n m shift first view valid target by u p x inside late h in (from.0, from.1);
+  start_there = λ target by tree source x h. start_there n m shift first view valid target by tree source x h;
+  start_back = λ target by tree source x late h.
+      let from = start_back n m shift first view valid target by (later_by shift tree) source x late h in
+      let same = later_by-same shift from.0 tree from.1 in
+      subst (λ (t : Tree). IsSafeFromStart n target by t source x) same from.2;
+  each_start = λ target by u source x late h. let from = start_back n m shift first view valid target by u source x late h in (from.0, from.1);
+}

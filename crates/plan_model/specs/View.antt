@@ -1,11 +1,9 @@
 -- One network as it is seen in another, where all moments are less by a shift.
-use Rattle.std.specs.Prelude.{◌≡◌, ◌≢◌, ℕ, ◌+◌, ◌<◌, ◌≤◌, ◌↔◌, ◌==◌, List, [], ◌∷◌, ◌++◌, length, map, if◌then◌else◌, IsTrue, Option, Some}
-use Rattle.std.specs.List.{range_with_len}
+use Rattle.std.specs.Prelude.{◌≡◌, ℕ, ◌+◌, ◌<◌, ◌≤◌, ◌↔◌, length, IsTrue, Option}
 use Rattle.std.specs.Option.{option_map}
 use Rattle.plan_model.specs.declared.model.Connection.{Connection}
-use Rattle.plan_model.specs.declared.model.Way.{Way}
 use Rattle.plan_model.specs.NetworkModel.{NetworkModel}
-use Rattle.plan_model.specs.Network.{count, connection, links_into}
+use Rattle.plan_model.specs.Network.{count, connection}
 use Rattle.plan_model.specs.Ways.{way_of}
 use Rattle.plan_model.specs.Tree.{Tree, Done, Ride, Stuck, Kids, Nil, Kid}
 use Rattle.plan_model.specs.Strategy.{IsSafe, IsSafeFromStart}
@@ -46,32 +44,6 @@ pub record IsView (view network : NetworkModel) (shift first : ℕ) : Type 0 whe
   pub classes : view.classes ≡ network.classes
   pub ways : (from to : ℕ) → from < length network.change → to < length network.change → way_of view from to ≡ way_of network from to
 
--- the longer network is the network with a place more, the last one, from which one way leads: to the source, in one second
-pub record IsExtension (longer network : NetworkModel) (source : ℕ) : Type 0 where
-  pub view : IsView longer network 0 0
-  pub places : length longer.change ≡ length network.change + 1
-  pub source_there : source < length network.change
-  pub link : way_of longer (length network.change) source ≡ Some 1
-  pub only : (to seconds : ℕ) → to < length network.change → way_of longer (length network.change) to ≡ Some seconds → to ≡ source
-
--- one second from the place that is added to the network
-abbrev pub first_way : NetworkModel → Way
-first_way network = record { from = record { 0 = length network.change }; seconds = 1 }
-
--- the links of the network into a place, and into the source one from the place that is added
-abbrev pub links_from_added : NetworkModel → ℕ → ℕ → List Way
-links_from_added network source place = links_into network place ++ (if place == source then first_way network ∷ [] else [])
-
--- the network with a place more, the last one, from which a link of one second leads to the source; no link leads into it, and none of its own
--- change is ever of use
-abbrev pub extended : NetworkModel → ℕ → NetworkModel
-extended network source = record {
-  connections = network.connections;
-  change = network.change ++ 1 ∷ [];
-  classes = network.classes;
-  links = map (links_from_added network source) (range_with_len 0 (length network.change + 1));
-}
-
 -- in a view exactly those trees are safe which are safe in the network by the shift later, at each of its places from the first moment on
 -- and from each start from then on; and each tree that is safe there is a later one
 pub record SafeAlike (view network : NetworkModel) (shift first : ℕ) : Type 0 where
@@ -87,9 +59,3 @@ pub record SafeAlike (view network : NetworkModel) (shift first : ℕ) : Type 0 
       IsSafeFromStart network target (deadline_later_by shift deadline) (later_by shift tree) source (moment + shift) → IsSafeFromStart view target deadline tree source moment
   pub each_start : (target : ℕ) (deadline : Option ℕ) (tree : Tree) (source moment : ℕ) → first ≤ moment + shift →
       IsSafeFromStart network target (deadline_later_by shift deadline) tree source (moment + shift) → (sooner : Tree) × (later_by shift sooner ≡ tree)
-
--- from the place that was added exactly those trees are safe which are safe from the source a second later
-abbrev pub SafeFromAdded : NetworkModel → NetworkModel → ℕ → Type 0
-SafeFromAdded longer network source =
-    (target : ℕ) (deadline : Option ℕ) (tree : Tree) (moment : ℕ) → target < length network.change → source ≢ target →
-    IsSafe longer target deadline tree (length network.change) moment ↔ IsSafeFromStart network target deadline tree source (moment + 1)

@@ -1,10 +1,12 @@
 //! What a network and a view of it have in common.
-ghost use Rattle.std.specs.Prelude.{◌≡◌, ℕ, ◌+◌, ◌^◌, ◌<◌, ◌↔◌, length};
+ghost use Rattle.std.specs.Prelude.{◌≡◌, ℕ, ◌+◌, ◌<◌, ◌↔◌, List as Sources};
 ghost use Rattle.plan_model.specs.NetworkModel.{NetworkModel};
 ghost use Rattle.plan_model.specs.Network.{IsValid};
 ghost use Rattle.plan_model.specs.Tree.{Tree};
+ghost use Rattle.plan_model.specs.declared.model.PlaceId.{PlaceId as Source};
 ghost use Rattle.plan_model.specs.Late.{LateBelow, LateCovers};
-ghost use Rattle.plan_model.specs.View.{later_by, IsView, IsExtension, SafeAlike, SafeFromAdded, extended};
+ghost use Rattle.plan_model.specs.Gates.{IsGate, HasGates, SafeFromGate, FitGates, extended_by};
+ghost use Rattle.plan_model.specs.View.{later_by, IsView, SafeAlike};
 
 /// In a view exactly those trees are safe which are safe in the network by the shift later.
 pub fn safe_in_view()
@@ -12,20 +14,18 @@ pub fn safe_in_view()
         SafeAlike n m shift first }
 {}
 
-/// From the place that an extension adds exactly those trees are safe which are safe from the
-/// source a second later.
-pub fn safe_from_added()
-    ensures { (n m : NetworkModel) (source : ℕ) → IsExtension n m source → IsValid m →
-        SafeFromAdded n m source }
+/// From a gate exactly those trees are safe which are safe from its source a second later.
+pub fn safe_from_gate()
+    ensures { (n m : NetworkModel) (gate source : ℕ) → IsGate n m gate source → IsValid m →
+        SafeFromGate n m gate source }
 {}
 
-/// With a place more from which one link leads, to the source in one second, a network is an
-/// extension of itself.
+/// With a gate for each of some of its places a network is one, which shows it.
 pub fn extends()
-    ensures valid { (m : NetworkModel) (source : ℕ) → IsValid m → source < length m.change → length m.change + 1 < 2 ^ 32 →
-        IsValid (extended m source) }
-    ensures extension { (m : NetworkModel) (source : ℕ) → IsValid m → source < length m.change → length m.change + 1 < 2 ^ 32 →
-        IsExtension (extended m source) m source }
+    ensures valid { (m : NetworkModel) (sources : Sources Source) → FitGates m sources → IsValid m →
+        IsValid (extended_by m sources) }
+    ensures gates { (m : NetworkModel) (sources : Sources Source) → FitGates m sources → IsValid m →
+        HasGates (extended_by m sources) m sources }
 {}
 
 /// The chance of being late for a promise is that of the later tree for the later promise.

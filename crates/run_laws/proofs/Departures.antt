@@ -7,7 +7,7 @@ use Rattle.stop_profile.specs.declared.Row.{Row}
 use Rattle.stop_profile.specs.Inserts.{row_in_time}
 use Rattle.meat_scan.specs.ScanResult.{ScanResult}
 use Rattle.departure_table.specs.declared.DepartureRow.{DepartureRow}
-use Rattle.departure_table.specs.Gates.{extended_by}
+use Rattle.plan_model.specs.Gates.{extended_by}
 use Rattle.departure_table.specs.Looked.{row_of_choice, row_found, AreLooked}
 use Rattle.journey_answers.specs.ByRules.{IsRuled, AreByRules, added_query}
 use Rattle.run_laws.proofs.OneOrder.{one_order}

@@ -1,6 +1,6 @@
 use Rattle.departure_table.proofs.Common.{sym, ◌∙◌, subst, NetworkModel, HasGates, extended_by}
 use Rattle.plan_model.proofs.SameParts.{same_parts}
-use Rattle.departure_table.proofs.GateWays.{has_gates}
+use Rattle.plan_model.proofs.GateWays.{has_gates}
 use Rattle.departure_table.proofs.GateLists.{plain_valid, as_many_links, are_links}
 use Rattle.departure_table.proofs.gates.extended_by.Goals as goal
 

@@ -1,5 +1,5 @@
 -- A network with gates: places more, from each of which one is at a source a second later.
-use Rattle.std.specs.Prelude.{◌≡◌, ◌≢◌, ℕ, ◌+◌, ◌<◌, ◌≤◌, ◌↔◌, ◌==◌, List, [], ◌∷◌, ◌++◌, length, map, replicate, slice_index_or, if◌then◌else◌, Option, Some, None}
+use Rattle.std.specs.Prelude.{◌≡◌, ◌≢◌, ℕ, ◌+◌, ◌<◌, ◌≤◌, ◌↔◌, ◌==◌, List, [], ◌∷◌, ◌++◌, length, map, replicate, slice_index_or, if◌then◌else◌, Option, Some, None, All, ◌^◌}
 use Rattle.std.specs.List.{range_with_len}
 use Rattle.plan_model.specs.declared.model.PlaceId.{PlaceId}
 use Rattle.plan_model.specs.declared.model.Way.{Way}
@@ -9,6 +9,11 @@ use Rattle.plan_model.specs.Ways.{way_of}
 use Rattle.plan_model.specs.Tree.{Tree}
 use Rattle.plan_model.specs.Strategy.{IsSafe, IsSafeFromStart}
 use Rattle.plan_model.specs.View.{IsView}
+
+-- the sources are places of the network, and there is a number for each gate
+pub record FitGates (m : NetworkModel) (sources : List PlaceId) : Type 0 where
+  pub there : All (λ source. source.0 < length m.change) sources
+  pub few : length m.change + length sources < 2 ^ 32
 
 -- the k-th of the sources
 abbrev pub source_at : List PlaceId → ℕ → ℕ

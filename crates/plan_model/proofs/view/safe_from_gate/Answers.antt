@@ -1,5 +1,5 @@
-use Rattle.departure_table.proofs.GateTrees.{gate_there, gate_back}
-use Rattle.departure_table.proofs.gates.safe_from_gate.Goals as goal
+use Rattle.plan_model.proofs.GateTrees.{gate_there, gate_back}
+use Rattle.plan_model.proofs.view.safe_from_gate.Goals as goal
 
 pub returns : goal.returns
 returns c = λ n m gate source g valid target by tree x inside away.
