@@ -5,7 +5,7 @@ BINARIES = $(DESTDIR)$(PREFIX)/bin
 LIBRARY = $(DESTDIR)$(PREFIX)/lib/meat
 SHARE = $(DESTDIR)$(PREFIX)/share
 SCRIPTS = ask card compare delays look odds walks
-MODULES = $(wildcard scripts/*.py)
+MODULES = $(wildcard scripts/desk/*.py)
 COMPLETIONS = $(SHARE)/bash-completion/completions/meat $(SHARE)/zsh/site-functions/_meat $(SHARE)/fish/vendor_completions.d/meat.fish
 
 .PHONY: all install uninstall test
@@ -16,10 +16,10 @@ all:
 
 install:
 	@[ -x out/meat ] || { echo 'run `make all` first: it proves and builds the program' >&2; exit 1; }
-	install -d $(BINARIES) $(LIBRARY) $(SHARE)/man/man1 $(dir $(COMPLETIONS))
+	install -d $(BINARIES) $(LIBRARY)/desk $(SHARE)/man/man1 $(dir $(COMPLETIONS))
 	install -m 755 out/meat $(BINARIES)/meat
 	install -m 755 $(addprefix scripts/,$(SCRIPTS)) $(LIBRARY)
-	install -m 644 $(MODULES) $(LIBRARY)
+	install -m 644 $(MODULES) $(LIBRARY)/desk
 	for name in $(SCRIPTS); do ln -sf ../lib/meat/$$name $(BINARIES)/meat-$$name; done
 	scripts/manual man >$(SHARE)/man/man1/meat.1
 	scripts/manual bash >$(SHARE)/bash-completion/completions/meat

@@ -7,8 +7,8 @@ from random import Random
 
 from support import OLD_TOWN, USUAL, WALK, Case, Ran, call, made_feed, meat
 
-from journeys import alpha_within, hours_to
-from plans import Moment, Safe, read, read_plan
+from desk.journeys import alpha_within, hours_to
+from desk.plans import Moment, Safe, read, read_plan
 
 FEED, DELAYS = f"{OLD_TOWN}/feed", f"{OLD_TOWN}/delays.csv"
 

@@ -11,7 +11,7 @@ from typing import Union
 
 from support import OLD_TOWN, Case, call, content, meat
 
-from outcomes import outcomes_of, weights_of
+from desk.outcomes import outcomes_of, weights_of
 
 README_OBSERVED = "late\n" + "0\n" * 80 + "300\n" * 15 + "900\n" * 5
 

@@ -10,8 +10,8 @@ from typing import Optional
 
 from support import CONNECTIONS, EXAMPLES, OLD_TOWN, Case, call, content, made_cut, made_delays, made_feed, meat
 
-from arrivals import Delays, RideKinds, arrivals_of, mean_of
-from plans import NANOSECONDS, nanoseconds_of, read_plan
+from desk.arrivals import Delays, RideKinds, arrivals_of, mean_of
+from desk.plans import NANOSECONDS, nanoseconds_of, read_plan
 
 PLAN = content(f"{OLD_TOWN}/graph.csv")
 START = "2024-06-03T08:00:00"

@@ -7,7 +7,7 @@ from fractions import Fraction
 
 from support import CONNECTIONS, OLD_TOWN, Case, content
 
-from plans import Departures, Latest, Moment, Plan, Refused, Safe, Trip, moment_text, read, read_plan
+from desk.plans import Departures, Latest, Moment, Plan, Refused, Safe, Trip, moment_text, read, read_plan
 
 PLAN = content(f"{OLD_TOWN}/graph.csv")
 DEPARTURES = """departures,1,B,T,2024-06-03T08:00:00,2024-06-03T08:40:00,2024-06-03T10:42:00,2

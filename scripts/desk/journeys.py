@@ -5,8 +5,8 @@ from __future__ import annotations
 import datetime
 from typing import Optional
 
-from commands import ask
-from plans import Latest, Moment, Refused, Safe, moment_text, read, seconds_between
+from .commands import ask
+from .plans import Latest, Moment, Refused, Safe, moment_text, read, seconds_between
 
 # The greatest value of --horizon, in hours, and the least and the greatest of --alpha, in percent.
 HOURS = 72

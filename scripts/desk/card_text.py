@@ -4,7 +4,7 @@ from __future__ import annotations
 
 import textwrap
 
-from cards import Card, DepartureCard, Step, joined
+from .cards import Card, DepartureCard, Step, joined
 
 WIDTH = 80
 

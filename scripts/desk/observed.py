@@ -11,8 +11,8 @@ from dataclasses import dataclass
 from fractions import Fraction
 from typing import Optional
 
-from feeds import routes_of, trips_of
-from plans import Refused
+from .feeds import routes_of, trips_of
+from .plans import Refused
 
 MOST_DELAY = 86_400
 MOST_ROUTE_TYPE = 65_534
@@ -147,8 +147,8 @@ class Observations:
         """Finds the columns of the delay file that name groups, and the routes of the feed's trips."""
         columns = self.columns_read
         if columns.feed is not None:
-            kinds = {route.number: route.kind for route in routes_of(columns.feed).values()}
-            self.routes = {trip.number: (kinds.get(trip.route, ""), trip.route) for trip in trips_of(columns.feed).values()}
+            kinds = {route.id: route.kind for route in routes_of(columns.feed).values()}
+            self.routes = {trip.id: (kinds.get(trip.route, ""), trip.route) for trip in trips_of(columns.feed).values()}
         known = {"route_id": columns.feed is not None, "hour": columns.due is not None}
         self.columns = [name for name in GROUP_COLUMNS if name in header or known[name]]
 

@@ -10,9 +10,10 @@ import subprocess
 import sys
 from typing import Callable
 
-from plans import Refused
+from .plans import Refused
 
-HERE = os.path.dirname(os.path.realpath(__file__))
+# The folder of the commands.
+HERE = os.path.dirname(os.path.dirname(os.path.realpath(__file__)))
 
 
 def read_input() -> str:

@@ -6,9 +6,9 @@ from dataclasses import dataclass
 from fractions import Fraction
 from typing import Iterator, Union
 
-from arrivals import moment_by
-from names import Names
-from plans import Departures, Leg, Moment, Plan, by_first_arrival, seconds_between
+from .arrivals import moment_by
+from .names import Names
+from .plans import Departures, Leg, Moment, Plan, by_first_arrival, seconds_between
 
 Chances = dict[Moment, Fraction]
 # The numbers of 100 cases for which a card says by when one arrives.

@@ -4,7 +4,7 @@ from __future__ import annotations
 
 import html
 
-from cards import Card, Name, Step, Words, joined
+from .cards import Card, Name, Step, Words, joined
 
 STYLE = """
 :root { color-scheme: light dark; }

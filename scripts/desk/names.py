@@ -4,8 +4,8 @@ from __future__ import annotations
 
 from typing import Optional
 
-from feeds import ENTRANCE, NODE, Route, Stop, Trip, kept_stops, routes_of, stops_of, trip_of_run, trips_of
-from plans import Departures, Leg, Plan
+from .feeds import ENTRANCE, NODE, Route, Stop, Trip, kept_stops, routes_of, stops_of, trip_of_run, trips_of
+from .plans import Departures, Leg, Plan
 
 
 class Names:
@@ -20,8 +20,8 @@ class Names:
             return
         has_platforms = False
         for stop in stops_of(folder):
-            if stop.number in places or stop.place in places and stop.kind not in (ENTRANCE, NODE):
-                self.stops[stop.number] = stop
+            if stop.id in places or stop.place in places and stop.kind not in (ENTRANCE, NODE):
+                self.stops[stop.id] = stop
                 has_platforms = has_platforms or bool(stop.platform)
         trips = {trip_of_run(run) for run in runs}
         self.trips = trips_of(folder, trips)
@@ -56,7 +56,7 @@ class Names:
         if trip is None:
             return plain(run)
         route = self.routes.get(trip.route)
-        line = (route and (route.short_name or route.long_name)) or trip.short_name or trip.number
+        line = (route and (route.short_name or route.long_name)) or trip.short_name or trip.id
         vehicle = route.vehicle() if route else "trip"
         number = f" ({plain(trip.short_name)})" if trip.short_name and trip.short_name != line else ""
         sign = plain(trip.sign)

@@ -13,7 +13,7 @@ from collections import defaultdict
 from dataclasses import dataclass
 from typing import Iterable, Iterator, Optional
 
-from plans import Refused
+from .plans import Refused
 
 # The location types of stops.txt.
 STOP, STATION, ENTRANCE, NODE, BOARDING_AREA = "", "1", "2", "3", "4"
@@ -25,27 +25,42 @@ EXTENDED = {1: "train", 2: "coach", 3: "train", 4: "metro", 5: "metro", 6: "metr
             10: "ferry", 11: "flight", 12: "ferry", 13: "cable car", 14: "funicular", 15: "taxi"}
 
 
+class FileLines:
+    """The lines of a file, read anew by each iteration."""
+
+    def __init__(self, path: str) -> None:
+        self.path = path
+
+    def __iter__(self) -> Iterator[str]:
+        with open(self.path, encoding="utf-8-sig", errors="replace", newline="") as file:
+            yield from file
+
+
 class Table:
     """The rows of a table with the columns that are asked for, and the number of each row; the header is row 1."""
 
-    def __init__(self, path: str, required: Iterable[str], optional: Iterable[str] = ()) -> None:
-        self.path, self.name = path, os.path.basename(path)
+    def __init__(self, lines: Iterable[str], name: str, required: Iterable[str], optional: Iterable[str] = ()) -> None:
+        self.lines, self.name = lines, name
         self.required, self.optional = list(required), list(optional)
+
+    @classmethod
+    def open(cls, path: str, required: Iterable[str], optional: Iterable[str] = ()) -> Table:
+        """The table of a file."""
+        return cls(FileLines(path), os.path.basename(path), required, optional)
 
     def __iter__(self) -> Iterator[tuple[int, list[str]]]:
         csv.field_size_limit(sys.maxsize)
         try:
-            with open(self.path, encoding="utf-8-sig", errors="replace", newline="") as file:
-                rows = (row for row in csv.reader(file) if row)
-                header = [name.strip(" ") for name in next(rows, [])]
-                for name in self.required:
-                    if name not in header:
-                        raise Refused(f"{self.name} has no column {name}")
-                indexes = [header.index(name) if name in header else len(header) for name in (*self.required, *self.optional)]
-                most = max(indexes, default=0) + 1
-                for number, row in enumerate(rows, start=2):
-                    row = row[:len(header)] + [""] * (most - min(len(row), len(header)))
-                    yield number, [row[index].strip(" ") for index in indexes]
+            rows = (row for row in csv.reader(self.lines) if row)
+            header = [name.strip(" ") for name in next(rows, [])]
+            for name in self.required:
+                if name not in header:
+                    raise Refused(f"{self.name} has no column {name}")
+            indexes = [header.index(name) if name in header else len(header) for name in (*self.required, *self.optional)]
+            most = max(indexes, default=0) + 1
+            for number, row in enumerate(rows, start=2):
+                row = row[:len(header)] + [""] * (most - min(len(row), len(header)))
+                yield number, [row[index].strip(" ") for index in indexes]
         except (OSError, csv.Error) as fault:
             raise Refused(f"cannot read {self.name}: {reason_of(fault)}") from None
 
@@ -61,7 +76,7 @@ def table_of(folder: str, name: str, required: Iterable[str], optional: Iterable
     """A table of a feed. A file instead of the folder is refused as such."""
     if os.path.isfile(folder):
         raise Refused(f"{folder} is a file, not a folder: unpack the feed and give the folder that contains stops.txt")
-    return Table(os.path.join(folder, name), required, optional)
+    return Table.open(os.path.join(folder, name), required, optional)
 
 
 def has_table(folder: str, name: str) -> bool:
@@ -73,7 +88,7 @@ def has_table(folder: str, name: str) -> bool:
 @dataclass(frozen=True)
 class Stop:
     """A row of stops.txt. The place of a stop or platform is its parent station, if it has one."""
-    number: str
+    id: str
     name: str
     kind: str
     parent: str
@@ -82,20 +97,20 @@ class Stop:
 
     @property
     def place(self) -> str:
-        return self.parent if self.kind == STOP and self.parent else self.number
+        return self.parent if self.kind == STOP and self.parent else self.id
 
 
 def stops_of(folder: str) -> Iterator[Stop]:
     """The stops of a feed, one row at a time."""
     optional = ("stop_name", "location_type", "parent_station", "stop_code", "platform_code")
-    for _, (number, name, kind, parent, code, platform) in table_of(folder, "stops.txt", ["stop_id"], optional):
-        yield Stop(number, name, LOCATIONS.get(kind, kind), parent, code, platform)
+    for _, (stop, name, kind, parent, code, platform) in table_of(folder, "stops.txt", ["stop_id"], optional):
+        yield Stop(stop, name, LOCATIONS.get(kind, kind), parent, code, platform)
 
 
 @dataclass(frozen=True)
 class Trip:
     """A trip, with its route and its service."""
-    number: str
+    id: str
     route: str
     service: str
     sign: str
@@ -105,7 +120,7 @@ class Trip:
 @dataclass(frozen=True)
 class Route:
     """A route as travellers know it, and its type."""
-    number: str
+    id: str
     kind: str
     short_name: str
     long_name: str
@@ -140,3 +155,17 @@ def kept_stops(folder: str, wanted: set[str]) -> dict[str, list[str]]:
         if trip in wanted and stop and (arrival or departure) and sequence.isascii() and sequence.isdigit():
             rows[trip].append((int(sequence), stop))
     return {trip: [stop for _, stop in sorted(of)] for trip, of in rows.items()}
+
+
+def links(feed: str) -> list[tuple[str, str, str]]:
+    """The walks of transfers.txt: from one place to another, with their seconds."""
+    if not has_table(feed, "transfers.txt"):
+        return []
+    places = {stop.id: stop.place for stop in stops_of(feed)}
+    optional = ["from_route_id", "to_route_id", "from_trip_id", "to_trip_id"]
+    table = table_of(feed, "transfers.txt", ["from_stop_id", "to_stop_id", "transfer_type", "min_transfer_time"], optional)
+    found = []
+    for _, (first, last, kind, seconds, *of) in table:
+        if kind == "2" and seconds and not any(of) and places.get(first) != places.get(last):
+            found.append((places.get(first, first), places.get(last, last), seconds))
+    return found

@@ -5,8 +5,8 @@ from __future__ import annotations
 import unicodedata
 from typing import Iterable
 
-from feeds import BOARDING_AREA, ENTRANCE, NODE, STATION, Stop, stops_of
-from plans import Refused
+from .feeds import BOARDING_AREA, ENTRANCE, NODE, STATION, Stop, stops_of
+from .plans import Refused
 
 KINDS = {STATION: "station", ENTRANCE: "entrance", NODE: "node of a station", BOARDING_AREA: "boarding area"}
 MOST_SHOWN = 10
@@ -21,14 +21,14 @@ def folded(text: str) -> str:
 def stops_by_name(folder: str, word: str) -> list[Stop]:
     """The stops with a word in their name or id, ignoring case and accents; those that begin with it come first."""
     wanted = folded(word)
-    found = [stop for stop in stops_of(folder) if wanted in folded(stop.name) or wanted in folded(stop.number)]
-    return sorted(found, key=lambda stop: (not folded(stop.name).startswith(wanted), stop.name, stop.number))
+    found = [stop for stop in stops_of(folder) if wanted in folded(stop.name) or wanted in folded(stop.id)]
+    return sorted(found, key=lambda stop: (not folded(stop.name).startswith(wanted), stop.name, stop.id))
 
 
 def shown(stop: Stop) -> str:
     kind = KINDS.get(stop.kind, "platform" if stop.parent else "stop")
     code = f" {stop.platform}" if stop.platform else ""
-    return f"{stop.number} ({kind}{code}, {stop.name or 'no name'})"
+    return f"{stop.id} ({kind}{code}, {stop.name or 'no name'})"
 
 
 def one_place(stops: Iterable[Stop]) -> set[str]:
@@ -41,7 +41,7 @@ def stop_of(folder: str, word: str, option: str) -> Stop:
     Entrances and the like are found only by their ids."""
     stops = list(stops_of(folder))
     for stop in stops:
-        if stop.number == word:
+        if stop.id == word:
             return stop
     wanted = folded(word)
     boarded = [stop for stop in stops if stop.kind not in (ENTRANCE, NODE, BOARDING_AREA)]
@@ -49,7 +49,7 @@ def stop_of(folder: str, word: str, option: str) -> Stop:
                   [stop for stop in boarded if wanted in folded(stop.name)]):
         if len(one_place(found)) == 1:
             place = next(iter(one_place(found)))
-            return next((stop for stop in boarded if stop.number == place), found[0])
+            return next((stop for stop in boarded if stop.id == place), found[0])
         if found:
             heads = sorted({stop.place: stop for stop in reversed(found)}.values(), key=lambda stop: stop.name)
             more = f" and {len(heads) - MOST_SHOWN} more" if len(heads) > MOST_SHOWN else ""

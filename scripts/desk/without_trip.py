@@ -7,8 +7,8 @@ import os
 import shutil
 import sys
 
-from feeds import reason_of
-from plans import Refused
+from .feeds import reason_of
+from .plans import Refused
 
 # The tables of a feed that the planner reads, and the columns that name a trip.
 TABLES = {"stops.txt": "", "routes.txt": "", "trips.txt": "trip_id", "stop_times.txt": "trip_id", "frequencies.txt": "trip_id",

@@ -6,7 +6,7 @@ import datetime
 from collections import Counter, defaultdict
 from typing import Iterator
 
-from feeds import has_table, table_of
+from .feeds import has_table, table_of
 
 Date = datetime.date
 ONE_DAY = datetime.timedelta(days=1)

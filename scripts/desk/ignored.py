@@ -7,9 +7,9 @@ import os
 import sys
 from collections import Counter
 
-from days import Services
-from feeds import BOARDING_AREA, ENTRANCE, NODE, STOP, has_table, reason_of, stops_of, table_of
-from plans import Refused
+from .days import Services
+from .feeds import BOARDING_AREA, ENTRANCE, NODE, STOP, has_table, reason_of, stops_of, table_of
+from .plans import Refused
 
 TABLES = ("stops.txt", "routes.txt", "trips.txt", "stop_times.txt", "frequencies.txt", "calendar.txt", "calendar_dates.txt",
           "transfers.txt")
@@ -19,7 +19,7 @@ TRANSFERS = {"": "recommended transfers, type 0", "0": "recommended transfers, t
              "4": "in-seat transfers between trips, type 4", "5": "in-seat transfers that are not allowed, type 5"}
 
 
-def unheard(folder: str) -> list[tuple[str, int]]:
+def ignored(folder: str) -> list[tuple[str, int]]:
     """What is not taken into account, and how often it occurs."""
     counts: Counter[str] = Counter()
     for part in (of_stops, of_trips, of_stop_times, of_frequencies, of_transfers, of_quotes):
@@ -65,7 +65,7 @@ def of_transfers(folder: str) -> Counter[str]:
     counts: Counter[str] = Counter()
     if not has_table(folder, "transfers.txt"):
         return counts
-    boarded = {stop.number for stop in stops_of(folder) if stop.kind == STOP}
+    boarded = {stop.id for stop in stops_of(folder) if stop.kind == STOP}
     optional = ["min_transfer_time", "from_route_id", "to_route_id", "from_trip_id", "to_trip_id", "from_stop_id", "to_stop_id"]
     for _, (kind, seconds, *of, first, last) in table_of(folder, "transfers.txt", ["transfer_type"], optional):
         if kind != "2":

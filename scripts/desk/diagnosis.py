@@ -8,11 +8,11 @@ import os
 import tempfile
 from typing import Callable, Optional
 
-from cards import Clock
-from days import Services, trips_by_day, trips_by_service
-from feeds import BOARDING_AREA, ENTRANCE, NODE, Stop, has_table, stops_of, table_of
-from journeys import HOURS, Journey
-from plans import read_plan
+from .cards import Clock
+from .days import Services, trips_by_day, trips_by_service
+from .feeds import BOARDING_AREA, ENTRANCE, NODE, Stop, links, stops_of, table_of
+from .journeys import HOURS, Journey
+from .plans import read_plan
 
 NOT_BOARDED = {ENTRANCE: "an entrance", NODE: "a node of a station", BOARDING_AREA: "a boarding area"}
 NEVER_LATE = "class,delay,weight\n*,0,10000\n"
@@ -25,7 +25,7 @@ def why_not(journey: Journey, source: Stop, target: Stop) -> str:
         lambda: nothing_stops(journey, source, target), lambda: walk_first(journey, source), lambda: walk_last(journey, target),
         lambda: longer(journey), lambda: on_time(journey)]
     found = next((text for text in (cause() for cause in causes) if text is not None), None)
-    ends = f"from {source.name or source.number} to {target.name or target.number}"
+    ends = f"from {source.name or source.id} to {target.name or target.id}"
     return f"no safe strategy: {found or f'there is no way {ends} within {HOURS} hours'}"
 
 
@@ -34,7 +34,7 @@ def not_boarded(stop: Stop, word: str) -> Optional[str]:
     if stop.kind not in NOT_BOARDED:
         return None
     instead = f"; ask for a plan {word} {stop.parent}" if stop.parent else ""
-    return f"{stop.number} is {NOT_BOARDED[stop.kind]}, where nothing stops{instead}"
+    return f"{stop.id} is {NOT_BOARDED[stop.kind]}, where nothing stops{instead}"
 
 
 def no_service(journey: Journey) -> Optional[str]:
@@ -52,28 +52,14 @@ def no_service(journey: Journey) -> Optional[str]:
 
 def nothing_stops(journey: Journey, source: Stop, target: Stop) -> Optional[str]:
     """No stop time with a time is at the place of the source or of the target."""
-    places = {stop.number: stop.place for stop in stops_of(journey.feed)}
+    places = {stop.id: stop.place for stop in stops_of(journey.feed)}
     columns = ["stop_id", "arrival_time", "departure_time"]
     served = {places.get(stop, "") for _, (stop, arrival, departure) in table_of(journey.feed, "stop_times.txt", columns)
               if arrival or departure}
     for stop in (source, target):
         if stop.place not in served:
-            return f"no trip stops at {stop.name or stop.number}"
+            return f"no trip stops at {stop.name or stop.id}"
     return None
-
-
-def links(feed: str) -> list[tuple[str, str, str]]:
-    """The walks of transfers.txt: from one place to another, with their seconds."""
-    if not has_table(feed, "transfers.txt"):
-        return []
-    places = {stop.number: stop.place for stop in stops_of(feed)}
-    optional = ["from_route_id", "to_route_id", "from_trip_id", "to_trip_id"]
-    table = table_of(feed, "transfers.txt", ["from_stop_id", "to_stop_id", "transfer_type", "min_transfer_time"], optional)
-    found = []
-    for _, (first, last, kind, seconds, *of) in table:
-        if kind == "2" and seconds and not any(of) and places.get(first) != places.get(last):
-            found.append((places.get(first, first), places.get(last, last), seconds))
-    return found
 
 
 def with_ends(journey: Journey, source: str, target: str) -> Journey:

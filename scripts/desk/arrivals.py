@@ -13,8 +13,8 @@ from collections import defaultdict
 from fractions import Fraction
 from typing import NamedTuple, Optional
 
-from feeds import Table, routes_of, trip_of_run, trips_of
-from plans import Moment, Plan, Refused, seconds_between
+from .feeds import Table, routes_of, trip_of_run, trips_of
+from .plans import Moment, Plan, Refused, seconds_between
 
 WHOLE = 10_000
 
@@ -34,7 +34,7 @@ class Delays:
 
     def __init__(self, path: str) -> None:
         self.groups: dict[Group, Outcomes] = defaultdict(list)
-        table = Table(path, ["class", "delay", "weight"], ["route_id", "hour"])
+        table = Table.open(path, ["class", "delay", "weight"], ["route_id", "hour"])
         for number, (kind, delay, weight, route, hour) in table:
             try:
                 group = Group(kind if kind == "*" else str(int(kind)), route, str(int(hour)) if hour else "")
@@ -55,6 +55,13 @@ class Delays:
         return next((self.groups[group] for group in ranked if group in self.groups), self.groups[Group("*", "", "")])
 
 
+def kind_of(text: str, where: str) -> str:
+    """A route type as a delay file has it, without leading zeros."""
+    if not text.isascii() or not text.isdigit():
+        raise Refused(f"{where}: {text or 'an empty field'} is no route type")
+    return str(int(text))
+
+
 class RideKinds:
     """The route type and the route of each ride of a plan, from its feed or its cut file."""
 
@@ -66,15 +73,15 @@ class RideKinds:
         if feed is not None:
             trips = trips_of(feed, {trip_of_run(leg.run) for leg in plan.legs()})
             routes = routes_of(feed, {trip.route for trip in trips.values()})
-            self.routes = {trip.number: trip.route for trip in trips.values()}
-            self.kinds = {route.number: str(int(route.kind)) for route in routes.values()}
+            self.routes = {trip.id: trip.route for trip in trips.values()}
+            self.kinds = {route.id: kind_of(route.kind, f"route {route.id}") for route in routes.values()}
         elif cut is not None:
             wanted = {(leg.run, leg.exit_step) for leg in plan.legs()}
-            for number, (run, step, kind) in Table(cut, ["run", "step"], ["class"]):
+            for number, (run, step, kind) in Table.open(cut, ["run", "step"], ["class"]):
                 if not step.isascii() or not step.isdigit():
                     raise Refused(f"{os.path.basename(cut)} line {number}: bad step")
                 if (run, int(step)) in wanted:
-                    self.of_steps[run, int(step)] = kind if kind in ("", "*") else str(int(kind))
+                    self.of_steps[run, int(step)] = kind if kind in ("", "*") else kind_of(kind, f"{os.path.basename(cut)} line {number}")
 
     def of(self, run: str, step: int) -> tuple[str, str]:
         """The class and the route of the connection at a step of a run; the route is empty in a cut file."""
