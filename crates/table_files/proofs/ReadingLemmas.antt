@@ -29,8 +29,7 @@ module _ {T : Type 0} {folder : List ℕ} {before now : FilesState} {H : FileMap
   pub reads-value : {U : Type 0} {G : FileMap → U → Type 0} {E : FileMap → FeedFault → Type 0} {Other : FeedFault → Type 0} {x : T} {y : U}
       → ((m : FileMap) → H m x → G m y) → Reads folder before now H F Own (Ok x) → Reads folder before now G E Other (Ok y)
   reads-value to read = record {
-    value = IfSome_then before.files read.value to;
-    fault = IfSome_then before.files read.value (λ m _. tt);
+    found = IfSome_then before.files read.found to;
     own = tt;
     causes = read.causes;
   }
@@ -38,8 +37,7 @@ module _ {T : Type 0} {folder : List ℕ} {before now : FilesState} {H : FileMap
   pub reads-fault : {U : Type 0} {G : FileMap → U → Type 0} {E : FileMap → FeedFault → Type 0} {Other : FeedFault → Type 0} {f : FeedFault}
       → (Own f → Other f) → ((m : FileMap) → Own f → F m f → E m f) → Reads folder before now H F Own (Err f) → Reads folder before now G E Other (Err f)
   reads-fault own to read = record {
-    value = IfSome_then before.files read.fault (λ m _. tt);
-    fault = IfSome_then before.files read.fault (λ m first free. to m read.own (first free));
+    found = IfSome_then before.files read.found (λ m first free. to m read.own (first free));
     own = own read.own;
     causes = read.causes;
   }
@@ -48,8 +46,7 @@ module _ {T : Type 0} {folder : List ℕ} {before now : FilesState} {H : FileMap
   pub reads-refused : {U : Type 0} {G : FileMap → U → Type 0} {E : FileMap → FeedFault → Type 0} {Other : FeedFault → Type 0} {x : T} {f : FeedFault}
       → unread_table f ≡ None → Other f → ((m : FileMap) → H m x → E m f) → Reads folder before now H F Own (Ok x) → Reads folder before now G E Other (Err f)
   reads-refused content own to read = record {
-    value = IfSome_then before.files read.value (λ m _. tt);
-    fault = IfSome_then before.files read.value (λ m h free. to m h);
+    found = IfSome_then before.files read.found (λ m h free. to m h);
     own = own;
     causes = causes-silent (λ table is. is) (λ table is. absurd (let unread = ap unread_table is in cc)) read.causes;
   }
@@ -59,8 +56,7 @@ module _ {T : Type 0} {folder : List ℕ} {before now : FilesState} {H : FileMap
     pub reads-both : {y : U} → Reads folder before middle H F Own (Ok x) → Reads folder middle now G E Other (Ok y)
         → Reads folder before now (λ m (p : T × U). H m p.0 × G m p.1) E Other (Ok (x, y))
     reads-both a b = record {
-      value = both before.files middle.files a.causes.same a.value b.value (λ m h g. (h, g));
-      fault = IfSome_then before.files a.value (λ m _. tt);
+      found = both before.files middle.files a.causes.same a.found b.found (λ m h g. (h, g));
       own = tt;
       causes = causes-next (λ table is. is) a.causes b.causes;
     }
@@ -68,8 +64,7 @@ module _ {T : Type 0} {folder : List ℕ} {before now : FilesState} {H : FileMap
     pub reads-after : {f : FeedFault} → Reads folder before middle H F Own (Ok x) → Reads folder middle now G E Other (Err f)
         → Reads folder before now (λ m (p : T × U). H m p.0 × G m p.1) (λ m g. H m x × E m g) Other (Err f)
     reads-after a b = record {
-      value = IfSome_then before.files a.value (λ m _. tt);
-      fault = both before.files middle.files a.causes.same a.value b.fault (λ m h first free. (h, first free));
+      found = both before.files middle.files a.causes.same a.found b.found (λ m h first free. (h, first free));
       own = b.own;
       causes = causes-next (λ table is. is) a.causes b.causes;
     }

@@ -1,5 +1,5 @@
 -- What reading tables of a folder gives.
-use Rattle.std.specs.Prelude.{◌≡◌, ◌≢◌, List, ℕ, Option, None, Result, Err, IfOk, IfErr, IfSome}
+use Rattle.std.specs.Prelude.{◌≡◌, ◌≢◌, List, ℕ, Option, None, Result, Err, MatchResult, IfErr, IfSome}
 use Rattle.file_ports.specs.Ports.{FileMap, FilesState}
 use Rattle.csv_rows.specs.declared.feed_tables.Table.{Table}
 use Rattle.csv_rows.specs.declared.feed_tables.FeedFault.{FeedFault}
@@ -13,8 +13,7 @@ use Rattle.table_files.specs.Loading.{load_in, HasFeedCauses}
 -- one of the reader's own, and comes from its causes.
 pub record Reads {T : Type 0} (folder : List ℕ) (before now : FilesState) (Holds : FileMap → T → Type 0) (IsFirst : FileMap → FeedFault → Type 0) (IsOwn : FeedFault → Type 0)
     (result : Result T FeedFault) : Type 0 where
-  pub value : IfSome before.files (λ m. IfOk result (Holds m))
-  pub fault : IfSome before.files (λ m. IfErr result (λ f. f ≢ NoMemory → IsFirst m f))
+  pub found : IfSome before.files (λ m. MatchResult result (Holds m) (λ f. f ≢ NoMemory → IsFirst m f))
   pub own : IfErr result IsOwn
   pub causes : HasFeedCauses folder before now result
 

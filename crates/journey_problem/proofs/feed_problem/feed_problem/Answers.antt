@@ -7,12 +7,12 @@ use Rattle.journey_problem.proofs.feed_problem.feed_problem.Goals as goal
 
 pub returns-in-Ok-clause-problem : goal.returns-in-Ok-clause-problem
 returns-in-Ok-clause-problem g c =
-    if_some_both (g.F.Files.state c.args.files.now).files (g.F.Files.state c.read_folder.new.files).files c.in-Ok.ensures.reads.causes.same c.in-Ok.ensures.reads.value c.problem_in.ensures.problem
+    if_some_both (g.F.Files.state c.args.files.now).files (g.F.Files.state c.read_folder.new.files).files c.in-Ok.ensures.reads.causes.same c.in-Ok.ensures.reads.found c.problem_in.ensures.problem
     (λ m is all. IfOk-weaker c.problem_in.result _ _ (λ p one. one c.args.folder.now is) all)
 
 pub returns-in-Ok-clause-fault : goal.returns-in-Ok-clause-fault
 returns-in-Ok-clause-fault g c =
-    if_some_both (g.F.Files.state c.args.files.now).files (g.F.Files.state c.read_folder.new.files).files c.in-Ok.ensures.reads.causes.same c.in-Ok.ensures.reads.value c.problem_in.ensures.fault
+    if_some_both (g.F.Files.state c.args.files.now).files (g.F.Files.state c.read_folder.new.files).files c.in-Ok.ensures.reads.causes.same c.in-Ok.ensures.reads.found c.problem_in.ensures.fault
     (λ m is later. IfErr-weaker c.problem_in.result _ _ (λ fault why other. inr (gtfs_folder_of c.in-Ok.tables, is, why other)) later)
 
 pub returns-in-Ok-clause-causes : goal.returns-in-Ok-clause-causes

@@ -7,8 +7,7 @@ use Rattle.table_files.proofs.loading.read_file.Goals as goal
 
 pub returns-in-Err-Read-clause-reads : goal.returns-in-Err-Read-clause-reads
 returns-in-Err-Read-clause-reads g c = record {
-  value = grind arith;
-  fault = grind arith;
+  found = grind arith;
   own = refl;
   causes = causes-of
       (λ (table : Table) (is : Read c.args.table ≡ Read table).
