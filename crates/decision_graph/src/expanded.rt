@@ -1,8 +1,8 @@
 //! The decision graph ride by ride.
-ghost use Rattle.std.specs.Prelude.{◌≡◌, ◌<◌, IfOk, IfSome, MatchOption};
+ghost use Rattle.std.specs.Prelude.{◌<◌, IfOk, IfSome, MatchOption};
+ghost use Rattle.plan_model.specs.Bounds.{end_of_time};
 ghost use Rattle.plan_model.specs.Order.{IsScanOrder};
 ghost use Rattle.decision_graph.specs.Expanded.{IsNoneSafe, IsExpanded, IsExpandedBy, HasSteadyChoice};
-ghost use Rattle.interval_fixed.specs.Interval.{end_of_nanos};
 
 use crate::found::Found;
 use interval_fixed::Span;
@@ -13,17 +13,16 @@ use plan_model::{BackwardOrder, List, Network, NoMemory, Query};
 use std::alloc::Global;
 use value_laws::{MeanSpan, Score};
 
-/// The decision graph of a query, with this value if source and target are one place.
-pub(crate) fn expand_with<V: Score, B: BackwardOrder>(
+/// The decision graph of a query ride by ride, with a value that covers its own strategy and is below every safe one.
+pub(crate) fn expand_by<V: Score, B: BackwardOrder>(
     alloc: Global,
     order: &mut B,
     network: &Network,
     query: &Query,
-    arrived: V,
 ) -> Result<Option<Found<ExpandedGraph, V>>, NoMemory>
     requires fits { B.fits order.old network.now }
     requires whole { IsScanOrder network.now (B.rest order.old network.now) }
-    requires arrived { arrived ≡ V.scoring.arrived query.now.start.0 }
+    requires start { query.now.start.0 < end_of_time }
     ensures plan { IfOk result (λ found. MatchOption found (IsNoneSafe network.now query.now)
         (λ p. IsExpandedBy V.scoring network.now query.now p.graph p.value)) }
     ensures steady { IfOk result (λ found. IfSome found (λ p. HasSteadyChoice network.now query.now p.graph)) }
@@ -38,7 +37,7 @@ pub(crate) fn expand_with<V: Score, B: BackwardOrder>(
                 start: None,
                 rides: List::new(alloc),
             },
-            value: arrived,
+            value: V::arrive(query.start),
         }));
     }
     let tables: ScanTables<V> = ScanTables::reserve_until(alloc, network, query.deadline)?;
@@ -65,13 +64,13 @@ pub fn expand<B: BackwardOrder>(
 ) -> Result<Option<Found<ExpandedGraph, Span>>, NoMemory>
     requires fits { B.fits order.old network.now }
     requires whole { IsScanOrder network.now (B.rest order.old network.now) }
-    requires start { query.now.start.0 < end_of_nanos }
+    requires start { query.now.start.0 < end_of_time }
     ensures plan { IfOk result (λ found. MatchOption found (IsNoneSafe network.now query.now)
         (λ p. IsExpanded network.now query.now p.graph p.value)) }
     ensures fits { B.fits order.new network.now }
 {
-    let at_once = MeanSpan(Span::exact(query.start));
-    match expand_with(alloc, order, network, query, at_once)? {
+    let found: Option<Found<ExpandedGraph, MeanSpan>> = expand_by(alloc, order, network, query)?;
+    match found {
         None => Ok(None),
         Some(scored) => {
             let bounds = scored.value.0;

@@ -1,12 +1,11 @@
 //! The decision graph with one table for each place.
-ghost use Rattle.std.specs.Prelude.{◌≡◌, ◌<◌, IfOk, MatchOption};
+ghost use Rattle.std.specs.Prelude.{◌<◌, IfOk, MatchOption};
 ghost use Rattle.plan_model.specs.Bounds.{end_of_time};
 ghost use Rattle.plan_model.specs.Order.{IsScanOrder};
 ghost use Rattle.decision_graph.specs.Expanded.{IsNoneSafe};
 ghost use Rattle.decision_graph.specs.Planned.{IsPlanned, IsPlannedBy};
-ghost use Rattle.interval_fixed.specs.Interval.{end_of_nanos};
 
-use crate::expanded::expand_with;
+use crate::expanded::expand_by;
 use crate::found::Found;
 use graph_compact::compact;
 use graph_prune::{prune, steady_is_coherent};
@@ -15,33 +14,6 @@ use plan_graph::PlanGraph;
 use plan_model::{BackwardOrder, Network, NoMemory, Query};
 use std::alloc::Global;
 use value_laws::{MeanSpan, Score};
-
-/// The decision graph of a query, with this value if source and target are one place.
-fn plan_with<V: Score, B: BackwardOrder>(
-    alloc: Global,
-    order: &mut B,
-    network: &Network,
-    query: &Query,
-    arrived: V,
-) -> Result<Option<Found<PlanGraph, V>>, NoMemory>
-    requires fits { B.fits order.old network.now }
-    requires whole { IsScanOrder network.now (B.rest order.old network.now) }
-    requires arrived { arrived ≡ V.scoring.arrived query.now.start.0 }
-    ensures plan { IfOk result (λ found. MatchOption found (IsNoneSafe network.now query.now)
-        (λ p. IsPlannedBy V.scoring network.now query.now p.graph p.value)) }
-    ensures fits { B.fits order.new network.now }
-{
-    let Some(expanded) = expand_with(alloc, order, network, query, arrived)? else {
-        return Ok(None);
-    };
-    let pruned = prune(alloc, &expanded.graph, network, query)?;
-    steady_is_coherent();
-    let graph = compact(alloc, &pruned, network, query)?;
-    Ok(Some(Found {
-        graph,
-        value: expanded.value,
-    }))
-}
 
 /// The decision graph of a query with one table for each place, by a scan in this order of the
 /// network's connections, with a value that covers its own strategy and is below every safe one.
@@ -59,7 +31,16 @@ pub fn plan_by<V: Score, B: BackwardOrder>(
         (λ p. IsPlannedBy V.scoring network.now query.now p.graph p.value)) }
     ensures fits { B.fits order.new network.now }
 {
-    plan_with(alloc, order, network, query, V::arrive(query.start))
+    let Some(expanded) = expand_by(alloc, order, network, query)? else {
+        return Ok(None);
+    };
+    let pruned = prune(alloc, &expanded.graph, network, query)?;
+    steady_is_coherent();
+    let graph = compact(alloc, &pruned, network, query)?;
+    Ok(Some(Found {
+        graph,
+        value: expanded.value,
+    }))
 }
 
 /// The decision graph of a query with one table for each place, by a scan in this order of the
@@ -75,13 +56,13 @@ pub fn plan<B: BackwardOrder>(
 ) -> Result<Option<Found<PlanGraph, Span>>, NoMemory>
     requires fits { B.fits order.old network.now }
     requires whole { IsScanOrder network.now (B.rest order.old network.now) }
-    requires start { query.now.start.0 < end_of_nanos }
+    requires start { query.now.start.0 < end_of_time }
     ensures plan { IfOk result (λ found. MatchOption found (IsNoneSafe network.now query.now)
         (λ p. IsPlanned network.now query.now p.graph p.value)) }
     ensures fits { B.fits order.new network.now }
 {
-    let at_once = MeanSpan(Span::exact(query.start));
-    match plan_with(alloc, order, network, query, at_once)? {
+    let found: Option<Found<PlanGraph, MeanSpan>> = plan_by(alloc, order, network, query)?;
+    match found {
         None => Ok(None),
         Some(scored) => {
             let bounds = scored.value.0;

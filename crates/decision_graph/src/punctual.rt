@@ -59,11 +59,7 @@ fn least_chance_of(
         (λ p. IsLeastChance network.now query.now p.graph p.value)) }
 {
     let mut order = MergedRuns::new(alloc, network)?;
-    let found: Option<Found<PlanGraph, LateChance>> = plan_by(alloc, &mut order, network, query)?;
-    match found {
-        None => Ok(None),
-        Some(found) => Ok(Some(found)),
-    }
+    plan_by(alloc, &mut order, network, query)
 }
 
 /// The same in the network as it is seen for a promise.
