@@ -10,11 +10,12 @@ import datetime
 import heapq
 import os
 from collections import defaultdict
+from dataclasses import dataclass
 from fractions import Fraction
 from typing import NamedTuple, Optional
 
 from .feeds import Table, routes_of, trip_of_run, trips_of
-from .plans import Moment, Plan, Refused, seconds_between
+from .plans import Leg, Moment, Plan, Refused, seconds_between
 
 WHOLE = 10_000
 
@@ -46,6 +47,10 @@ class Delays:
                 raise Refused(f"{table.name}: the weights of class {group.kind} do not add up to {WHOLE}")
         if Group("*", "", "") not in self.groups:
             raise Refused(f"{table.name}: class * is missing")
+
+    def greatest(self) -> int:
+        """The greatest delay, in seconds."""
+        return max(delay for outcomes in self.groups.values() for delay, _ in outcomes)
 
     def of(self, kind: str, route: str, due: Moment) -> Outcomes:
         """The delays of a ride with a route type and a route, due at a moment: those of the first group that exists."""
@@ -95,19 +100,43 @@ class RideKinds:
         return self.of_steps[run, step] or "*", ""
 
 
-def arrivals_of(plan: Plan, delays: Delays, kinds: RideKinds) -> dict[Moment, Fraction]:
-    """The chance of each arrival at the target, if each ride is late by one of its delays, independently of the others.
+@dataclass
+class Course:
+    """What may come of a plan: the chance of each arrival at the target, that each ride is taken, and of being at a place at a
+    moment for which the plan has no row. A plan for these files has no such place."""
+    arrivals: dict[Moment, Fraction]
+    rides: dict[Leg, Fraction]
+    stranded: dict[tuple[Moment, str], Fraction]
+
+    def mean(self, start: Moment) -> Fraction:
+        """The mean of the arrivals, in seconds after a moment."""
+        return sum((chance * seconds_between(start, moment) for moment, chance in self.arrivals.items()), Fraction(0))
+
+    def reached(self, share: Fraction) -> tuple[Moment, Fraction]:
+        """The first arrival by which at least this share of all cases has arrived, and the share that has."""
+        reached = Fraction(0)
+        for moment, chance in self.arrivals.items():
+            reached += chance
+            if reached >= share:
+                return moment, reached
+        return max(self.arrivals), reached
+
+
+def course_of(plan: Plan, delays: Delays, kinds: RideKinds) -> Course:
+    """What may come of a plan, if each ride is late by one of its delays, independently of the others.
 
     A traveller who is at a place at a moment takes the first row that they are in time for. Departures come after the arrivals
     that lead to them, so arrivals are processed by rising moment."""
+    course = Course({}, defaultdict(Fraction), {})
     if plan.first is None:
-        return {plan.start: Fraction(1)}
+        return Course({plan.start: Fraction(1)}, {}, {})
     chances: dict[tuple[Moment, str], Fraction] = defaultdict(Fraction)
-    found: dict[Moment, Fraction] = defaultdict(Fraction)
+    arrivals: dict[Moment, Fraction] = defaultdict(Fraction)
     waiting: list[tuple[Moment, str]] = []
     taken = [(plan.first, Fraction(1))]
     while taken or waiting:
         for leg, chance in taken:
+            course.rides[leg] += chance
             for delay, share in delays.of(*kinds.of(leg.run, leg.exit_step), leg.arrival):
                 state = leg.arrival + datetime.timedelta(seconds=delay), leg.exit
                 if state not in chances:
@@ -119,25 +148,18 @@ def arrivals_of(plan: Plan, delays: Delays, kinds: RideKinds) -> dict[Moment, Fr
             chance = chances.pop((moment, place))
             leg_there = plan.leg_after(place, moment)
             if place == plan.target:
-                found[moment] += chance
+                arrivals[moment] += chance
             elif leg_there is None:
-                raise Refused(f"the plan has no row at {place} for {moment.isoformat()}: "
-                              "it belongs to another feed or delay file")
+                course.stranded[moment, place] = chance
             else:
                 taken = [(leg_there, chance)]
-    return dict(sorted(found.items()))
+    course.arrivals = dict(sorted(arrivals.items()))
+    return course
 
 
-def mean_of(chances: dict[Moment, Fraction], start: Moment) -> Fraction:
-    """The mean of arrivals, in seconds after a moment."""
-    return sum((chance * seconds_between(start, moment) for moment, chance in chances.items()), Fraction(0))
-
-
-def moment_by(chances: dict[Moment, Fraction], share: Fraction) -> Moment:
-    """The first arrival by which this share of all cases has arrived."""
-    reached = Fraction(0)
-    for moment, chance in chances.items():
-        reached += chance
-        if reached >= share:
-            return moment
-    return max(chances)
+def sure_course(plan: Plan, delays: Delays, kinds: RideKinds) -> Course:
+    """What may come of a plan that has a row for each arrival; any other plan is refused."""
+    course = course_of(plan, delays, kinds)
+    for moment, place in course.stranded:
+        raise Refused(f"the plan has no row at {place} for {moment.isoformat()}: it belongs to another feed or delay file")
+    return course

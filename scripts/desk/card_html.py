@@ -4,7 +4,7 @@ from __future__ import annotations
 
 import html
 
-from .cards import Card, Name, Step, Words, joined
+from .cards import Card, Name, Step, Words, joined, share
 
 STYLE = """
 :root { color-scheme: light dark; }
@@ -16,6 +16,7 @@ p { margin: .2rem 0; }
 table { width: 100%; border-collapse: collapse; }
 th, td { text-align: left; vertical-align: top; padding: .35rem .5rem .35rem 0; border-bottom: 1px solid #bbb; }
 th { font-size: .9rem; font-weight: 600; }
+tr.rare td { font-size: .8rem; opacity: .75; }
 td.time { white-space: nowrap; font-variant-numeric: tabular-nums; }
 footer { margin-top: 1.5rem; font-size: .95rem; }
 @media (prefers-color-scheme: dark) { body { color: #eee; background: #111; } th, td { border-color: #555; } }
@@ -35,13 +36,17 @@ def marked(words: Words) -> str:
 
 def row_of(step: Step, has_until: bool) -> str:
     until = f'<td class="time">{html.escape(step.until)}</td>' if has_until else ""
-    return (f'<tr>{until}<td>{marked(step.ride)}</td><td class="time">{html.escape(step.departure)}</td>'
-            f'<td>{marked(step.target)}</td><td class="time">{html.escape(step.arrival)}</td></tr>')
+    chance = f'<td class="time">{share(step.chance)}</td>' if step.chance is not None else ""
+    return (f'<tr{" class=rare" if step.is_rare() else ""}>{until}<td>{marked(step.ride)}</td>'
+            f'<td class="time">{html.escape(step.departure)}</td><td>{marked(step.target)}</td>'
+            f'<td class="time">{html.escape(step.arrival)}</td>{chance}</tr>')
 
 
 def table_of(card: Card, steps: list[Step]) -> list[str]:
     has_until = any(step.until for step in steps)
-    heads = card.columns if has_until else card.columns[1:]
+    heads = [*(card.columns if has_until else card.columns[1:])]
+    if any(step.chance is not None for step in steps):
+        heads.append("of 100 cases in")
     head = "".join(f'<th scope="col">{html.escape(text)}</th>' for text in heads)
     rows = [row_of(step, has_until) for step in steps]
     return ["<table>", f"<thead><tr>{head}</tr></thead>", "<tbody>", *rows, "</tbody>", "</table>"]
@@ -57,5 +62,5 @@ def as_page(card: Card) -> str:
         parts += ["<section>", f"<h2>{marked(part.heading)}</h2>", *table_of(card, part.steps), "</section>"]
     parts.append("</main>")
     if card.foot():
-        parts += ["<footer>", *(f"<p>{html.escape(line)}</p>" for line in card.foot()), "</footer>"]
+        parts += ["<footer>", *(f"<p>{html.escape(line)}</p>" for line in card.foot() if line != card.of_chances), "</footer>"]
     return "\n".join([*parts, "</body>", "</html>"]) + "\n"

@@ -4,9 +4,11 @@ from __future__ import annotations
 
 import textwrap
 
-from .cards import Card, DepartureCard, Step, joined
+from .cards import Card, DepartureCard, Step, joined, share
 
 WIDTH = 80
+# A space at which no line ends. No name has one.
+NO_BREAK = "\u00a0"
 
 
 def wrapped(text: str, first: str = "", later: str = "") -> list[str]:
@@ -18,7 +20,9 @@ def sentence(card: Card, step: Step) -> str:
     if isinstance(card, DepartureCard):
         return f"{step.departure} {joined(step.ride)}, there at {step.arrival} on average"
     until = f"if you are there by {step.until}: " if step.until else ""
-    return until + joined(step.words())
+    chance = f"({share(step.chance)} in 100)" if step.chance is not None and step.chance < 1 else ""
+    # What is in brackets stays in one line.
+    return until + joined(step.words()) + (f" {chance.replace(' ', NO_BREAK)}" if chance else "")
 
 
 def as_text(card: Card) -> str:
@@ -33,4 +37,4 @@ def as_text(card: Card) -> str:
         lines.append("")
         for line in card.foot():
             lines += wrapped(line)
-    return "\n".join(lines) + "\n"
+    return "\n".join(lines).replace(NO_BREAK, " ") + "\n"

@@ -2,17 +2,20 @@
 
 from __future__ import annotations
 
+import datetime
+import os
 from dataclasses import dataclass
 from fractions import Fraction
-from typing import Iterator, Union
+from typing import Iterator, Optional, Union
 
-from .arrivals import moment_by
+from .arrivals import Course, Delays
 from .names import Names
 from .plans import Departures, Leg, Moment, Plan, by_first_arrival, seconds_between
 
-Chances = dict[Moment, Fraction]
-# The numbers of 100 cases for which a card says by when one arrives.
+# A card says by when one arrives in at least this many of 100 cases, with the share that it then is.
 SHARES = (50, 95, 100)
+# A row that is ridden in fewer of 100 cases than this is a rare one.
+RARE = Fraction(1, 100)
 
 
 class Clock:
@@ -20,6 +23,10 @@ class Clock:
 
     def __init__(self, start: Moment) -> None:
         self.day = start.date()
+
+    def minute(self, moment: Moment) -> str:
+        """A moment to the nearest minute."""
+        return self.time((moment + datetime.timedelta(seconds=30)).replace(second=0))
 
     def time(self, moment: Moment) -> str:
         text = moment.strftime("%H:%M:%S" if moment.second else "%H:%M")
@@ -50,6 +57,37 @@ def cases(chance: Fraction) -> str:
     return f"in at most {digits} of 100 cases"
 
 
+def share(chance: Fraction) -> str:
+    """A chance as a number of cases of 100, rounded down."""
+    whole = 100 * chance.numerator // chance.denominator
+    return "all" if chance == 1 else str(whole) if whole else "under 1"
+
+
+def today() -> datetime.date:
+    """The day on which a card is made: today, or that of SOURCE_DATE_EPOCH, where a card has to be the same on each day."""
+    fixed = os.environ.get("SOURCE_DATE_EPOCH", "")
+    if fixed.isascii() and fixed.isdigit():
+        return (datetime.datetime(1970, 1, 1) + datetime.timedelta(seconds=int(fixed))).date()
+    return datetime.date.today()
+
+
+@dataclass(frozen=True)
+class Origin:
+    """What a card is made of: the timetable, and the greatest delay that its delay file knows, in seconds."""
+    timetable: Optional[str]
+    greatest: Optional[int]
+
+    @staticmethod
+    def of(timetable: Optional[str], delays: Optional[Delays]) -> Origin:
+        return Origin(timetable, delays.greatest() if delays else None)
+
+    def sentence(self) -> str:
+        parts = [f"timetable {self.timetable}"] if self.timetable else []
+        parts += [f"delays of up to {span(self.greatest)}"] if self.greatest is not None else []
+        text = f"{', '.join(parts)}; made on {today()}." if parts else f"made on {today()}."
+        return text[0].upper() + text[1:]
+
+
 @dataclass(frozen=True)
 class Name:
     """A name from a feed or a file, which keeps its own writing direction."""
@@ -61,12 +99,17 @@ Words = list[Union[str, Name]]
 
 @dataclass
 class Step:
-    """What to take: by when to be there for it (empty at the start), and the parts of the ride."""
+    """What to take: by when to be there for it (empty at the start), and the parts of the ride; the chance that it is ridden,
+    where that is known."""
     until: str
     ride: Words
     departure: str
     target: Words
     arrival: str
+    chance: Optional[Fraction] = None
+
+    def is_rare(self) -> bool:
+        return self.chance is not None and self.chance < RARE
 
     def words(self) -> Words:
         """The step as one sentence."""
@@ -86,6 +129,7 @@ def joined(words: Words) -> str:
 
 class Card:
     """A card: its title, the sentences at its head, its parts, and the sentences at its foot."""
+    of_chances = "In brackets: in how many of 100 cases a row is ridden, rounded down."
     # The headings of the columns of a page.
     columns = ("if you are there by", "take", "at", "to", "due")
 
@@ -105,8 +149,8 @@ class Card:
 class PlanCard(Card):
     """The card of a plan."""
 
-    def __init__(self, plan: Plan, names: Names, chances: Chances) -> None:
-        self.plan, self.names, self.chances, self.clock = plan, names, chances, Clock(plan.start)
+    def __init__(self, plan: Plan, names: Names, course: Optional[Course], origin: Origin) -> None:
+        self.plan, self.names, self.course, self.origin, self.clock = plan, names, course, origin, Clock(plan.start)
         # More sentences for the head of the card, from its maker.
         self.more: list[str] = []
 
@@ -118,19 +162,17 @@ class PlanCard(Card):
         lines = [f"{self.clock.date(plan.start)}, from {time(plan.start)} on."]
         if plan.first is None:
             return [*lines, "You are there already."]
-        lines.append(f"There at {time(plan.expected.middle())} on average.")
-        lines.append(self.promised() if self.chances else f"Whatever the delays, not later than {time(plan.deadline)}.")
+        lines.append(self.promised(self.course) if self.course else f"Whatever the delays, not later than {time(plan.deadline)}.")
         if plan.promise:
             lines.append(f"Later than {time(plan.promise.moment)} {cases(plan.promise.upper)}.")
+        lines.append(f"On average there at {self.clock.minute(plan.expected.middle())}.")
         return lines + self.more
 
-    def promised(self) -> str:
+    def promised(self, course: Course) -> str:
         """By when one arrives, in how many of 100 cases."""
-        by_share: dict[Moment, int] = {}
-        for share in SHARES:
-            by_share[moment_by(self.chances, Fraction(share, 100))] = share
-        words = [f"by {self.clock.time(moment)} in {share if share < 100 else 'all'}" for moment, share in by_share.items()]
-        words[0] += " cases" if next(iter(by_share.values())) == 100 else " of 100 cases"
+        reached = dict(course.reached(Fraction(least, 100)) for least in SHARES)
+        words = [f"by {self.clock.time(moment)} in {share(chance)}" for moment, chance in reached.items()]
+        words[0] += " cases" if next(iter(reached.values())) == 1 else " of 100 cases"
         last = f" and {words.pop()}" if len(words) > 1 else ""
         return f"There {', '.join(words)}{last}."
 
@@ -149,7 +191,8 @@ class PlanCard(Card):
         platform = self.names.exit_platform(leg)
         if platform:
             target += [" (platform ", Name(platform), ")"]
-        return Step(until, self.ride(leg, place), self.clock.time(leg.departure), target, self.clock.time(leg.arrival))
+        chance = self.course.rides.get(leg, Fraction(0)) if self.course else None
+        return Step(until, self.ride(leg, place), self.clock.time(leg.departure), target, self.clock.time(leg.arrival), chance)
 
     def parts(self) -> Iterator[Part]:
         if self.plan.first is None:
@@ -161,18 +204,19 @@ class PlanCard(Card):
             yield Part(["At ", Name(self.names.place(place.name)), f" (a change takes {span(place.change)})"], steps)
 
     def foot(self) -> list[str]:
-        if not self.plan.places:
-            return []
-        return ["At each place take the first row that you are in time for.",
+        rule = ["At each place take the first row that you are in time for.",
                 "Where no row is left, a trip was later than the delay table knows: ask again from there."]
+        if self.course and self.plan.places:
+            rule.append(self.of_chances)
+        return [*(rule if self.plan.places else []), self.origin.sentence()]
 
 
 class DepartureCard(Card):
     """The card of a table of departures."""
     columns = ("set out by", "take", "at", "to", "there on average")
 
-    def __init__(self, departures: Departures, names: Names) -> None:
-        self.departures, self.names, self.clock = departures, names, Clock(departures.first)
+    def __init__(self, departures: Departures, names: Names, origin: Origin) -> None:
+        self.departures, self.names, self.origin, self.clock = departures, names, origin, Clock(departures.first)
 
     def title(self) -> Words:
         return [Name(self.names.place(self.departures.source)), " to ", Name(self.names.place(self.departures.target))]
@@ -186,6 +230,9 @@ class DepartureCard(Card):
     def parts(self) -> Iterator[Part]:
         target: Words = [Name(self.names.place(self.departures.target))]
         steps = [Step(self.clock.time(row.moment), [Name(self.names.run(row.run))], self.clock.time(row.moment), target,
-                      self.clock.time(row.expected.middle())) for row in self.departures.rows]
+                      self.clock.minute(row.expected.middle())) for row in self.departures.rows]
         if steps:
             yield Part(["Departures"], steps)
+
+    def foot(self) -> list[str]:
+        return [self.origin.sentence()]

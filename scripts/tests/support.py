@@ -37,8 +37,9 @@ class Ran:
 def call(script: str, text: Union[str, bytes], *words: str) -> Ran:
     """Calls a script with a text on standard input."""
     data = text if isinstance(text, bytes) else text.encode("utf-8")
-    environment = {**os.environ, "MEAT": MEAT, "PYTHONDONTWRITEBYTECODE": "1"}
-    ran = subprocess.run([os.path.join(SCRIPTS, script), *words], input=data, capture_output=True, timeout=120, env=environment)
+    environment = {**os.environ, "MEAT": MEAT, "PYTHONDONTWRITEBYTECODE": "1", "SOURCE_DATE_EPOCH": "1717372800"}
+    ran = subprocess.run([os.path.join(SCRIPTS, script), *words], input=data, capture_output=True, timeout=120, env=environment,
+                         cwd=TOP)
     return Ran(ran.returncode, ran.stdout, ran.stderr)
 
 

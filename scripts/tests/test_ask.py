@@ -21,7 +21,7 @@ class Stops(Case):
         for source in ("MIL", "mill", "Mil"):
             ran = self.ask(source, "AIRPORT")
             self.assertEqual(ran.status, 0, ran.errors)
-            self.assertIn("There by 08:50 in 50 of 100 cases, by 09:06 in 95 and by 09:21 in all.\n", ran.printed)
+            self.assertIn("There by 08:50 in 64 of 100 cases, by 09:06 in 96 and by 09:21 in all.\n", ran.printed)
         self.assertTrue(self.ask("MIL", "old town").printed.startswith("Mill to Old Town, Square\n"))
         self.assertIn("<main>", self.ask("MIL", "AIR", "--html").printed)
 

@@ -10,11 +10,12 @@ from typing import Union
 
 from support import CONNECTIONS, OLD_TOWN, USUAL, WALK, Case, call, content, meat
 
+FEED, DELAYS = "examples/old_town/feed", "examples/old_town/delays.csv"
 PLAN = content(f"{OLD_TOWN}/graph.csv")
 CARD = """Mill to Airport
 Mon 2024-06-03, from 08:00 on.
-There at 08:54:42 on average.
 Whatever the delays, not later than 10:42.
+On average there at 08:55.
 
 At Mill
   tram 1 at 08:00 to Old Town, Square, due 08:20
@@ -26,7 +27,8 @@ At Old Town, Square (a change takes 2 min)
 At each place take the first row that you are in time for.
 Where no row is left, a trip was later than the delay table knows: ask again
 from there.
-"""
+Timetable {feed}; made on 2024-06-03.
+""".format(feed=FEED)
 WALKED = """graph,2,A,T,2024-06-03T23:00:00,2024-06-04T01:20:00,2024-06-04T00:40:00.000000000,2024-06-04T00:40:00.000000001,
 start,2024-06-03T23:30:00,t1,0,2024-06-03T23:30:00,0,X1,2024-06-04T00:20:00,A
 place,X1,90,1,,,,,
@@ -40,12 +42,22 @@ PROMISED = "punctual,1,2024-06-03T09:00:00,0.123448000000000000,0.12344900000000
 
 class Texts(Case):
     def test_old_town(self) -> None:
-        self.prints(call("card", PLAN, "--feed", f"{OLD_TOWN}/feed"), CARD)
+        self.prints(call("card", PLAN, "--feed", FEED), CARD)
 
     def test_chances(self) -> None:
-        card = call("card", PLAN, "--feed", f"{OLD_TOWN}/feed", "--delays", f"{OLD_TOWN}/delays.csv").printed
-        self.assertIn("There by 08:50 in 50 of 100 cases, by 09:06 in 95 and by 09:21 in all.\n", card)
+        card = call("card", PLAN, "--feed", FEED, "--delays", DELAYS).printed
+        self.assertIn("There by 08:50 in 64 of 100 cases, by 09:06 in 96 and by 09:21 in all.\n", card)
+        self.assertIn("bus 7 at 08:24 to Airport, due 08:50 (80 in 100)\n", card)
+        self.assertTrue(card.endswith("\nTimetable examples/old_town/feed, delays of up to 15 min; made on 2024-06-03.\n"))
         self.assertNotIn("10:42", card)
+
+    def test_rare_cases(self) -> None:
+        delays = self.write("rare.csv", "class,delay,weight\n*,0,9999\n*,300,1\n")
+        words = ["--feed", f"{OLD_TOWN}/feed", "--delays", delays]
+        card = call("card", PLAN, *words).printed
+        self.assertIn("There by 08:50 in 99 of 100 cases and by 09:11 in all.\n", card)
+        self.assertIn("(under 1 in 100)", card)
+        self.assertIn("<tr class=rare>", call("card", PLAN, *words, "--html").printed)
 
     def test_chances_of_a_cut_file(self) -> None:
         words = ["--cut", f"{CONNECTIONS}/change.csv", "--delays", f"{CONNECTIONS}/delays.csv"]
@@ -62,13 +74,14 @@ class Texts(Case):
     def test_a_walk(self) -> None:
         card = call("card", WALKED).printed
         for line in ("  if you are there by 00:20 on Tue 2024-06-04: walk 5 min to X2, t2 at 00:25 on\n", "At X1 (a change takes 1 min 30 s)\n",
-                     "There at 00:40 on Tue 2024-06-04 on average.\n"):
+                     "On average there at 00:40 on Tue 2024-06-04.\n"):
             self.assertIn(line, card)
 
     def test_departures(self) -> None:
-        card = call("card", DEPARTURES, "--feed", f"{OLD_TOWN}/feed")
+        card = call("card", DEPARTURES, "--feed", FEED)
         self.prints(card, "Mill to Airport\nMon 2024-06-03, from 08:00 to 08:40.\nEach departure arrives by 10:42 whatever the delays.\n\n"
-                          "Departures\n  08:00 tram 1, there at 08:54:42 on average\n")
+                          "Departures\n  08:00 tram 1, there at 08:55 on average\n\n"
+                          f"Timetable {FEED}; made on 2024-06-03.\n")
 
     def test_one_place(self) -> None:
         card = call("card", "graph,1,A,A,2024-06-03T08:00:00,2024-06-03T08:00:00,2024-06-03T08:00:00.000000000,"
@@ -76,7 +89,7 @@ class Texts(Case):
         self.assertIn("You are there already.\n", card.printed)
 
     def test_a_mark_and_a_blank_line(self) -> None:
-        self.prints(call("card", "\ufeff" + PLAN + "\n", "--feed", f"{OLD_TOWN}/feed"), CARD)
+        self.prints(call("card", "\ufeff" + PLAN + "\n", "--feed", FEED), CARD)
 
 
 def city(case: Case, **tables: str) -> str:
@@ -188,7 +201,7 @@ class Printed(Case):
         delays = self.write("delays.csv", USUAL)
         text = meat("departures", "--feed", f"{OLD_TOWN}/feed", "--delays", delays, "--from", "MIL", "--to", "AIR",
                     "--at", "2024-06-03T08:00:00", "--last", "2024-06-03T08:00:00", "--until", "2024-06-03T10:42:00").printed
-        self.assertIn("  08:00 tram 1, there at 08:54:42 on average\n", call("card", text, "--feed", f"{OLD_TOWN}/feed").printed)
+        self.assertIn("  08:00 tram 1, there at 08:55 on average\n", call("card", text, "--feed", f"{OLD_TOWN}/feed").printed)
 
 
 if __name__ == "__main__":

@@ -10,7 +10,7 @@ from typing import Optional
 
 from support import CONNECTIONS, EXAMPLES, OLD_TOWN, Case, call, content, made_cut, made_delays, made_feed, meat
 
-from desk.arrivals import Delays, RideKinds, arrivals_of, mean_of
+from desk.arrivals import Delays, RideKinds, sure_course
 from desk.plans import NANOSECONDS, nanoseconds_of, read_plan
 
 PLAN = content(f"{OLD_TOWN}/graph.csv")
@@ -22,8 +22,8 @@ def is_within(text: str, delays: str, feed: Optional[str], cut: Optional[str]) -
     """Whether the exact mean of a plan is within its bounds, its latest arrival is by the deadline and, if a chance is printed,
     the chance of arriving after the promise is within its bounds."""
     plan = read_plan(text)
-    chances = arrivals_of(plan, Delays(delays), RideKinds(plan, feed, cut))
-    mean = nanoseconds_of(plan.start) + mean_of(chances, plan.start) * NANOSECONDS
+    course = sure_course(plan, Delays(delays), RideKinds(plan, feed, cut))
+    chances, mean = course.arrivals, nanoseconds_of(plan.start) + course.mean(plan.start) * NANOSECONDS
     is_good = plan.expected.lower <= mean <= plan.expected.upper and max(chances) <= plan.deadline and sum(chances.values()) == 1
     if plan.promise is None:
         return is_good
@@ -41,21 +41,21 @@ class Worked(Case):
 2024-06-03T09:06:00,0.16,0.96
 2024-06-03T09:11:00,0.03,0.99
 2024-06-03T09:21:00,0.01,1
-mean,2024-06-03T08:54:42
-latest,2024-06-03T09:21:00
+mean,2024-06-03T08:54:42,
+latest,2024-06-03T09:21:00,
 """)
 
     def test_a_mean_with_digits(self) -> None:
         delays = self.write("delays.csv", "class,delay,weight\n*,0,9999\n*,1,1\n")
         plan = content(f"{CONNECTIONS}/graphs/change.csv").replace("08:54:42.000000000", "08:50:00.000100000")
-        self.assertIn("mean,2024-06-03T08:50:00.0001\n", call("odds", plan, "--cut", f"{CONNECTIONS}/change.csv", "--delays", delays).printed)
+        self.assertIn("mean,2024-06-03T08:50:00.0001,\n", call("odds", plan, "--cut", f"{CONNECTIONS}/change.csv", "--delays", delays).printed)
 
     def test_other_files_are_refused(self) -> None:
         words = ["--feed", f"{OLD_TOWN}/feed"]
         never = self.write("never.csv", "class,delay,weight\n*,0,10000\n")
         self.is_refused(call("odds", PLAN, *words, "--delays", never), "not within the bounds")
         late = self.write("late.csv", "class,delay,weight\n*,3600,10000\n")
-        self.is_refused(call("odds", PLAN, *words, "--delays", late), "no row at S,1")
+        self.prints(call("odds", PLAN, *words, "--delays", late), "arrival,chance,by_then\nstranded,1,\n")
         self.is_refused(call("odds", PLAN, "--feed", f"{EXAMPLES}/demo_transit/feed", "--delays", f"{OLD_TOWN}/delays.csv"), "another feed")
         for text, why in (("class,delay\n", "no column weight"), ("class,delay,weight\n*,x,1\n", "line 2: bad field"),
                           ("class,delay,weight\n3,0,10000\n", "class * is missing"), ("class,delay,weight\n*,0,1\n", "do not add up")):
