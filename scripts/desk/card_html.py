@@ -4,7 +4,7 @@ from __future__ import annotations
 
 import html
 
-from .cards import Card, Name, Step, Words, joined, share
+from .cards import Card, Name, Part, Step, Words, joined, share
 
 STYLE = """
 :root { color-scheme: light dark; }
@@ -42,13 +42,13 @@ def row_of(step: Step, has_until: bool) -> str:
             f'<td class="time">{html.escape(step.arrival)}</td>{chance}</tr>')
 
 
-def table_of(card: Card, steps: list[Step]) -> list[str]:
-    has_until = any(step.until for step in steps)
-    heads = [*(card.columns if has_until else card.columns[1:])]
-    if any(step.chance is not None for step in steps):
+def table_of(part: Part) -> list[str]:
+    has_until = any(step.until for step in part.steps)
+    heads = [*(part.columns if has_until else part.columns[1:])]
+    if any(step.chance is not None for step in part.steps):
         heads.append("of 100 cases in")
     head = "".join(f'<th scope="col">{html.escape(text)}</th>' for text in heads)
-    rows = [row_of(step, has_until) for step in steps]
+    rows = [row_of(step, has_until) for step in part.steps]
     return ["<table>", f"<thead><tr>{head}</tr></thead>", "<tbody>", *rows, "</tbody>", "</table>"]
 
 
@@ -59,7 +59,7 @@ def as_page(card: Card) -> str:
              f"<style>{STYLE}</style>", "</head>", "<body>", "<main>", f"<h1>{marked(card.title())}</h1>"]
     parts += [f"<p>{html.escape(line)}</p>" for line in card.head()]
     for part in card.parts():
-        parts += ["<section>", f"<h2>{marked(part.heading)}</h2>", *table_of(card, part.steps), "</section>"]
+        parts += ["<section>", f"<h2>{marked(part.heading)}</h2>", *table_of(part), "</section>"]
     parts.append("</main>")
     if card.foot():
         parts += ["<footer>", *(f"<p>{html.escape(line)}</p>" for line in card.foot() if line != card.of_chances), "</footer>"]

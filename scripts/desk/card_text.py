@@ -4,7 +4,7 @@ from __future__ import annotations
 
 import textwrap
 
-from .cards import Card, DepartureCard, Step, joined, share
+from .cards import Card, Part, Step, joined, share
 
 WIDTH = 80
 # A space at which no line ends. No name has one.
@@ -16,8 +16,8 @@ def wrapped(text: str, first: str = "", later: str = "") -> list[str]:
                          break_on_hyphens=False) or [""]
 
 
-def sentence(card: Card, step: Step) -> str:
-    if isinstance(card, DepartureCard):
+def sentence(part: Part, step: Step) -> str:
+    if part.has_departures:
         return f"{step.departure} {joined(step.ride)}, there at {step.arrival} on average"
     until = f"if you are there by {step.until}: " if step.until else ""
     chance = f"({share(step.chance)} in 100)" if step.chance is not None and step.chance < 1 else ""
@@ -32,7 +32,7 @@ def as_text(card: Card) -> str:
     for part in card.parts():
         lines += ["", *wrapped(joined(part.heading))]
         for step in part.steps:
-            lines += wrapped(sentence(card, step), "  ", "    ")
+            lines += wrapped(sentence(part, step), "  ", "    ")
     if card.foot():
         lines.append("")
         for line in card.foot():

@@ -118,9 +118,11 @@ class Step:
 
 @dataclass
 class Part:
-    """A place, and what to do there."""
+    """A place, and what to do there; or a list of departures. The columns are the headings of a page."""
     heading: Words
     steps: list[Step]
+    columns: tuple[str, ...]
+    has_departures: bool = False
 
 
 def joined(words: Words) -> str:
@@ -130,8 +132,6 @@ def joined(words: Words) -> str:
 class Card:
     """A card: its title, the sentences at its head, its parts, and the sentences at its foot."""
     of_chances = "In brackets: in how many of 100 cases a row is ridden, rounded down."
-    # The headings of the columns of a page.
-    columns = ("if you are there by", "take", "at", "to", "due")
 
     def title(self) -> Words:
         raise NotImplementedError
@@ -146,13 +146,23 @@ class Card:
         return []
 
 
+def departure_part(departures: Departures, names: Names, clock: Clock, heading: str) -> Part:
+    """A table of departures."""
+    target: Words = [Name(names.place(departures.target))]
+    steps = [Step(clock.time(row.moment), [Name(names.run(row.run))], clock.time(row.moment), target, clock.minute(row.expected.middle()))
+             for row in departures.rows]
+    return Part([heading], steps, ("set out by", "take", "at", "to", "there on average"), has_departures=True)
+
+
 class PlanCard(Card):
     """The card of a plan."""
+    columns = ("if you are there by", "take", "at", "to", "due")
 
     def __init__(self, plan: Plan, names: Names, course: Optional[Course], origin: Origin) -> None:
         self.plan, self.names, self.course, self.origin, self.clock = plan, names, course, origin, Clock(plan.start)
-        # More sentences for the head of the card, from its maker.
+        # More sentences for the head of the card, and the departures that follow, from its maker.
         self.more: list[str] = []
+        self.following: Optional[Departures] = None
 
     def title(self) -> Words:
         return [Name(self.names.place(self.plan.source)), " to ", Name(self.names.place(self.plan.target))]
@@ -198,10 +208,14 @@ class PlanCard(Card):
         if self.plan.first is None:
             return
         source = self.plan.source
-        yield Part(["At ", Name(self.names.place(source))], [self.step(self.plan.first, source, "")])
+        yield Part(["At ", Name(self.names.place(source))], [self.step(self.plan.first, source, "")], self.columns)
         for place in by_first_arrival(self.plan):
             steps = [self.step(leg, place.name, self.clock.time(leg.by)) for leg in place.legs]
-            yield Part(["At ", Name(self.names.place(place.name)), f" (a change takes {span(place.change)})"], steps)
+            yield Part(["At ", Name(self.names.place(place.name)), f" (a change takes {span(place.change)})"], steps, self.columns)
+        if self.following is not None:
+            names = Names.of_departures(self.names.folder, self.following)
+            until = self.clock.time(self.following.deadline)
+            yield departure_part(self.following, names, self.clock, f"Departures that follow, each there by {until} whatever the delays")
 
     def foot(self) -> list[str]:
         rule = ["At each place take the first row that you are in time for.",
@@ -213,7 +227,6 @@ class PlanCard(Card):
 
 class DepartureCard(Card):
     """The card of a table of departures."""
-    columns = ("set out by", "take", "at", "to", "there on average")
 
     def __init__(self, departures: Departures, names: Names, origin: Origin) -> None:
         self.departures, self.names, self.origin, self.clock = departures, names, origin, Clock(departures.first)
@@ -228,11 +241,8 @@ class DepartureCard(Card):
         return lines if found.rows else [*lines, "There are no departures."]
 
     def parts(self) -> Iterator[Part]:
-        target: Words = [Name(self.names.place(self.departures.target))]
-        steps = [Step(self.clock.time(row.moment), [Name(self.names.run(row.run))], self.clock.time(row.moment), target,
-                      self.clock.minute(row.expected.middle())) for row in self.departures.rows]
-        if steps:
-            yield Part(["Departures"], steps)
+        if self.departures.rows:
+            yield departure_part(self.departures, self.names, self.clock, "Departures")
 
     def foot(self) -> list[str]:
         return [self.origin.sentence()]

@@ -101,3 +101,14 @@ def ask(words: list[str]) -> Answer:
     if ran.returncode not in (0, NO_STRATEGY):
         raise Refused(lines[-1] or f"the planner ended with status {ran.returncode}")
     return Answer(words, ran.returncode, ran.stdout.decode("utf-8"), lines[-1])
+
+
+def write_file(path: str, text: str) -> None:
+    """Writes a file whole, or leaves what was there."""
+    made = f"{path}.new"
+    try:
+        with open(made, "w", encoding="utf-8", newline="") as file:
+            file.write(text)
+        os.replace(made, path)
+    except OSError as fault:
+        raise Refused(f"cannot write {path}: {fault.strerror}") from None

@@ -10,7 +10,7 @@ from typing import Callable, Optional
 
 from .cards import Clock
 from .days import Services, trips_by_day, trips_by_service
-from .feeds import BOARDING_AREA, ENTRANCE, NODE, Stop, links, stops_of, table_of
+from .feeds import BOARDING_AREA, ENTRANCE, NODE, Stop, links, rows_with, stops_of
 from .journeys import HOURS, Journey
 from .plans import read_plan
 
@@ -52,13 +52,11 @@ def no_service(journey: Journey) -> Optional[str]:
 
 def nothing_stops(journey: Journey, source: Stop, target: Stop) -> Optional[str]:
     """No stop time with a time is at the place of the source or of the target."""
-    places = {stop.id: stop.place for stop in stops_of(journey.feed)}
     columns = ["stop_id", "arrival_time", "departure_time"]
-    served = {places.get(stop, "") for _, (stop, arrival, departure) in table_of(journey.feed, "stop_times.txt", columns)
-              if arrival or departure}
     for stop in (source, target):
-        if stop.place not in served:
-            return f"no trip stops at {stop.name or stop.id}"
+        there = {other.id for other in stops_of(journey.feed) if other.place == stop.place}
+        if not any(arrival or departure for _, arrival, departure in rows_with(journey.feed, "stop_times.txt", there, columns)):
+            return f"no trip stops at {stop.name or stop.id} ({stop.id})"
     return None
 
 

@@ -7,14 +7,18 @@ mark are dropped, short rows have empty fields at their end, and of two columns 
 from __future__ import annotations
 
 import csv
+import functools
+import math
 import os
 import sys
 from collections import defaultdict
 from dataclasses import dataclass
-from typing import Iterable, Iterator, Optional
+from typing import Iterable, Iterator, NamedTuple, Optional
 
+from .found_lines import lines_with
 from .plans import Refused
 
+METRES_PER_DEGREE = 111_320.0
 # The location types of stops.txt.
 STOP, STATION, ENTRANCE, NODE, BOARDING_AREA = "", "1", "2", "3", "4"
 LOCATIONS = {"0": STOP}
@@ -79,10 +83,45 @@ def table_of(folder: str, name: str, required: Iterable[str], optional: Iterable
     return Table.open(os.path.join(folder, name), required, optional)
 
 
+def rows_with(folder: str, name: str, wanted: set[str], required: list[str], optional: Iterable[str] = ()) -> Iterator[list[str]]:
+    """The rows of a table whose first required column is one of these texts, by a search over its bytes where that is possible."""
+    table = table_of(folder, name, required, optional)
+    try:
+        lines = lines_with(os.path.join(folder, name), wanted)
+    except OSError as fault:
+        raise Refused(f"cannot read {name}: {reason_of(fault)}") from None
+    if lines is not None:
+        table.lines = lines
+    return (row for _, row in table if row[0] in wanted)
+
+
 def has_table(folder: str, name: str) -> bool:
     """Whether a feed has this table, and it is not an empty file."""
     path = os.path.join(folder, name)
     return os.path.isfile(path) and os.path.getsize(path) > 0
+
+
+class Spot(NamedTuple):
+    """Where a stop is, in degrees."""
+    latitude: float
+    longitude: float
+
+
+def spot_of(latitude: str, longitude: str) -> Optional[Spot]:
+    """Where a row of stops.txt says that a stop is, if it does."""
+    try:
+        spot = Spot(float(latitude), float(longitude))
+    except ValueError:
+        return None
+    return spot if abs(spot.latitude) <= 90 and abs(spot.longitude) <= 180 else None
+
+
+def metres(one: Spot, other: Spot) -> float:
+    """The metres between two spots, as the crow flies."""
+    first, last = math.radians(one.latitude), math.radians(other.latitude)
+    half = math.sin((last - first) / 2) ** 2
+    half += math.cos(first) * math.cos(last) * math.sin(math.radians(other.longitude - one.longitude) / 2) ** 2
+    return 2 * METRES_PER_DEGREE * math.degrees(math.asin(math.sqrt(min(1.0, half))))
 
 
 @dataclass(frozen=True)
@@ -94,17 +133,20 @@ class Stop:
     parent: str
     code: str
     platform: str
+    spot: Optional[Spot]
 
     @property
     def place(self) -> str:
         return self.parent if self.kind == STOP and self.parent else self.id
 
 
-def stops_of(folder: str) -> Iterator[Stop]:
-    """The stops of a feed, one row at a time."""
-    optional = ("stop_name", "location_type", "parent_station", "stop_code", "platform_code")
-    for _, (stop, name, kind, parent, code, platform) in table_of(folder, "stops.txt", ["stop_id"], optional):
-        yield Stop(stop, name, LOCATIONS.get(kind, kind), parent, code, platform)
+@functools.lru_cache(maxsize=4)
+def stops_of(folder: str) -> tuple[Stop, ...]:
+    """The stops of a feed, which are read once."""
+    optional = ("stop_name", "location_type", "parent_station", "stop_code", "platform_code", "stop_lat", "stop_lon")
+    table = table_of(folder, "stops.txt", ["stop_id"], optional)
+    return tuple(Stop(stop, name, LOCATIONS.get(kind, kind), parent, code, platform, spot_of(latitude, longitude))
+                 for _, (stop, name, kind, parent, code, platform, latitude, longitude) in table)
 
 
 @dataclass(frozen=True)
@@ -137,8 +179,10 @@ def trip_of_run(run: str) -> str:
 
 def trips_of(folder: str, wanted: Optional[set[str]] = None) -> dict[str, Trip]:
     """The trips with these ids, or all trips."""
-    table = table_of(folder, "trips.txt", ["trip_id", "route_id", "service_id"], ["trip_headsign", "trip_short_name"])
-    return {row[0]: Trip(*row) for _, row in table if wanted is None or row[0] in wanted}
+    required, optional = ["trip_id", "route_id", "service_id"], ["trip_headsign", "trip_short_name"]
+    if wanted is not None:
+        return {row[0]: Trip(*row) for row in rows_with(folder, "trips.txt", wanted, required, optional)}
+    return {row[0]: Trip(*row) for _, row in table_of(folder, "trips.txt", required, optional)}
 
 
 def routes_of(folder: str, wanted: Optional[set[str]] = None) -> dict[str, Route]:
@@ -151,8 +195,8 @@ def kept_stops(folder: str, wanted: set[str]) -> dict[str, list[str]]:
     """The stops of the kept rows of each of these trips, by rising sequence. A row with a stop and a time is kept."""
     rows: dict[str, list[tuple[int, str]]] = defaultdict(list)
     columns = ["trip_id", "stop_id", "stop_sequence", "arrival_time", "departure_time"]
-    for _, (trip, stop, sequence, arrival, departure) in table_of(folder, "stop_times.txt", columns):
-        if trip in wanted and stop and (arrival or departure) and sequence.isascii() and sequence.isdigit():
+    for trip, stop, sequence, arrival, departure in rows_with(folder, "stop_times.txt", wanted, columns):
+        if stop and (arrival or departure) and sequence.isascii() and sequence.isdigit():
             rows[trip].append((int(sequence), stop))
     return {trip: [stop for _, stop in sorted(of)] for trip, of in rows.items()}
 

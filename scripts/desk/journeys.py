@@ -6,13 +6,14 @@ import datetime
 from typing import Optional
 
 from .commands import ask
-from .plans import Latest, Moment, Refused, Safe, moment_text, read, seconds_between
+from .plans import Departures, Latest, Moment, Refused, Safe, moment_text, read, seconds_between
 
 # The greatest value of --horizon, in hours, and the least and the greatest of --alpha, in percent.
 HOURS = 72
 LEAST_ALPHA, MOST_ALPHA = 100, 1000
 # The first moment that --at takes.
 FIRST = Moment(1970, 1, 8)
+DAY = datetime.timedelta(days=1)
 
 
 class Journey:
@@ -36,6 +37,17 @@ class Journey:
         """The text of a plan, if there is one."""
         answer = ask([*self.words("plan"), "--alpha", str(alpha)])
         return answer.text if answer.status == 0 else None
+
+    def punctual(self, by: Moment, alpha: int) -> Optional[str]:
+        """The text of the plan with the least chance of an arrival after a moment, if there is a plan."""
+        answer = ask([*self.words("punctual"), "--alpha", str(alpha), "--by", moment_text(by)])
+        return answer.text if answer.status == 0 else None
+
+    def departures(self, last: Moment, deadline: Moment) -> Optional[Departures]:
+        """The departures up to a moment, each with what it promises by a deadline."""
+        answer = ask([*self.words("departures"), "--last", moment_text(last), "--until", moment_text(deadline)])
+        found = read(answer.text) if answer.status == 0 else None
+        return found if isinstance(found, Departures) else None
 
     def latest(self, deadline: Moment) -> Optional[Moment]:
         """The latest moment from the start on at which one can leave and be there by a deadline, whatever the delays. The
@@ -65,4 +77,4 @@ def alpha_within(safe: Safe, by: Moment) -> int:
 
 
 def day_before(moment: Moment) -> Moment:
-    return max(FIRST, moment - datetime.timedelta(days=1))
+    return max(FIRST, moment - DAY)

@@ -12,6 +12,7 @@ class Names:
     """The names of the places and runs of a printed text. Only the rows of the feed that the text mentions are kept."""
 
     def __init__(self, folder: Optional[str], places: set[str], runs: set[str]) -> None:
+        self.folder = folder
         self.stops: dict[str, Stop] = {}
         self.trips: dict[str, Trip] = {}
         self.routes: dict[str, Route] = {}
@@ -53,15 +54,7 @@ class Names:
     def run(self, run: str) -> str:
         """A run as a traveller knows it: its vehicle and line, with the number and the headsign of the trip."""
         trip = self.trips.get(trip_of_run(run))
-        if trip is None:
-            return plain(run)
-        route = self.routes.get(trip.route)
-        line = (route and (route.short_name or route.long_name)) or trip.short_name or trip.id
-        vehicle = route.vehicle() if route else "trip"
-        number = f" ({plain(trip.short_name)})" if trip.short_name and trip.short_name != line else ""
-        sign = plain(trip.sign)
-        towards = "" if not sign else f" {sign}" if sign.lower().startswith("to ") else f" towards {sign}"
-        return f"{vehicle} {plain(line)}{number}{towards}"
+        return line_of(trip, self.routes.get(trip.route)) if trip else plain(run)
 
     def platform(self, run: str, row: int) -> str:
         """The platform at which a run stops in a kept row of its trip, empty if the feed gives none."""
@@ -74,6 +67,16 @@ class Names:
 
     def exit_platform(self, leg: Leg) -> str:
         return self.platform(leg.run, leg.exit_step + 1)
+
+
+def line_of(trip: Trip, route: Optional[Route]) -> str:
+    """A trip as a traveller knows it: its vehicle and line, with its number and its headsign."""
+    line = (route and (route.short_name or route.long_name)) or trip.short_name or trip.id
+    vehicle = route.vehicle() if route else "trip"
+    number = f" ({plain(trip.short_name)})" if trip.short_name and trip.short_name != line else ""
+    sign = plain(trip.sign)
+    towards = "" if not sign else f" {sign}" if sign.lower().startswith("to ") else f" towards {sign}"
+    return f"{vehicle} {plain(line)}{number}{towards}"
 
 
 def plain(text: str) -> str:

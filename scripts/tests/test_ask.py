@@ -99,7 +99,7 @@ class Why(Case):
         feed = self.feed("feed", stops=stops, routes="route_id,route_type\nR,3\n", trips="route_id,service_id,trip_id\nR,WK,t\n",
                          stop_times="trip_id,stop_sequence,stop_id,arrival_time,departure_time\nt,1,A,8:10:00,8:10:00\nt,2,B,8:20:00,8:20:00\n")
         self.assertIn("E is an entrance, where nothing stops; ask for a plan to S", self.why(feed, "A", "E"))
-        self.assertIn("no trip stops at Alone", self.why(feed, "A", "X"))
+        self.assertIn("no trip stops at Alone (X)", self.why(feed, "A", "X"))
         self.assertIn("there is no way from Station to A within 72 hours", self.why(feed, "S", "A"))
 
     def test_walks(self) -> None:
