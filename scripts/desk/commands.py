@@ -14,6 +14,9 @@ from .plans import Refused
 
 # The folder of the commands.
 HERE = os.path.dirname(os.path.dirname(os.path.realpath(__file__)))
+# The options of the program whose values are paths of files, and of folders.
+FILES = ("--cut", "--delays", "--graph", "--proof")
+FOLDERS = ("--feed",)
 
 
 def read_input() -> str:
