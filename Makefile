@@ -1,34 +1,43 @@
 # Installs the planner with its scripts, manual page and completions: make install PREFIX=/usr/local
 # The installed program runs without this repository. `make test` runs the gate.
 PREFIX ?= /usr/local
-BINARIES = $(DESTDIR)$(PREFIX)/bin
-LIBRARY = $(DESTDIR)$(PREFIX)/lib/meat
-SHARE = $(DESTDIR)$(PREFIX)/share
 SCRIPTS = ask card compare delays look odds walks
-MODULES = $(wildcard scripts/desk/*.py)
-COMPLETIONS = $(SHARE)/bash-completion/completions/meat $(SHARE)/zsh/site-functions/_meat $(SHARE)/fish/vendor_completions.d/meat.fish
+MODULES = $(notdir $(wildcard scripts/desk/*.py))
+# The folder of the installation, for the shell. Its text is taken as it is: it may have spaces, quotes and dollar signs.
+export PREFIX_TEXT := $(value PREFIX)
+export ROOT := $(value DESTDIR)$(value PREFIX)
 
-.PHONY: all install uninstall test
+.PHONY: all install uninstall prefix test
 
 # The launcher proves and builds the program if necessary. Then the program refuses the empty command line, with status 2.
 all:
 	@./meat || [ $$? = 2 ]
 
-install:
-	@[ -x out/meat ] || { echo 'run `make all` first: it proves and builds the program' >&2; exit 1; }
-	install -d $(BINARIES) $(LIBRARY)/desk $(SHARE)/man/man1 $(dir $(COMPLETIONS))
-	install -m 755 out/meat $(BINARIES)/meat
-	install -m 755 $(addprefix scripts/,$(SCRIPTS)) $(LIBRARY)
-	install -m 644 $(MODULES) $(LIBRARY)/desk
-	for name in $(SCRIPTS); do ln -sf ../lib/meat/$$name $(BINARIES)/meat-$$name; done
-	scripts/manual man >$(SHARE)/man/man1/meat.1
-	scripts/manual bash >$(SHARE)/bash-completion/completions/meat
-	scripts/manual zsh >$(SHARE)/zsh/site-functions/_meat
-	scripts/manual fish >$(SHARE)/fish/vendor_completions.d/meat.fish
+prefix:
+	@[ -n "$$PREFIX_TEXT" ] || { echo 'PREFIX is empty: name a folder, such as /usr/local' >&2; exit 1; }
 
-uninstall:
-	rm -f $(BINARIES)/meat $(addprefix $(BINARIES)/meat-,$(SCRIPTS)) $(SHARE)/man/man1/meat.1 $(COMPLETIONS)
-	rm -rf $(LIBRARY)
+install: prefix
+	@[ -x out/meat ] || { echo 'run `make all` first: it proves and builds the program' >&2; exit 1; }
+	install -d "$$ROOT/bin" "$$ROOT/lib/meat/desk" "$$ROOT/share/man/man1" "$$ROOT/share/bash-completion/completions" \
+	    "$$ROOT/share/zsh/site-functions" "$$ROOT/share/fish/vendor_completions.d"
+	install -m 755 out/meat $(addprefix scripts/,$(SCRIPTS)) "$$ROOT/lib/meat"
+	install -m 644 scripts/hint.sh "$$ROOT/lib/meat"
+	install -m 644 $(addprefix scripts/desk/,$(MODULES)) "$$ROOT/lib/meat/desk"
+	install -m 755 scripts/installed "$$ROOT/bin/meat"
+	for name in $(SCRIPTS); do ln -sf "../lib/meat/$$name" "$$ROOT/bin/meat-$$name" || exit; done
+	scripts/manual man >"$$ROOT/share/man/man1/meat.1"
+	scripts/manual bash >"$$ROOT/share/bash-completion/completions/meat"
+	scripts/manual zsh >"$$ROOT/share/zsh/site-functions/_meat"
+	scripts/manual fish >"$$ROOT/share/fish/vendor_completions.d/meat.fish"
+
+# Removes what `install` has made and nothing else; the folder of the planner only if it is then empty.
+uninstall: prefix
+	rm -f "$$ROOT/bin/meat" "$$ROOT/share/man/man1/meat.1" "$$ROOT/share/bash-completion/completions/meat" \
+	    "$$ROOT/share/zsh/site-functions/_meat" "$$ROOT/share/fish/vendor_completions.d/meat.fish"
+	for name in $(SCRIPTS); do rm -f "$$ROOT/bin/meat-$$name" || exit; done
+	for name in meat hint.sh $(SCRIPTS) $(addprefix desk/,$(MODULES)); do rm -f "$$ROOT/lib/meat/$$name" || exit; done
+	@[ ! -d "$$ROOT/lib/meat/desk" ] || rmdir "$$ROOT/lib/meat/desk" 2>/dev/null || true
+	@[ ! -d "$$ROOT/lib/meat" ] || rmdir "$$ROOT/lib/meat" 2>/dev/null || echo "$$ROOT/lib/meat has other files, and stays"
 
 test:
 	.ci/run

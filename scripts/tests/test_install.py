@@ -3,11 +3,33 @@
 from __future__ import annotations
 
 import os
+import pty
+import re
 import shutil
 import subprocess
 import unittest
 
 from support import MEAT, OLD_TOWN, SCRIPTS, TOP, Case, call, content
+
+
+# A program that prints its words and refuses them.
+REFUSES = """#!/bin/sh
+printf '<%s>' "$@"
+echo 'meat: words refused' >&2
+exit 2
+"""
+
+
+def shown_on(terminal: int) -> str:
+    """What was written to a terminal whose other end is closed."""
+    shown = b""
+    try:
+        while piece := os.read(terminal, 4096):
+            shown += piece
+    except OSError:
+        pass
+    os.close(terminal)
+    return shown.decode().replace("\r\n", "\n")
 
 
 class Install(Case):
@@ -24,7 +46,10 @@ class Install(Case):
             os.symlink(os.path.join(TOP, name), os.path.join(self.top, name))
         shutil.copyfile(os.path.join(TOP, "Makefile"), os.path.join(self.top, "Makefile"))
         # A program that stands in for the real one, and calls it.
-        self.program = self.write("top/out/meat", f'#!/bin/sh\nexec {MEAT} "$@"\n')
+        self.stands_in(f'#!/bin/sh\nexec {MEAT} "$@"\n')
+
+    def stands_in(self, text: str) -> None:
+        self.program = self.write("top/out/meat", text)
         os.chmod(self.program, 0o755)
 
     def test_install_and_uninstall(self) -> None:
@@ -41,6 +66,73 @@ class Install(Case):
         self.assertEqual(self.make("uninstall", f"PREFIX={prefix}").returncode, 0)
         self.assertEqual([name for _, _, files in os.walk(prefix) for name in files], [])
 
+    def test_any_name_of_a_folder(self) -> None:
+        self.stands_in(REFUSES)
+        for name in ("My Programs", "a'b\"c", "a$b$(c)`d`", "*#\\;"):
+            prefix = os.path.join(self.room, "prefixes", name)
+            os.makedirs(os.path.join(self.room, "prefixes", "My"), exist_ok=True)
+            ran = self.make("install", f"PREFIX={prefix}")
+            self.assertEqual(ran.returncode, 0, (name, ran.stderr))
+            wrapped = subprocess.run([os.path.join(prefix, "bin", "meat"), "a b", "c"], capture_output=True, timeout=60)
+            self.assertEqual((wrapped.returncode, wrapped.stdout, wrapped.stderr), (2, b"<a b><c>", b"meat: words refused\n"), name)
+            self.assertEqual(self.make("uninstall", f"PREFIX={prefix}").returncode, 0, name)
+            self.assertEqual([file for _, _, files in os.walk(prefix) for file in files], [], name)
+            self.assertEqual(os.path.exists(os.path.join(prefix, "lib", "meat")), False, name)
+        self.assertTrue(os.path.isdir(os.path.join(self.room, "prefixes", "My")))
+
+    def test_an_empty_prefix_is_refused(self) -> None:
+        for target in ("install", "uninstall"):
+            for words in (("PREFIX=",), ("PREFIX=", f"DESTDIR={self.room}/image")):
+                ran = self.make(target, *words)
+                self.assertNotEqual(ran.returncode, 0)
+                self.assertIn(b"PREFIX is empty", ran.stderr)
+        self.assertFalse(os.path.exists(f"{self.room}/image"))
+
+    def test_uninstall_leaves_what_is_not_its_own(self) -> None:
+        prefix = os.path.join(self.room, "prefix")
+        self.assertEqual(self.make("install", f"PREFIX={prefix}").returncode, 0)
+        for name in ("lib/meat/mine.py", "bin/meat-mine", "share/man/man1/mine.1"):
+            self.write(f"prefix/{name}", "mine")
+        ran = self.make("uninstall", f"PREFIX={prefix}")
+        self.assertEqual(ran.returncode, 0)
+        self.assertIn(b"has other files, and stays", ran.stdout)
+        left = [os.path.relpath(os.path.join(at, file), prefix) for at, _, files in os.walk(prefix) for file in files]
+        self.assertEqual(sorted(left), ["bin/meat-mine", "lib/meat/mine.py", "share/man/man1/mine.1"])
+
+    def test_uninstall_where_nothing_is_installed(self) -> None:
+        ran = self.make("uninstall", f"PREFIX={self.room}/none")
+        self.assertEqual((ran.returncode, ran.stdout, ran.stderr), (0, b"", b""))
+
+    def test_the_installed_program_is_found_through_links(self) -> None:
+        self.stands_in(REFUSES)
+        prefix = os.path.join(self.room, "a prefix")
+        self.assertEqual(self.make("install", f"PREFIX={prefix}").returncode, 0)
+        os.symlink(f"{prefix}/bin/meat", f"{self.room}/linked")
+        ran = subprocess.run([f"{self.room}/linked", "none"], capture_output=True, timeout=60)
+        self.assertEqual((ran.returncode, ran.stderr), (2, b"meat: words refused\n"))
+
+    def test_a_limit_on_the_size_of_files_is_a_failed_write(self) -> None:
+        self.stands_in("#!/bin/sh\nprintf x >\"$1\" 2>/dev/null || exit 8\n")
+        prefix = os.path.join(self.room, "prefix")
+        self.assertEqual(self.make("install", f"PREFIX={prefix}").returncode, 0)
+        ran = subprocess.run(["sh", "-c", 'ulimit -f 0; exec "$0" "$1"', f"{prefix}/bin/meat", f"{self.room}/full"],
+                             capture_output=True, timeout=60)
+        self.assertEqual(ran.returncode, 8)
+
+    def test_a_word_that_is_no_command_on_a_terminal(self) -> None:
+        self.stands_in(REFUSES.replace('<%s>', ''))
+        prefix = os.path.join(self.room, "prefix")
+        self.assertEqual(self.make("install", f"PREFIX={prefix}").returncode, 0)
+        for words, lines in (((), 2), (("--help",), 2), (("help",), 2), (("plan",), 1)):
+            terminal, other_end = pty.openpty()
+            ran = subprocess.run([f"{prefix}/bin/meat", *words], stdin=subprocess.DEVNULL, stdout=subprocess.PIPE, stderr=other_end,
+                                 timeout=60)
+            os.close(other_end)
+            told = shown_on(terminal).splitlines()
+            self.assertEqual((ran.returncode, ran.stdout, len(told)), (2, b"", lines), told)
+            self.assertTrue(told[-1].startswith("meat: "), told)
+            self.assertEqual("departures latest sample; the manual page: man meat" in told[0], lines == 2, told)
+
     def test_a_folder_before_the_prefix(self) -> None:
         self.assertEqual(self.make("install", f"DESTDIR={self.room}/image", "PREFIX=/usr").returncode, 0)
         self.assertEqual(os.readlink(f"{self.room}/image/usr/bin/meat-card"), "../lib/meat/card")
@@ -55,7 +147,7 @@ class Install(Case):
         commands = {name for name in os.listdir(SCRIPTS) if os.access(os.path.join(SCRIPTS, name), os.X_OK) and "." not in name
                     and os.path.isfile(os.path.join(SCRIPTS, name))}
         listed = next(line for line in content(os.path.join(TOP, "Makefile")).split("\n") if line.startswith("SCRIPTS"))
-        self.assertEqual(commands - {"build", "manual", "preview", "weights"}, set(listed.split("=")[1].split()))
+        self.assertEqual(commands - {"build", "installed", "manual", "preview", "weights"}, set(listed.split("=")[1].split()))
 
 
 class Manual(Case):
@@ -67,6 +159,10 @@ class Manual(Case):
             self.assertIn(f"{command}) options='{options}' ;;", bash)
         check = subprocess.run(["bash", "-n"], input=bash.encode(), capture_output=True)
         self.assertEqual(check.returncode, 0, check.stderr)
+
+    def test_the_commands_of_the_hint(self) -> None:
+        commands = re.search(r"compgen -W '([a-z ]*)'", call("manual", "", "bash").printed)
+        self.assertIn(f"\ncommands='{commands[1] if commands else ''}'\n", content(os.path.join(SCRIPTS, "hint.sh")))
 
     def test_the_page_has_each_status(self) -> None:
         page = call("manual", "", "man").printed
