@@ -34,8 +34,12 @@ class Clock:
 
     @staticmethod
     def date(moment: Moment) -> str:
-        weekday = ("Mon", "Tue", "Wed", "Thu", "Fri", "Sat", "Sun")[moment.weekday()]
-        return f"{weekday} {moment.date().isoformat()}"
+        return Clock.day_text(moment.date())
+
+    @staticmethod
+    def day_text(day: datetime.date) -> str:
+        weekday = ("Mon", "Tue", "Wed", "Thu", "Fri", "Sat", "Sun")[day.weekday()]
+        return f"{weekday} {day.isoformat()}"
 
 
 def span(seconds: int) -> str:
@@ -160,8 +164,9 @@ class PlanCard(Card):
 
     def __init__(self, plan: Plan, names: Names, course: Optional[Course], origin: Origin) -> None:
         self.plan, self.names, self.course, self.origin, self.clock = plan, names, course, origin, Clock(plan.start)
-        # More sentences for the head of the card, and the departures that follow, from its maker.
+        # More sentences for the head of the card and after its rows, and the departures that follow, from its maker.
         self.more: list[str] = []
+        self.last: list[str] = []
         self.following: Optional[Departures] = None
 
     def title(self) -> Words:
@@ -222,7 +227,7 @@ class PlanCard(Card):
                 "Where no row is left, a trip was later than the delay table knows: ask again from there."]
         if self.course and self.plan.places:
             rule.append(self.of_chances)
-        return [*(rule if self.plan.places else []), self.origin.sentence()]
+        return [*self.last, *(rule if self.plan.places else []), self.origin.sentence()]
 
 
 class DepartureCard(Card):

@@ -7,6 +7,7 @@ from collections import Counter, defaultdict
 from typing import Iterator
 
 from .feeds import has_table, table_of
+from .plans import Refused
 
 Date = datetime.date
 ONE_DAY = datetime.timedelta(days=1)
@@ -14,8 +15,14 @@ WEEKDAYS = ("monday", "tuesday", "wednesday", "thursday", "friday", "saturday", 
 SHORT = ("Mon", "Tue", "Wed", "Thu", "Fri", "Sat", "Sun")
 
 
-def date_of(text: str) -> Date:
-    return datetime.datetime.strptime(text, "%Y%m%d").date()
+def date_of(text: str, table: str, line: int) -> Date:
+    """The date YYYYMMDD of a row of a table."""
+    try:
+        if len(text) == 8 and text.isascii() and text.isdigit():
+            return Date(int(text[:4]), int(text[4:6]), int(text[6:]))
+    except ValueError:
+        pass
+    raise Refused(f"{table} line {line}: {text or 'an empty field'} is no date; dates are written YYYYMMDD")
 
 
 class Services:
@@ -27,11 +34,12 @@ class Services:
         self.removed: dict[str, set[Date]] = defaultdict(set)
         if has_table(folder, "calendar.txt"):
             columns = ["service_id", *WEEKDAYS, "start_date", "end_date"]
-            for _, (service, *flags, first, last) in table_of(folder, "calendar.txt", columns):
-                self.periods[service] = [flag == "1" for flag in flags], date_of(first), date_of(last)
+            for line, (service, *flags, first, last) in table_of(folder, "calendar.txt", columns):
+                period = date_of(first, "calendar.txt", line), date_of(last, "calendar.txt", line)
+                self.periods[service] = [flag == "1" for flag in flags], *period
         if has_table(folder, "calendar_dates.txt"):
-            for _, (service, date, kind) in table_of(folder, "calendar_dates.txt", ["service_id", "date", "exception_type"]):
-                (self.added if kind == "1" else self.removed)[service].add(date_of(date))
+            for line, (service, date, kind) in table_of(folder, "calendar_dates.txt", ["service_id", "date", "exception_type"]):
+                (self.added if kind == "1" else self.removed)[service].add(date_of(date, "calendar_dates.txt", line))
 
     def __contains__(self, service: str) -> bool:
         return service in self.periods or service in self.added or service in self.removed

@@ -29,6 +29,14 @@ def are_rows(path: str) -> bool:
         return data.find(b'"') < 0 or not any(line.count(b'"') % 2 for line in file)
 
 
+def are_plain(path: str) -> bool:
+    """Whether a table has no quote at all."""
+    if not os.path.getsize(path):
+        return True
+    with open(path, "rb") as file, mmap.mmap(file.fileno(), 0, access=mmap.ACCESS_READ) as data:
+        return data.find(b'"') < 0
+
+
 def found_lines(path: str, header: bytes, texts: Iterable[str]) -> Iterator[str]:
     """The header, and the lines after it in which one of these texts occurs."""
     yield header.decode("utf-8-sig", errors="replace")

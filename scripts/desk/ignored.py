@@ -6,9 +6,11 @@ import csv
 import os
 import sys
 from collections import Counter
+from typing import Iterator
 
 from .days import Services
-from .feeds import BOARDING_AREA, ENTRANCE, NODE, STOP, has_table, reason_of, stops_of, table_of
+from .feeds import BOARDING_AREA, ENTRANCE, NODE, STOP, FileLines, has_table, reason_of, stops_of, table_of
+from .found_lines import are_plain
 from .plans import Refused
 
 TABLES = ("stops.txt", "routes.txt", "trips.txt", "stop_times.txt", "frequencies.txt", "calendar.txt", "calendar_dates.txt",
@@ -82,19 +84,29 @@ def of_transfers(folder: str) -> Counter[str]:
 def of_quotes(folder: str) -> Counter[str]:
     """Tables with a quote that is never closed: everything after it is one field of one row."""
     counts: Counter[str] = Counter()
+    for name, fault in quote_faults(folder):
+        if "unexpected end" in fault:
+            counts[f"quotes in {name} that are never closed: the rows after them are lost"] += 1
+        else:
+            counts[f"quoted fields in {name} with text after the closing quote"] += 1
+    return counts
+
+
+def open_quotes(folder: str) -> Iterator[str]:
+    """The tables with a quote that is never closed."""
+    return (name for name, fault in quote_faults(folder) if "unexpected end" in fault)
+
+
+def quote_faults(folder: str) -> Iterator[tuple[str, str]]:
+    """The tables in which quotes are not as they should be, with the fault. Only those whose lines are not rows are read."""
     csv.field_size_limit(sys.maxsize)
     for name in TABLES:
-        if not has_table(folder, name):
-            continue
+        path = os.path.join(folder, name)
         try:
-            with open(os.path.join(folder, name), encoding="utf-8-sig", errors="replace", newline="") as file:
-                for _ in csv.reader(file, strict=True):
+            if has_table(folder, name) and not are_plain(path):
+                for _ in csv.reader(FileLines(path), strict=True):
                     pass
         except csv.Error as fault:
-            if "unexpected end" in str(fault):
-                counts[f"quotes in {name} that are never closed: the rows after them are lost"] += 1
-            else:
-                counts[f"quoted fields in {name} with text after the closing quote"] += 1
+            yield name, str(fault)
         except OSError as fault:
             raise Refused(f"cannot read {name}: {reason_of(fault)}") from None
-    return counts

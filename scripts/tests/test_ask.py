@@ -91,8 +91,8 @@ class Why(Case):
         return ran.errors
 
     def test_days(self) -> None:
-        self.assertIn("no trip runs on 2024-06-09", self.why(FEED, "MIL", "AIR", "--horizon", "12", when="2024-06-09T08:00"))
-        self.assertIn("no trip runs on 2030-06-03", self.why(FEED, "MIL", "AIR", when="2030-06-03T08:00"))
+        self.assertIn("no trip runs on Sun 2024-06-09; the next day with trips is Mon 2024-06-10", self.why(FEED, "MIL", "AIR", "--horizon", "12", when="2024-06-09T08:00"))
+        self.assertIn("no trip runs on Mon 2030-06-03; the feed has trips from 2024-01-01 to 2024-12-31", self.why(FEED, "MIL", "AIR", when="2030-06-03T08:00"))
 
     def test_entrances_and_places_without_trips(self) -> None:
         stops = "stop_id,stop_name,location_type,parent_station\nA,A,,\nE,Entrance,2,S\nS,Station,1,\nB,B,,S\nX,Alone,,\n"
@@ -103,13 +103,15 @@ class Why(Case):
         self.assertIn("there is no way from Station to A within 72 hours", self.why(feed, "S", "A"))
 
     def test_walks(self) -> None:
-        there = f"{WALK}/there"
-        self.assertIn("end with a walk of 300 seconds from X1", self.why(there, "A", "X2", delays=f"{WALK}/delays.csv"))
-        self.assertIn("begin with a walk of 300 seconds to X2", self.why(there, "X1", "T", delays=f"{WALK}/delays.csv",
-                                                                                      when="2024-06-03T08:00"))
+        there, delays = f"{WALK}/there", f"{WALK}/delays.csv"
+        ran = call("ask", "", there, delays, "A", "X2", "2024-06-03T08:00")
+        self.assertEqual((ran.status, "walk 5 min to" in ran.printed), (0, True), ran.errors)
+        ran = call("ask", "", there, delays, "X1", "T", "2024-06-03T08:00")
+        self.assertIn("Leave at 08:00 and walk 5 min to", ran.printed)
 
     def test_a_longer_window_and_delays(self) -> None:
-        self.assertIn("ask with --horizon 72", self.why(FEED, "MIL", "AIR", "--horizon", "1", when="2024-06-03T06:30"))
+        self.assertIn("nothing safe leaves within an hour; the next leaves at 08:00: ask for 2024-06-03T08:00:00",
+                      self.why(FEED, "MIL", "AIR", "--horizon", "1", when="2024-06-03T06:30"))
         strict = self.write("strict.csv", "class,delay,weight\n*,0,5000\n*,86400,5000\n")
         line = self.why(FEED, "MIL", "AIR", delays=strict, when="2024-12-31T08:00")
         self.assertIn("if nothing were late, you would be there at 08:50", line)
