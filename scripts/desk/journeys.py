@@ -3,6 +3,7 @@
 from __future__ import annotations
 
 import datetime
+import re
 from typing import Optional
 
 from .commands import ask
@@ -14,6 +15,21 @@ LEAST_ALPHA, MOST_ALPHA = 100, 1000
 # The first moment that --at takes.
 FIRST = Moment(1970, 1, 8)
 DAY = datetime.timedelta(days=1)
+TIME = re.compile(r"(\d{1,2}):(\d\d)(?::(\d\d))?", re.ASCII)
+MOMENT = re.compile(r"(\d{4}-\d\d-\d\d)[T ](\d{1,2}:\d\d(?::\d\d)?)", re.ASCII)
+
+
+def moment_from(text: str, day: Optional[datetime.date], option: str) -> Moment:
+    """The moment that a text gives; a time alone is on the given day, if there is one."""
+    found = MOMENT.fullmatch(text)
+    time = TIME.fullmatch(found[2] if found else text)
+    try:
+        date = datetime.date.fromisoformat(found[1]) if found else day
+        if time and date:
+            return Moment(date.year, date.month, date.day, int(time[1]), int(time[2]), int(time[3] or 0))
+    except ValueError:
+        pass
+    raise Refused(f"{option}: {text} is not a moment; write it as 2024-06-03T08:00{', or 08:00 for today' if day else ''}")
 
 
 class Journey:

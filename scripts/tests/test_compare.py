@@ -52,12 +52,40 @@ class Compare(Case):
         self.assertEqual((same["first_upper"], same["later_most"]), ("2024-06-03T08:00:00.000000000", "0.000000000"))
         self.assertEqual((none["until"], none["first_lower"], none["later_most"]), ("", "", ""))
 
+    def test_a_refused_question_is_a_row(self) -> None:
+        words = [f"{CONNECTIONS}/change.csv", "--without", "r2", "--delays", f"{CONNECTIONS}/delays.csv"]
+        table = ("from,to,at,until\nA,X,2024-06-03T08:00:00,\nA,T,8:00,\nA,T,2024-06-03T08:00:00,2024-06-03T07:00:00\n"
+                 "A,A,2024-06-03 08:00,\n")
+        ran = call("compare", table, *words)
+        self.assertEqual(ran.status, 1)
+        stop, moment, until, good = rows_of(ran)
+        self.assertIn("line 2: ", stop["fault"])
+        self.assertIn("unknown stop of --to", stop["fault"])
+        self.assertIn("line 3: at: 8:00 is not a moment", moment["fault"])
+        self.assertIn("line 4: until is before at", until["fault"])
+        self.assertEqual((good["verdict"], good["fault"], good["at"]), ("same", "", "2024-06-03T08:00:00"))
+
+    def test_names(self) -> None:
+        words = [f"{OLD_TOWN}/feed", "--without", "b200", "--delays", f"{OLD_TOWN}/delays.csv"]
+        (row,) = rows_of(call("compare", "from,to,at\nmill,airport,2024-06-03 8:00\n", *words))
+        self.assertEqual((row["from"], row["to"], row["verdict"]), ("MIL", "AIR", "later"))
+
+    def test_late_and_worst(self) -> None:
+        words = [f"{OLD_TOWN}/feed", "--without", "b200", "--delays", f"{OLD_TOWN}/delays.csv", "--late", "60"]
+        (row,) = rows_of(call("compare", "from,to,at\nMIL,AIR,2024-06-03T08:00:00\n", *words))
+        self.assertEqual((row["first_worst"], row["first_late"]), ("2024-06-03T09:21:00", "0.240000"))
+        self.assertEqual((row["second_worst"], row["second_late"]), ("2024-06-03T09:21:00", "1.000000"))
+
+    def test_a_summary(self) -> None:
+        words = [f"{OLD_TOWN}/feed", "--without", "b200", "--delays", f"{OLD_TOWN}/delays.csv", "--summary"]
+        ran = call("compare", JOURNEY, *words)
+        self.prints(ran, "2 questions\n  later: 1, by 12 min 48 s on average and 12 min 48 s at most (MIL to AIR at 2024-06-03T08:00:00)\n"
+                         "  same: 1\n")
+
     def test_refusals(self) -> None:
         words = [f"{CONNECTIONS}/change.csv", "--delays", f"{CONNECTIONS}/delays.csv"]
-        for text, more, why in (("to,at\n", ["--without", "r1"], "no column from"), ("from,to,at\nA,T,8:00\n", ["--without", "r1"], "line 2: 8:00"),
-                                (QUESTION, ["--without", "r9"], "change.csv has no run r9"), (QUESTION, [f"{self.room}/none"], "cut file is missing"),
-                                ("from,to,at\nA,X,2024-06-03T08:00:00\n", ["--without", "r2"], "unknown stop of --to"),
-                                ("from,to,at,until\nA,T,2024-06-03T08:00:00,2024-06-03T07:00:00\n", ["--without", "r2"], "until is before at"),
+        for text, more, why in (("to,at\n", ["--without", "r1"], "no column from"),
+                                (QUESTION, ["--without", "r9"], "change.csv has no run r9"), (QUESTION, [f"{self.room}/none"], "there is no "),
                                 (QUESTION, ["--without", "r1", "--questions", f"{self.room}/none"], "No such file")):
             self.is_refused(call("compare", text, *words, *more), why)
         self.is_refused(call("compare", JOURNEY, f"{OLD_TOWN}/feed", "--without", "x", "--delays", f"{OLD_TOWN}/delays.csv"), "no trip x")
