@@ -201,6 +201,14 @@ def kept_stops(folder: str, wanted: set[str]) -> dict[str, list[str]]:
     return {trip: [stop for _, stop in sorted(of)] for trip, of in rows.items()}
 
 
+def served_places(folder: str) -> set[str]:
+    """The places of the stops at which trips stop at a time."""
+    places = {stop.id: stop.place for stop in stops_of(folder)}
+    table = table_of(folder, "stop_times.txt", ["stop_id", "arrival_time", "departure_time"])
+    served = {stop for _, (stop, arrival, departure) in table if arrival or departure}
+    return {places[stop] for stop in served if stop in places}
+
+
 def links(feed: str) -> list[tuple[str, str, str]]:
     """The walks of transfers.txt: from one place to another, with their seconds."""
     if not has_table(feed, "transfers.txt"):
