@@ -21,7 +21,7 @@ install: prefix
 	install -d "$$ROOT/bin" "$$ROOT/lib/meat/desk" "$$ROOT/share/man/man1" "$$ROOT/share/bash-completion/completions" \
 	    "$$ROOT/share/zsh/site-functions" "$$ROOT/share/fish/vendor_completions.d"
 	install -m 755 out/meat $(addprefix scripts/,$(SCRIPTS)) "$$ROOT/lib/meat"
-	install -m 644 scripts/hint.sh "$$ROOT/lib/meat"
+	install -m 644 scripts/hint.sh scripts/meat.py "$$ROOT/lib/meat"
 	install -m 644 $(addprefix scripts/desk/,$(MODULES)) "$$ROOT/lib/meat/desk"
 	install -m 755 scripts/installed "$$ROOT/bin/meat"
 	for name in $(SCRIPTS); do ln -sf "../lib/meat/$$name" "$$ROOT/bin/meat-$$name" || exit; done
@@ -35,7 +35,7 @@ uninstall: prefix
 	rm -f "$$ROOT/bin/meat" "$$ROOT/share/man/man1/meat.1" "$$ROOT/share/bash-completion/completions/meat" \
 	    "$$ROOT/share/zsh/site-functions/_meat" "$$ROOT/share/fish/vendor_completions.d/meat.fish"
 	for name in $(SCRIPTS); do rm -f "$$ROOT/bin/meat-$$name" || exit; done
-	for name in meat hint.sh $(SCRIPTS) $(addprefix desk/,$(MODULES)); do rm -f "$$ROOT/lib/meat/$$name" || exit; done
+	for name in meat hint.sh meat.py $(SCRIPTS) $(addprefix desk/,$(MODULES)); do rm -f "$$ROOT/lib/meat/$$name" || exit; done
 	@[ ! -d "$$ROOT/lib/meat/desk" ] || rmdir "$$ROOT/lib/meat/desk" 2>/dev/null || true
 	@[ ! -d "$$ROOT/lib/meat" ] || rmdir "$$ROOT/lib/meat" 2>/dev/null || echo "$$ROOT/lib/meat has other files, and stays"
 
