@@ -1,6 +1,7 @@
 mod Common
 pub mod FaultLemmas
 pub mod FirstLemmas
+pub mod FormLemmas
 pub mod IdLemmas
 pub mod KeyLemmas
 pub mod KeyTexts

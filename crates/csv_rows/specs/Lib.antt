@@ -3,6 +3,7 @@ pub mod Fields
 pub mod FaultTexts
 pub mod FeedTables
 pub mod First
+pub mod Forms
 pub mod Ids
 pub mod Keys
 pub mod Limits

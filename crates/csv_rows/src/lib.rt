@@ -23,7 +23,9 @@ pub use fault_texts::{at_line, at_line_of, too_many_rows};
 pub use feed_tables::{FeedFault, Table};
 pub use ids::{Ids, read_ids};
 pub use keys::{Key, before_at, first_repeat, in_order, sooner};
-pub use laws::standard_numbers;
+pub use laws::{
+    a_mark_is_no_record, a_text_is_read_as_its_records, forms_are_one_table, standard_numbers,
+};
 pub use limits::Limits;
 pub use names::{read_name, read_text};
 pub use row_faults::{check_columns, lack};
