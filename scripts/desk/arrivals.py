@@ -18,6 +18,8 @@ from .feeds import Table, routes_of, trip_of_run, trips_of
 from .plans import Leg, Moment, Plan, Refused, seconds_between
 
 WHOLE = 10_000
+# The minutes of a group of arrivals, the first of these that make few enough groups.
+STEPS = (1, 2, 5, 10, 15, 30, 60, 120, 240, 480)
 
 
 class Group(NamedTuple):
@@ -103,10 +105,11 @@ class RideKinds:
 @dataclass
 class Course:
     """What may come of a plan: the chance of each arrival at the target, that each ride is taken, and of being at a place at a
-    moment for which the plan has no row. A plan for these files has no such place."""
+    moment for which the plan has no row; and the latest arrival of each ride. A plan for these files has no such place."""
     arrivals: dict[Moment, Fraction]
     rides: dict[Leg, Fraction]
     stranded: dict[tuple[Moment, str], Fraction]
+    ends: dict[Leg, Moment]
 
     def mean(self, start: Moment) -> Fraction:
         """The mean of the arrivals, in seconds after a moment."""
@@ -122,14 +125,28 @@ class Course:
         return max(self.arrivals), reached
 
 
+def bars_of(course: Course, most: int) -> list[tuple[Moment, Fraction]]:
+    """The arrivals in at most so many groups of equal length, each with its last moment and its chance."""
+    first, last = min(course.arrivals), max(course.arrivals)
+    for minutes in STEPS:
+        step = datetime.timedelta(minutes=minutes)
+        groups: dict[int, tuple[Moment, Fraction]] = {}
+        for moment, chance in course.arrivals.items():
+            number = (moment - first) // step
+            groups[number] = moment, groups.get(number, (moment, Fraction(0)))[1] + chance
+        if len(groups) <= most:
+            return list(groups.values())
+    return [(last, sum(course.arrivals.values(), Fraction(0)))]
+
+
 def course_of(plan: Plan, delays: Delays, kinds: RideKinds) -> Course:
     """What may come of a plan, if each ride is late by one of its delays, independently of the others.
 
     A traveller who is at a place at a moment takes the first row that they are in time for. Departures come after the arrivals
     that lead to them, so arrivals are processed by rising moment."""
-    course = Course({}, defaultdict(Fraction), {})
+    course = Course({}, defaultdict(Fraction), {}, {})
     if plan.first is None:
-        return Course({plan.start: Fraction(1)}, {}, {})
+        return Course({plan.start: Fraction(1)}, {}, {}, {})
     chances: dict[tuple[Moment, str], Fraction] = defaultdict(Fraction)
     arrivals: dict[Moment, Fraction] = defaultdict(Fraction)
     waiting: list[tuple[Moment, str]] = []
@@ -137,7 +154,9 @@ def course_of(plan: Plan, delays: Delays, kinds: RideKinds) -> Course:
     while taken or waiting:
         for leg, chance in taken:
             course.rides[leg] += chance
-            for delay, share in delays.of(*kinds.of(leg.run, leg.exit_step), leg.arrival):
+            outcomes = delays.of(*kinds.of(leg.run, leg.exit_step), leg.arrival)
+            course.ends[leg] = leg.arrival + datetime.timedelta(seconds=max(delay for delay, _ in outcomes))
+            for delay, share in outcomes:
                 state = leg.arrival + datetime.timedelta(seconds=delay), leg.exit
                 if state not in chances:
                     heapq.heappush(waiting, state)

@@ -4,7 +4,8 @@ from __future__ import annotations
 
 import html
 
-from .cards import Card, Name, Part, Step, Words, joined, share
+from .cards import Card, Name, Part, PlanCard, Step, Words, joined, share
+from .pictures import picture_of
 
 STYLE = """
 :root { color-scheme: light dark; }
@@ -16,6 +17,16 @@ p { margin: .2rem 0; }
 table { width: 100%; border-collapse: collapse; }
 th, td { text-align: left; vertical-align: top; padding: .35rem .5rem .35rem 0; border-bottom: 1px solid #bbb; }
 th { font-size: .9rem; font-weight: 600; }
+svg.picture { width: 100%; height: auto; margin: .8rem 0; fill: currentColor; stroke: none; font: 11px system-ui, sans-serif; }
+svg .grid, svg .place { stroke: currentColor; stroke-width: .5; opacity: .3; fill: none; }
+svg .place { opacity: .8; }
+svg .way, svg .rescue { fill: none; stroke-linecap: round; }
+svg .rescue { opacity: .55; }
+svg .late { opacity: .14; }
+svg .by { stroke: currentColor; stroke-width: 1.2; }
+svg .bar { opacity: .6; }
+svg .clock, svg .count, svg .label { text-anchor: middle; }
+svg .name { text-anchor: end; font-size: 12px; }
 tr.rare td { font-size: .8rem; opacity: .75; }
 td.time { white-space: nowrap; font-variant-numeric: tabular-nums; }
 footer { margin-top: 1.5rem; font-size: .95rem; }
@@ -58,6 +69,8 @@ def as_page(card: Card) -> str:
              '<meta name="viewport" content="width=device-width, initial-scale=1">', f"<title>{html.escape(title)}</title>",
              f"<style>{STYLE}</style>", "</head>", "<body>", "<main>", f"<h1>{marked(card.title())}</h1>"]
     parts += [f"<p>{html.escape(line)}</p>" for line in card.head()]
+    picture = picture_of(card, card.course) if isinstance(card, PlanCard) and card.course else None
+    parts += [picture] if picture else []
     for part in card.parts():
         parts += ["<section>", f"<h2>{marked(part.heading)}</h2>", *table_of(part), "</section>"]
     parts.append("</main>")

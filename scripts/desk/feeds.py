@@ -161,11 +161,12 @@ class Trip:
 
 @dataclass(frozen=True)
 class Route:
-    """A route as travellers know it, and its type."""
+    """A route as travellers know it, its type, and its colour as six hexadecimal digits, if it has one."""
     id: str
     kind: str
     short_name: str
     long_name: str
+    color: str = ""
 
     def vehicle(self) -> str:
         kind = int(self.kind) if self.kind.isascii() and self.kind.isdigit() else -1
@@ -187,7 +188,7 @@ def trips_of(folder: str, wanted: Optional[set[str]] = None) -> dict[str, Trip]:
 
 def routes_of(folder: str, wanted: Optional[set[str]] = None) -> dict[str, Route]:
     """The routes with these ids, or all routes."""
-    table = table_of(folder, "routes.txt", ["route_id", "route_type"], ["route_short_name", "route_long_name"])
+    table = table_of(folder, "routes.txt", ["route_id", "route_type"], ["route_short_name", "route_long_name", "route_color"])
     return {row[0]: Route(*row) for _, row in table if wanted is None or row[0] in wanted}
 
 

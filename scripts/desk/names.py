@@ -56,6 +56,11 @@ class Names:
         trip = self.trips.get(trip_of_run(run))
         return line_of(trip, self.routes.get(trip.route)) if trip else plain(run)
 
+    def route(self, run: str) -> Optional[Route]:
+        """The route of a run, if the feed is known."""
+        trip = self.trips.get(trip_of_run(run))
+        return self.routes.get(trip.route) if trip else None
+
     def platform(self, run: str, row: int) -> str:
         """The platform at which a run stops in a kept row of its trip, empty if the feed gives none."""
         stops = self.ridden.get(trip_of_run(run), [])
