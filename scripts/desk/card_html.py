@@ -7,6 +7,8 @@ import html
 from .cards import Card, Name, Part, PlanCard, Step, Words, joined, share
 from .pictures import picture_of
 
+# The heading of the chances of rows.
+CHANCE = "of 100 cases in"
 STYLE = """
 :root { color-scheme: light dark; }
 body { font: 1.05rem/1.45 system-ui, sans-serif; max-width: 44rem; margin: 0 auto; padding: 1rem; overflow-wrap: anywhere;
@@ -31,7 +33,14 @@ tr.rare td { font-size: .8rem; opacity: .75; }
 td.time { white-space: nowrap; font-variant-numeric: tabular-nums; }
 footer { margin-top: 1.5rem; font-size: .95rem; }
 @media (prefers-color-scheme: dark) { body { color: #eee; background: #111; } th, td { border-color: #555; } }
-@media (max-width: 30rem) { td.time { white-space: normal; } }
+.wide { overflow-x: auto; }
+.wide svg { min-width: 36rem; }
+@media (max-width: 30rem) {
+  thead { position: absolute; left: -99rem; }
+  tr { display: block; border-bottom: 1px solid #bbb; padding: .35rem 0; }
+  td { display: block; border: 0; padding: 0 0 0 10rem; text-indent: -10rem; }
+  td::before { content: attr(data-head); display: inline-block; width: 10rem; text-indent: 0; font-size: .85rem; font-weight: 600; }
+}
 @media print {
   body { font-size: 11pt; padding: 0; color: #000; background: #fff; }
   tr { break-inside: avoid; }
@@ -45,21 +54,27 @@ def marked(words: Words) -> str:
     return "".join(f"<bdi>{html.escape(word.text)}</bdi>" if isinstance(word, Name) else html.escape(word) for word in words)
 
 
-def row_of(step: Step, has_until: bool) -> str:
-    until = f'<td class="time">{html.escape(step.until)}</td>' if has_until else ""
-    chance = f'<td class="time">{share(step.chance)}</td>' if step.chance is not None else ""
-    return (f'<tr{" class=rare" if step.is_rare() else ""}>{until}<td>{marked(step.ride)}</td>'
-            f'<td class="time">{html.escape(step.departure)}</td><td>{marked(step.target)}</td>'
-            f'<td class="time">{html.escape(step.arrival)}</td>{chance}</tr>')
+def cell(head: str, text: str, kind: str = "") -> str:
+    """A cell, with the heading of its column, which a narrow page shows beside it."""
+    return f'<td{kind} data-head="{html.escape(head)}">{text}</td>'
+
+
+def row_of(step: Step, heads: list[str]) -> str:
+    time = ' class="time"'
+    cells = [(marked(step.ride), ""), (html.escape(step.departure), time), (marked(step.target), ""), (html.escape(step.arrival), time)]
+    if step.until:
+        cells.insert(0, (html.escape(step.until), time))
+    if step.chance is not None:
+        cells.append((share(step.chance), time))
+    return f'<tr{" class=rare" if step.is_rare() else ""}>{"".join(cell(head, *of) for head, of in zip(heads, cells))}</tr>'
 
 
 def table_of(part: Part) -> list[str]:
-    has_until = any(step.until for step in part.steps)
-    heads = [*(part.columns if has_until else part.columns[1:])]
+    heads = [*(part.columns if any(step.until for step in part.steps) else part.columns[1:])]
     if any(step.chance is not None for step in part.steps):
-        heads.append("of 100 cases in")
+        heads.append(CHANCE)
     head = "".join(f'<th scope="col">{html.escape(text)}</th>' for text in heads)
-    rows = [row_of(step, has_until) for step in part.steps]
+    rows = [row_of(step, heads) for step in part.steps]
     return ["<table>", f"<thead><tr>{head}</tr></thead>", "<tbody>", *rows, "</tbody>", "</table>"]
 
 
@@ -70,7 +85,7 @@ def as_page(card: Card) -> str:
              f"<style>{STYLE}</style>", "</head>", "<body>", "<main>", f"<h1>{marked(card.title())}</h1>"]
     parts += [f"<p>{html.escape(line)}</p>" for line in card.head()]
     picture = picture_of(card, card.course) if isinstance(card, PlanCard) and card.course else None
-    parts += [picture] if picture else []
+    parts += [f'<div class="wide">{picture}</div>'] if picture else []
     for part in card.parts():
         parts += ["<section>", f"<h2>{marked(part.heading)}</h2>", *table_of(part), "</section>"]
     parts.append("</main>")

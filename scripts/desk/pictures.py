@@ -108,7 +108,7 @@ def ride_lines(frame: Frame, card: PlanCard, course: Course, legs: list[Leg]) ->
                f"<title>{escaped(words)}</title></path>")
         if leg in way:
             label = card.names.run(leg.run).partition(" towards ")[0].partition(" to ")[0]
-            yield f'<text class="label" x="{(x + due) / 2:.1f}" y="{(y + end) / 2 - 5:.1f}">{escaped(label[:16])}</text>'
+            yield f'<text class="label" x="{(x + due) / 2 + 14:.1f}" y="{(y + end) / 2 - 9:.1f}">{escaped(label[:16])}</text>'
         if leg is not card.plan.first:
             by = frame.across(leg.by)
             yield f'<path class="by" d="M{by} {y - 5}V{y + 5}"><title>catch by {escaped(card.clock.time(leg.by))}</title></path>'
