@@ -3,6 +3,7 @@
 from __future__ import annotations
 
 import argparse
+import codecs
 import errno
 import os
 import shutil
@@ -19,12 +20,15 @@ FILES = ("--cut", "--delays", "--graph", "--proof")
 FOLDERS = ("--feed",)
 
 
-def read_input() -> str:
-    """The text on standard input."""
+def read_input(encoding: str = "") -> str:
+    """The text on standard input, in UTF-8 or, if it says so by its first bytes, in UTF-16; or in a given encoding."""
+    data = sys.stdin.buffer.read()
     try:
-        return sys.stdin.buffer.read().decode("utf-8-sig")
+        return data.decode(encoding or ("utf-16" if data.startswith((codecs.BOM_UTF16_LE, codecs.BOM_UTF16_BE)) else "utf-8-sig"))
     except UnicodeDecodeError:
-        raise Refused("the input is not UTF-8") from None
+        raise Refused(f"the input is not {encoding or 'UTF-8: save it as CSV UTF-8'}") from None
+    except LookupError:
+        raise Refused(f"there is no encoding {encoding}") from None
 
 
 def show(text: str) -> None:

@@ -67,9 +67,31 @@ class Services:
                 yield date
 
 
+def repeats_of(folder: str) -> dict[str, int]:
+    """How often each trip with rows in frequencies.txt runs on a day."""
+    counts: Counter[str] = Counter()
+    if has_table(folder, "frequencies.txt"):
+        columns = ["trip_id", "start_time", "end_time", "headway_secs"]
+        for line, (trip, start, end, headway) in table_of(folder, "frequencies.txt", columns):
+            try:
+                counts[trip] += max(0, -(-(seconds_of(end) - seconds_of(start)) // int(headway)))
+            except (ValueError, ZeroDivisionError):
+                raise Refused(f"frequencies.txt line {line}: bad start_time, end_time or headway_secs") from None
+    return counts
+
+
+def seconds_of(time: str) -> int:
+    """The seconds of a time H:MM:SS."""
+    hours, minutes, seconds = time.split(":")
+    return 3600 * int(hours) + 60 * int(minutes) + int(seconds)
+
+
 def trips_by_service(folder: str) -> Counter[str]:
-    """The number of trips of each service."""
-    return Counter(service for _, (_, service) in table_of(folder, "trips.txt", ["trip_id", "service_id"]))
+    """The number of trips of each service; a trip that repeats counts as often as it runs on a day."""
+    counts, repeats = Counter[str](), repeats_of(folder)
+    for _, (trip, service) in table_of(folder, "trips.txt", ["trip_id", "service_id"]):
+        counts[service] += repeats.get(trip, 1)
+    return counts
 
 
 def trips_by_day(services: Services, trips: Counter[str]) -> dict[Date, int]:

@@ -2,6 +2,7 @@
 
 from __future__ import annotations
 
+import codecs
 import csv
 import os
 import sys
@@ -90,6 +91,22 @@ def of_quotes(folder: str) -> Counter[str]:
         else:
             counts[f"quoted fields in {name} with text after the closing quote"] += 1
     return counts
+
+
+def other_encodings(folder: str) -> Iterator[str]:
+    """The tables that are not UTF-8: the planner takes ids byte by byte, but their names are shown wrongly."""
+    for name in TABLES:
+        decoder = codecs.getincrementaldecoder("utf-8")()
+        try:
+            if has_table(folder, name):
+                with open(os.path.join(folder, name), "rb") as file:
+                    while part := file.read(1 << 20):
+                        decoder.decode(part)
+                    decoder.decode(b"", final=True)
+        except UnicodeDecodeError:
+            yield name
+        except OSError as fault:
+            raise Refused(f"cannot read {name}: {reason_of(fault)}") from None
 
 
 def open_quotes(folder: str) -> Iterator[str]:

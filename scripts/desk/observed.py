@@ -17,9 +17,13 @@ from .plans import Refused
 MOST_DELAY = 86_400
 MOST_ROUTE_TYPE = 65_534
 DAY = 86_400
+# Nobody is early by more than this; a date is wrong then.
+MOST_EARLY = 3_600
+# If so many observations are late by less than a minute, they are probably in minutes.
+FEW, MINUTE = 50, 60
 # The columns of a delay file that, with its class, name a group.
 GROUP_COLUMNS = ("route_id", "hour")
-NUMBER = re.compile(r"-?\d{1,9}(\.\d{1,9})?", re.ASCII)
+NUMBER = re.compile(r"-?\d{1,9}([.,]\d{1,9})?", re.ASCII)
 TIME = re.compile(r"(\d{1,3}):(\d\d)(?::(\d\d)(?:\.\d+)?)?", re.ASCII)
 MOMENT = re.compile(r"(\d{4})-(\d\d)-(\d\d)[T ](\d\d):(\d\d)(?::(\d\d)(?:\.\d+)?)?(Z|[+-]\d\d:?\d\d)?", re.ASCII)
 DOTTED = re.compile(r"(\d{1,2})\.(\d{1,2})\.(\d{4}) (\d\d):(\d\d)(?::(\d\d)(?:\.\d+)?)?", re.ASCII)
@@ -41,6 +45,7 @@ class Columns:
     due: Optional[str]
     actual: Optional[str]
     feed: Optional[str]
+    unit: int = 1
 
     def needed(self) -> list[str]:
         times = [self.late] if self.due is None or self.actual is None else [self.due, self.actual]
@@ -86,9 +91,9 @@ def seconds_of(*parts: Optional[str]) -> int:
     return int((datetime.datetime(year, month, day, hour, minute, second) - datetime.datetime(1970, 1, 1)).total_seconds())
 
 
-def whole_of(text: str) -> int:
-    """A number of seconds, rounded up, so that no delay counts as less than it was."""
-    number = Fraction(text)
+def whole_of(text: str, unit: int = 1) -> int:
+    """A number of seconds, given in a unit of so many, rounded up, so that no delay counts as less than it was."""
+    number = Fraction(text.replace(",", ".")) * unit
     return -(-number.numerator // number.denominator)
 
 
@@ -171,7 +176,9 @@ class Observations:
             text, hour = row[columns.late], ""
             if not NUMBER.fullmatch(text):
                 raise Bad(f"{text!r} is not a number of seconds")
-            late = whole_of(text)
+            late = whole_of(text, columns.unit)
+        if late < -MOST_EARLY:
+            raise Bad(f"it is early by {-late} seconds, more than an hour")
         if late > MOST_DELAY:
             raise Bad(f"{late} seconds are more than a day")
         kind, route = row.get("route_type", ""), row.get("route_id", "")
@@ -196,6 +203,11 @@ class Observations:
         self.found = [observation for at, observation in enumerate(self.found) if at not in gone]
         self.left_out = count
         return left_out
+
+    def are_minutes(self) -> bool:
+        """Whether a column of seconds looks like one of minutes."""
+        return (self.columns_read.due is None and self.columns_read.unit == 1 and len(self.found) >= FEW
+                and 0 < max(observation.late for observation in self.found) < MINUTE)
 
     def summary(self, groups: int) -> str:
         """A summary in one line."""
