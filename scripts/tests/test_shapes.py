@@ -39,15 +39,23 @@ def added(table: str, text: str) -> Change:
 
 
 def without(table: str) -> Change:
-    return lambda tables: tables.pop(table) and None
+    def change(tables: Tables) -> None:
+        del tables[table]
+    return change
+
+
+def emptied(table: str, lines: int) -> Change:
+    """Only the first lines of a table."""
+    def change(tables: Tables) -> None:
+        tables[table] = "".join(line + "\n" for line in tables[table].split("\n")[:lines])
+    return change
 
 
 CALENDAR = "service_id,monday,tuesday,wednesday,thursday,friday,saturday,sunday,start_date,end_date\n"
 SHAPES: list[Change] = [
     lambda tables: None,
     *(without(table) for table in ("stops", "routes", "trips", "stop_times", "transfers")),
-    *(lambda tables, table=table: tables.update({table: ""}) for table in ("stops", "routes", "trips", "stop_times", "transfers")),
-    *(lambda tables, table=table: tables.update({table: tables[table].split("\n")[0] + "\n"}) for table in TOWN),
+    *(emptied(table, lines) for table in TOWN for lines in (0, 1)),
     *(swapped("routes", "T4,0,", f"T4,{kind},") for kind in ("Tram", "", "99999", "-1", "0.0", "００")),
     swapped("stops", "stop_id,", "id,"), swapped("stop_times", "stop_sequence", "seq"), swapped("trips", "service_id", "service"),
     swapped("stop_times", "08:08:00,08:08:00", "8:8,8:8"), swapped("stop_times", "08:08:00,08:08:00", "07:08:00,07:08:00"),
@@ -103,7 +111,7 @@ class Shapes(Case):
 
     def test_other_encodings(self) -> None:
         for encoding in ("latin-1", "utf-16"):
-            feed = self.feed(encoding, **{**TOWN, "stops": b""})
+            feed = self.feed(encoding, **TOWN)
             self.write(f"{encoding}/stops.txt", TOWN["stops"].encode(encoding))
             for ran in self.scripts(feed, encoding):
                 self.assertNotIn("Traceback", ran.errors)
