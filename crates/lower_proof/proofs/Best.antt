@@ -2,11 +2,11 @@
 use Rattle.lower_proof.proofs.Common.{◌≡◌, ◌≢◌, ℕ, ◌+◌, ◌*◌, ◌/◌, ◌^◌, ◌≤◌, List, [], ◌∷◌, Option, Some, None, arith, refl, map, length, sum_by, inl, inr, mul_assoc, mul-add, mul-le-mul_left}
 use Rattle.lower_proof.proofs.Common.{nat_tests, Outcome, Query, NetworkModel, to_of, arr_of, outcomes, IsValid, count, connection, dep_of, IsLeg, IsBoardable, IsBoardableAtStart, IsSafe, AreSafe}
 use Rattle.lower_proof.proofs.Common.{IsSafeFor, weighted, bound_of, IsLeastOf, Offers, arrived_by, IsLeastValue, IsLeastAt, AreLeast, HasValueUpTo, IsAccepted, IsLeastAtStart, IsVia, IsTight}
-use Rattle.lower_proof.proofs.Common.{cases_eq, cases_lt, sum_by-cons, forward}
+use Rattle.lower_proof.proofs.Common.{cases_Bool, cases_eq, cases_lt, both_ways, sum_by-cons, forward, ◌<◌, IsTrue, get_or_past}
 use Rattle.plan_model.specs.Tree.{Tree, Kids, Done, Ride, Stuck, Nil, Kid}
 use Rattle.plan_model.specs.DelayRows.{EachKid, IsValidRow}
 use Rattle.plan_model.specs.Expected.{Below, arrival as arrival_of, Covers}
-use Rattle.lower_proof.specs.Promises.{IsSound, AreSoundValues, IsGreatestCertificate, IsBestCertificate}
+use Rattle.lower_proof.specs.Promises.{IsSound, AreSoundValues, IsGreatestCertificate, IsNowhereAbove, IsBestCertificate}
 use Rattle.plan_model.specs.Bounds.{nanos_per_second}
 use Rattle.plan_model.proofs.Laws.{below_less, covers_more}
 use Rattle.interval_fixed.proofs.Sums.{mean_below, mean_covers}
@@ -246,6 +246,32 @@ module _ (n : NetworkModel) (valid : IsValid n) (q : Query) (values others : Lis
         (least_at_start n others q.source.0 q.start.0)
   ]
 
+  -- and so is a value at a connection
+  up_to_more : (o : Option ℕ) (v w : ℕ) → v ≤ w → HasValueUpTo o v → HasValueUpTo o w
+  up_to_more None v w less has = absurd has
+  up_to_more (Some u) v w less has = omega (arith, less, has)
+
+  lesser_boarded : (c v : ℕ) → c < count n → IsTrue (connection n c).can_board → bound_of values c ≡ Some v → HasValueUpTo (bound_of others c) v
+  lesser_boarded c v there board is =
+      let (j, leg, via) = least_is (λ v. (j : ℕ) × IsLeg n c j × IsVia n q values j v) (bound_of values c) v (tight.boarded c there board) is in
+      let all = lesser_all (count n) (lesser_at (count n)) (to_of n j) (arr_of n j) (after_le n (arr_of n j)) (outcomes n j) via.least via.are_least in
+      let less = lesser_sum (outcomes n j) all.0 via.least all.2 in
+      let mean = weighted (outcomes n j) all.0 / 10000 in
+      let ride : IsVia n q others j mean = record { leave = via.leave; least = all.0; are_least = all.1; mean = refl } in
+      up_to_more (bound_of others c) mean v (omega (arith, less, via.mean)) (accepted c there board j mean leg ride)
+
+  never_valued : (c v : ℕ) → bound_of values c ≡ None → bound_of values c ≡ Some v → HasValueUpTo (bound_of others c) v
+  never_valued c v none is = absurd (cc)
+
+  pub lesser_values : IsNowhereAbove values others
+  lesser_values c v is = elim (cases_lt c (count n)) [
+    | inl there ↦ elim (cases_Bool (connection n c).can_board) [
+      | inl board ↦ lesser_boarded c v there board is
+      | inr closed ↦ never_valued c v (tight.others c there (λ board. both_ways (connection n c).can_board closed board)) is
+    ]
+    | inr past ↦ never_valued c v (get_or_past values c None (rw tight.as_many past)) is
+  ]
+
 pub greatest : (n : NetworkModel) → IsValid n → (q : Query) (values : List (Option ℕ)) → IsTight n q values → (v : ℕ) → IsLeastAtStart n q values (Some v) → IsGreatestCertificate n q v
 greatest n valid q values tight v least others w accepted other_least =
     let (u, is, less) = lesser_start n valid q values others tight accepted v least in
@@ -284,4 +310,5 @@ best n valid q values tight = record {
       let (v, least, below) = sound n q values (tight_accepted n q values tight) tree safe in
       (v, least, greatest n valid q values tight v least, near_start n valid q values tight v least);
   none = λ never. never_least n valid q values tight never;
+  each = λ others accepted. lesser_values n valid q values others tight accepted;
 }
