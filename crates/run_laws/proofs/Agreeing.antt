@@ -1,4 +1,4 @@
--- Two runs agree.
+-- What two runs of questions about a journey agree in.
 use Rattle.run_laws.proofs.Common.{◌≡◌, ℕ, ◌≤◌, List, length, Option, None, Some, Result, Ok, Err, arith, ◌↔◌, inl, inr, refl, sym, subst, ap, ◌∙◌, Appends, FileMap, file_at, Limits, Moment}
 use Rattle.run_laws.proofs.Common.{Query, IsLeastWorst, PlanGraph, JobModel, JourneyModel, AskModel, Ask, Safe, Expand, Plan, Certify, CheckProof, CheckGraph, Punctual, Departures, Latest, job_of}
 use Rattle.run_laws.proofs.Common.{Fault, Problem, status_of, HasOneProblem, IsProblem, Findings, findings_of, Head, graph_of, NetworkModel, IsValid, graph_in, graph_as, trip_by, AnswersPlan}
@@ -16,13 +16,12 @@ use Rattle.plan_model.specs.NameLists.{NameLists}
 use Rattle.meat_engine.specs.Received.{Outcome}
 use Rattle.meat_engine.proofs.Undisturbed.{fails as job_fails}
 use Rattle.run_laws.specs.Pairs.{AskBoth, IsSaved, OrStatus9, PlanIsAccepted, PlanIsReplayed, IsReplayed, PunctualIsAccepted, PunctualIsReplayed, CertificateIsAccepted, LeaveAlike, LeaveByWorst, NeverLeave, SearchAlike, ShareQuery}
-use Rattle.run_laws.specs.Pairs.{CertificateIsWithin, ShareStrategy, PromiseIsSure, WorstIsKept, LaterIsNoWorse, LatestIsOfLastRow, FaultIsFirst, Agree}
+use Rattle.run_laws.specs.Pairs.{CertificateIsWithin, ShareStrategy, PromiseIsSure, WorstIsKept, LaterIsNoWorse, LatestIsOfLastRow, FaultIsFirst}
 use Rattle.late_chance.proofs.Rounded.{no_chance}
 use Rattle.run_laws.proofs.Asks.{answer_of, outcome_of}
 use Rattle.run_laws.proofs.BySafety.{one_status, never_latest, by_safety, asked_by, one_asked}
 use Rattle.run_laws.proofs.Certified.{printed_certificate, value_within}
 use Rattle.run_laws.proofs.Departing.{alike, by_worst}
-use Rattle.run_laws.proofs.Ends.{one_end, forms_end}
 use Rattle.run_laws.proofs.OneFile.{one_ok, never_both}
 use Rattle.run_laws.proofs.Plans.{one_strategy}
 use Rattle.run_laws.specs.Printed.{KeepsUpperBound}
@@ -30,7 +29,7 @@ use Rattle.run_laws.proofs.Printed.{IsSafeText, IsAfterRow, of_plan, of_punctual
 use Rattle.run_laws.proofs.Queries.{in_one_query, worst_is}
 
 -- what was written after the same bytes was one text
-one_text : (old : Option (List ℕ)) (text other : List ℕ) (new : Option (List ℕ)) → IsSome old → Appends old new text → Appends old new other → text ≡ other
+pub one_text : (old : Option (List ℕ)) (text other : List ℕ) (new : Option (List ℕ)) → IsSome old → Appends old new text → Appends old new other → text ≡ other
 one_text None text other new known first second = absurd (cc)
 one_text (Some old) text other None known first second = absurd first
 one_text (Some old) text other (Some new) known first second = append_cancel_left old text other (sym first ∙ second)
@@ -62,7 +61,7 @@ no_fault_of (Some (fault.Unsafe p m)) is = absurd (cc)
 same_job : (words : List (List ℕ)) (j : JourneyModel) (a : AskModel) (wanted : JobModel) → job_of words ≡ Ok wanted → job_of words ≡ Ok (Ask j a) → wanted ≡ Ask j a
 same_job words j a wanted is also = cc
 
-one_some : {A : Type 0} (a b : A) (x : Option A) → x ≡ Some a → x ≡ Some b → a ≡ b
+pub one_some : {A : Type 0} (a b : A) (x : Option A) → x ≡ Some a → x ≡ Some b → a ≡ b
 one_some a b x is also = cc
 
 -- where the file has this graph, a replay by it ends as its walk does
@@ -74,7 +73,7 @@ walk_ends limits files start path late p status head graph reads (inl (h, g, at,
 walk_ends limits files start path late p status head graph reads (inr (fault, at, reported)) = grind (arith, never_both)
 
 -- the fault that is read of a text is its first
-abbrev FaultsAreReported : Type 0
+abbrev pub FaultsAreReported : Type 0
 FaultsAreReported =
     (n : NetworkModel) (names : NameLists) (source target start : ℕ) (text : List ℕ) (f : TextFault) → IsValid n
     → graph_of text n names source target start ≡ Err f ↔ IsFirstFaultOf n names source target start text f
@@ -92,72 +91,72 @@ module _ (limits : Limits) (files : FileMap) (r : RunModel) (run : IsRunWithin l
   module _ (j : JourneyModel) (a : AskModel) (asks : job_of r.words ≡ Ok (Ask j a)) where
     -- what it answered, where it has no fault
     pub record Answered : Type 0 where
-      text : List ℕ
-      written : Appends r.before.out.written r.after.out.written text
-      p : Problem
-      is_problem : IsProblem limits files j p
-      answers : AnswersAsk (Some files) limits j.start p a (findings_of r.report) text
+      pub text : List ℕ
+      pub written : Appends r.before.out.written r.after.out.written text
+      pub p : Problem
+      pub is_problem : IsProblem limits files j p
+      pub answers : AnswersAsk (Some files) limits j.start p a (findings_of r.report) text
 
-    answered : r.report.fault ≡ None → Answered
+    pub answered : r.report.fault ≡ None → Answered
     answered none =
         let (text, (wanted, is, answers), written) = answer_of limits files r run calm.reports none in
         let (p, has, there, reported) = subst (λ (w : JobModel). AnswersJob (Some files) limits w (findings_of r.report) text) (same_job r.words j a wanted is asks) answers in
         record { text = text; written = written; p = p; is_problem = there; answers = reported }
 
     -- its status, where its files have a problem
-    ends_so : (p : Problem) → IsProblem limits files j p → OrStatus9 r (EndsAsk limits files j.start p a r.report.status.0)
+    pub ends_so : (p : Problem) → IsProblem limits files j p → OrStatus9 r (EndsAsk limits files j.start p a r.report.status.0)
     ends_so p is = (run.complete calm.files_calm calm.out_calm).problem files j a p calm.reports asks is
 
-  no_fault : r.report.status.0 ≡ 0 → r.report.fault ≡ None
+  pub no_fault : r.report.status.0 ≡ 0 → r.report.fault ≡ None
   no_fault zero = no_fault_of r.report.fault (sym run.status ∙ zero)
 
-or_nine : {P Q : Type 0} (s : RunModel) → (P → Q) → OrStatus9 s P → OrStatus9 s Q
+pub or_nine : {P Q : Type 0} (s : RunModel) → (P → Q) → OrStatus9 s P → OrStatus9 s Q
 or_nine s f (inl holds) = inl (f holds)
 or_nine s f (inr nine) = inr nine
 
 module _ (limits : Limits) (r s : RunModel) (first : IsRunWithin limits r) (second : IsRunWithin limits s) (one_problem : HasOneProblem) where
   module _ (files others : FileMap) (j : JourneyModel) (a b : AskModel) (both : AskBoth files others j a b r s) where
-    abbrev First : Type 0
+    abbrev pub First : Type 0
     First = Answered limits files r first both.first j a both.first_asks
 
-    of_first : r.report.fault ≡ None → First
+    pub of_first : r.report.fault ≡ None → First
     of_first = answered limits files r first both.first j a both.first_asks
 
-    abbrev Second : Type 0
+    abbrev pub Second : Type 0
     Second = Answered limits others s second both.second j b both.second_asks
 
-    of_second : s.report.fault ≡ None → Second
+    pub of_second : s.report.fault ≡ None → Second
     of_second = answered limits others s second both.second j b both.second_asks
 
     -- the problem of the files of the first is that of the files of the second
-    other_problem : (p : Problem) → IsProblem limits files j p → IsProblem limits others j p
+    pub other_problem : (p : Problem) → IsProblem limits files j p → IsProblem limits others j p
     other_problem p is = own_problem limits files others j p both.agree is
 
     -- the answers of one run, over the problem of the other
-    second_over : (p : Problem) → IsProblem limits files j p → (w : Second) → AnswersAsk (Some others) limits j.start p b (findings_of s.report) w.text
+    pub second_over : (p : Problem) → IsProblem limits files j p → (w : Second) → AnswersAsk (Some others) limits j.start p b (findings_of s.report) w.text
     second_over p is w =
         subst (λ (q : Problem). AnswersAsk (Some others) limits j.start q b (findings_of s.report) w.text) (one_problem limits others j w.p p w.is_problem (other_problem p is)) w.answers
 
-    first_over : (p : Problem) → IsProblem limits files j p → (w : First) → AnswersAsk (Some files) limits j.start p a (findings_of r.report) w.text
+    pub first_over : (p : Problem) → IsProblem limits files j p → (w : First) → AnswersAsk (Some files) limits j.start p a (findings_of r.report) w.text
     first_over p is w = subst (λ (q : Problem). AnswersAsk (Some files) limits j.start q a (findings_of r.report) w.text) (one_problem limits files j w.p p w.is_problem is) w.answers
 
-    second_ends : (p : Problem) → IsProblem limits files j p → OrStatus9 s (EndsAsk limits others j.start p b s.report.status.0)
+    pub second_ends : (p : Problem) → IsProblem limits files j p → OrStatus9 s (EndsAsk limits others j.start p b s.report.status.0)
     second_ends p is = ends_so limits others s second both.second j b both.second_asks p (other_problem p is)
 
-    first_ends : (p : Problem) → IsProblem limits files j p → OrStatus9 r (EndsAsk limits files j.start p a r.report.status.0)
+    pub first_ends : (p : Problem) → IsProblem limits files j p → OrStatus9 r (EndsAsk limits files j.start p a r.report.status.0)
     first_ends = ends_so limits files r first both.first j a both.first_asks
 
-    second_none : s.report.status.0 ≡ 0 → s.report.fault ≡ None
+    pub second_none : s.report.status.0 ≡ 0 → s.report.fault ≡ None
     second_none = no_fault limits others s second both.second
 
     -- what the first wrote is what was kept, after its front
-    kept_text : (path front : List ℕ) (kept : IsSaved limits others path front r) (w : First) → front ++ kept.text ≡ w.text
+    pub kept_text : (path front : List ℕ) (kept : IsSaved limits others path front r) (w : First) → front ++ kept.text ≡ w.text
     kept_text path front kept w = one_text r.before.out.written (front ++ kept.text) w.text r.after.out.written kept.known kept.written w.written
 
-    there : (path : List ℕ) (kept : IsSaved limits others path [] r) (w : First) → file_at others path ≡ Some w.text
+    pub there : (path : List ℕ) (kept : IsSaved limits others path [] r) (w : First) → file_at others path ≡ Some w.text
     there path kept w = kept.there ∙ ap (λ (t : List ℕ). Some t) (kept_text path [] kept w)
 
-    small : (path : List ℕ) (kept : IsSaved limits others path [] r) (w : First) → length w.text ≤ limits.bytes
+    pub small : (path : List ℕ) (kept : IsSaved limits others path [] r) (w : First) → length w.text ≤ limits.bytes
     small path kept w = subst (λ (t : List ℕ). length t ≤ limits.bytes) (kept_text path [] kept w) kept.small
 
   -- a graph file whose strategy is safe
@@ -189,7 +188,7 @@ module _ (limits : Limits) (r s : RunModel) (first : IsRunWithin limits r) (seco
           arrives = λ lates. there_is_a_trip limits others j.start p text path own in_file fits lates;
         }
 
-  accepted : PlanIsAccepted limits r s
+  pub accepted : PlanIsAccepted limits r s
   accepted files others j alpha path both kept =
       let w = of_first files others j (Plan alpha) (CheckGraph path) both kept.no_fault in
       let in_file = there files others j (Plan alpha) (CheckGraph path) both path kept w in
@@ -197,7 +196,7 @@ module _ (limits : Limits) (r s : RunModel) (first : IsRunWithin limits r) (seco
       accepted_by files others j (Plan alpha) path w.text w.p w.is_problem (of_plan j.start alpha w.p (findings_of r.report) w.text w.answers) in_file fits both
       (KeepsUpperBound (findings_of r.report) (findings_of s.report)) (keeps_upper j.start alpha w.p (findings_of r.report) w.text w.answers (findings_of s.report))
 
-  replayed : PlanIsReplayed limits r s
+  pub replayed : PlanIsReplayed limits r s
   replayed files others j alpha path late both kept =
       let w = of_first files others j (Plan alpha) (Replay path late) both kept.no_fault in
       replayed_by files others j (Plan alpha) path w.text w.p w.is_problem (of_plan j.start alpha w.p (findings_of r.report) w.text w.answers)
@@ -224,7 +223,7 @@ module _ (limits : Limits) (r s : RunModel) (first : IsRunWithin limits r) (seco
     rest_small : length after_row.rest ≤ limits.bytes
     rest_small = subst (λ (t : List ℕ). length t ≤ limits.bytes) rest_is kept.small
 
-  punctual_accepted : PunctualIsAccepted limits r s
+  pub punctual_accepted : PunctualIsAccepted limits r s
   punctual_accepted files others j alpha promise path chance both is kept =
       let w = prints files others j alpha promise (CheckGraph path) path chance both is kept in
       let row = after_row files others j alpha promise (CheckGraph path) path chance both is kept in
@@ -233,14 +232,14 @@ module _ (limits : Limits) (r s : RunModel) (first : IsRunWithin limits r) (seco
       (r.report.bounds ≡ s.report.bounds)
       (λ line own. row.bounds_is ∙ ap (λ (b : Interval). Some b) (row.means ∙ sym own.scored.means) ∙ sym (ap (λ (f : Findings). f.bounds) own.found_is))
 
-  punctual_replayed : PunctualIsReplayed limits r s
+  pub punctual_replayed : PunctualIsReplayed limits r s
   punctual_replayed files others j alpha promise path late chance both is kept =
       let w = prints files others j alpha promise (Replay path late) path chance both is kept in
       let row = after_row files others j alpha promise (Replay path late) path chance both is kept in
       replayed_by files others j (Punctual alpha promise) path row.rest w.p w.is_problem row.safe_text
       (rest_there files others j alpha promise (Replay path late) path chance both is kept) (rest_small files others j alpha promise (Replay path late) path chance both is kept) late both
 
-  certified : CertificateIsAccepted limits r s
+  pub certified : CertificateIsAccepted limits r s
   certified files others j alpha path both kept =
       let w = of_first files others j (Certify alpha) (CheckProof path) both kept.no_fault in
       let in_file = there files others j (Certify alpha) (CheckProof path) both path kept w in
@@ -248,13 +247,13 @@ module _ (limits : Limits) (r s : RunModel) (first : IsRunWithin limits r) (seco
       or_nine s (printed_certificate limits others j.start alpha w.p (findings_of r.report) w.text path s.report.status.0 w.answers in_file fits)
       (second_ends files others j (Certify alpha) (CheckProof path) both w.p w.is_problem)
 
-  leave : LeaveAlike limits r s
+  pub leave : LeaveAlike limits r s
   leave files others j until last p both is =
       or_nine r (λ latest. or_nine s (alike p (query_until p j.start until) r.report.status.0 s.report.status.0 latest)
       (second_ends files others j (Latest until) (Departures until last) both p is))
       (first_ends files others j (Latest until) (Departures until last) both p is)
 
-  left_by_worst : LeaveByWorst r s
+  pub left_by_worst : LeaveByWorst r s
   left_by_worst files others j alpha until worst both none is =
       let w = of_first files others j (Safe alpha) (Latest until) both none in
       let (q, v, asked, (found, text)) = w.answers in
@@ -263,7 +262,7 @@ module _ (limits : Limits) (r s : RunModel) (first : IsRunWithin limits r) (seco
       or_nine s (by_worst w.p j.start until worst s.report.status.0 least) (second_ends files others j (Safe alpha) (Latest until) both w.p w.is_problem)
 
   -- over files of which `safe` finds that no strategy is safe
-  never_left : NeverLeave r s
+  pub never_left : NeverLeave r s
   never_left files others j alpha until both none =
       let outcome = subst (λ (f : Option Fault). Outcome (Some files) limits r.words r.report r.before.out.written r.after.out.written (WritesLine r.before.err r.after.err) f)
       none (outcome_of limits files r first both.first.reports) in
@@ -276,21 +275,21 @@ module _ (limits : Limits) (r s : RunModel) (first : IsRunWithin limits r) (seco
       by_cause known (inl (p, has, is, (named, fails))) =
           or_nine s (never_latest p j.start until s.report.status.0 fails.1) (second_ends files others j (Safe alpha) (Latest until) both p is)
 
-  search_alike : SearchAlike limits r s
+  pub search_alike : SearchAlike limits r s
   search_alike files others j alpha beta a b p both one two is =
       or_nine r (λ ends. or_nine s (λ also. one_status p j.start r.report.status.0 s.report.status.0
       (by_safety p j.start limits files alpha a r.report.status.0 one ends) (by_safety p j.start limits others beta b s.report.status.0 two also))
       (second_ends files others j a b both p is))
       (first_ends files others j a b both p is)
 
-  share_query : ShareQuery r s
+  pub share_query : ShareQuery r s
   share_query files others j alpha a b both one two well =
       let w = of_first files others j a b both well.first in
       let v = of_second files others j a b both well.second in
       one_asked w.p j.start alpha limits files others (findings_of r.report) (findings_of s.report) (asked_by w.p j.start limits files alpha a (findings_of r.report) w.text one w.answers)
       (asked_by w.p j.start limits others alpha b (findings_of s.report) v.text two (second_over files others j a b both w.p w.is_problem v))
 
-  within : CertificateIsWithin limits r s
+  pub within : CertificateIsWithin limits r s
   within files others j alpha p query bounds proof v both well is query_is bounds_is certificate_is least =
       let plans = first_over files others j (Plan alpha) (Certify alpha) both p is (of_first files others j (Plan alpha) (Certify alpha) both well.first) in
       let other = of_second files others j (Plan alpha) (Certify alpha) both well.second in
@@ -302,7 +301,7 @@ module _ (limits : Limits) (r s : RunModel) (first : IsRunWithin limits r) (seco
       let same_certificate = one_some one.proof proof s.report.proof (ap (λ (f : Findings). f.proof) one.found_is) certificate_is in
       value_within p.timetable.network query graph bounds proof.values v (rw (sym same_query, sym same_bounds) planned) (rw (sym same_query, sym same_certificate) one.best) least
 
-  strategy : ShareStrategy limits r s
+  pub strategy : ShareStrategy limits r s
   strategy files others j alpha p query rides places bounds other_bounds both well is query_is rides_is places_is bounds_is spans_is =
       let other = of_second files others j (Expand alpha) (Plan alpha) both well.second in
       let (q, worst, asked, (graph, span, found, expanded, text)) = first_over files others j (Expand alpha) (Plan alpha) both p is (of_first files others j (Expand alpha) (Plan alpha) both well.first) in
@@ -315,7 +314,7 @@ module _ (limits : Limits) (r s : RunModel) (first : IsRunWithin limits r) (seco
       let same_others = one_some spans other_bounds s.report.bounds (ap (λ (f : Findings). f.bounds) found_too) spans_is in
       one_strategy p.timetable.network query rides places bounds other_bounds (rw (sym same_query, sym same_rides, sym same_bounds) expanded) (rw (sym same_query, sym same_places, sym same_others) planned)
 
-  promise_is_sure : PromiseIsSure r
+  pub promise_is_sure : PromiseIsSure r
   promise_is_sure files j alpha promise query chance one query_is chance_is by =
       let w = answered limits files r first one.untroubled j (Punctual alpha promise) one.asks one.no_fault in
       let (q, v, asked, (graph, least, bounds, found, punctual, seen, scored, printed)) = w.answers in
@@ -323,7 +322,7 @@ module _ (limits : Limits) (r s : RunModel) (first : IsRunWithin limits r) (seco
       let same_chance = one_some least chance r.report.chance (ap (λ (f : Findings). f.chance) found) chance_is in
       no_chance w.p.timetable.network query promise graph chance (rw (sym same_query, sym same_chance) punctual) by
 
-  worst_is_kept : WorstIsKept limits r
+  pub worst_is_kept : WorstIsKept limits r
   worst_is_kept files j alpha p query graph one is query_is graph_is arrives =
       let w = answered limits files r first one.untroubled j (Plan alpha) one.asks one.no_fault in
       let (q, v, asked, (table, bounds, found, planned, printed, reads)) =
@@ -335,7 +334,7 @@ module _ (limits : Limits) (r s : RunModel) (first : IsRunWithin limits r) (seco
       let own_least = subst (λ (z : Query). IsLeastWorst p.timetable.network z.source.0 z.target.0 z.start.0 (Some query.deadline)) same_query least in
       worst_kept p.timetable.network query graph bounds (rw (sym same_query, sym same_graph) planned) own_least
 
-  later_is_no_worse : LaterIsNoWorse r s
+  pub later_is_no_worse : LaterIsNoWorse r s
   later_is_no_worse files others j alpha beta query other bounds later both well query_is other_is bounds_is later_is by =
       let w = of_first files others j (Plan alpha) (Plan beta) both well.first in
       let (q, v, asked, (graph, span, found, planned, printed, reads)) = w.answers in
@@ -350,7 +349,7 @@ module _ (limits : Limits) (r s : RunModel) (first : IsRunWithin limits r) (seco
       (also.start_is ∙ sym asked.start_is) less in
       rw (sym same_later, sym same_bounds) worse
 
-  latest_is_of_last_row : LatestIsOfLastRow r s
+  pub latest_is_of_last_row : LatestIsOfLastRow r s
   latest_is_of_last_row files others j until last query latest rows both well query_is differ before latest_is rows_is =
       let w = of_first files others j (Latest until) (Departures until last) both well.first in
       let x = second_over files others j (Latest until) (Departures until last) both w.p w.is_problem (of_second files others j (Latest until) (Departures until last) both well.second) in
@@ -381,28 +380,5 @@ module _ (limits : Limits) (r s : RunModel) (first : IsRunWithin limits r) (seco
     of_journey known is (inl (q, has, also, (named, fails))) there small = grind (arith, of_score)
     of_journey known is (inr early) there small = absurd (early.0.stage)
 
-  first_fault : FaultsAreReported → FaultIsFirst limits r
+  pub first_fault : FaultsAreReported → FaultIsFirst limits r
   first_fault reported files j path text p f calm asks is there small fails = grind (arith, job_fails, of_journey)
-
-  pub agree : FaultsAreReported → Agree limits r s
-  agree reported = record {
-    alike = one_end one_problem limits r s first second;
-    forms = forms_end one_problem limits r s first second;
-    accepted = accepted;
-    replayed = replayed;
-    punctual = punctual_accepted;
-    punctual_replayed = punctual_replayed;
-    certified = certified;
-    leave = leave;
-    by_worst = left_by_worst;
-    never = never_left;
-    search = search_alike;
-    query = share_query;
-    within = within;
-    strategy = strategy;
-    promise = promise_is_sure;
-    worst = worst_is_kept;
-    later = later_is_no_worse;
-    last_row = latest_is_of_last_row;
-    first_fault = first_fault reported;
-  }

@@ -35,11 +35,11 @@ module _ (p : Problem) (start : ℕ) where
 
     -- the query that was found, and the least worst arrival
     pub record Asked (found : Findings) : Type 0 where
-      q : Query
-      w : Moment
-      asked : IsQueryOf p start alpha q w
-      query : found.query ≡ Some q
-      worst : found.worst ≡ Some w
+      pub q : Query
+      pub w : Moment
+      pub asked : IsQueryOf p start alpha q w
+      pub query : found.query ≡ Some q
+      pub worst : found.worst ≡ Some w
 
     found_by : (beta : ℕ) (found : Findings) (q : Query) (w : Moment) → beta ≡ alpha → IsQueryOf p start beta q w → found.query ≡ Some q → found.worst ≡ Some w → Asked found
     found_by beta found q w same is query worst = record { q = q; w = w; asked = subst (λ (a : ℕ). IsQueryOf p start a q w) same is; query = query; worst = worst }

@@ -27,9 +27,9 @@ line_before known other (Unsafe place moment) before = absurd before
 line_before known other _ before = refl
 
 -- the two faults are one, with one line
-record IsOneFault (known other : Option NamedParts) (a b : Fault) : Type 0 where
-  same : a ≡ b
-  line : line_of known a ≡ line_of other b
+pub record IsOneFault (known other : Option NamedParts) (a b : Fault) : Type 0 where
+  pub same : a ≡ b
+  pub line : line_of known a ≡ line_of other b
 
 with_line : (known other : Option NamedParts) (a b : Fault) → a ≡ b → line_of known a ≡ line_of other a → IsOneFault known other a b
 with_line known other a b same line = record { same = same; line = line ∙ ap (line_of other) same }
@@ -37,25 +37,25 @@ with_line known other a b same line = record { same = same; line = line ∙ ap (
 one_known : (p q : Problem) (known other : Option NamedParts) → known ≡ Some (parts_of p) → other ≡ Some (parts_of q) → p ≡ q → known ≡ other
 one_known p q known other is also same = is ∙ ap (λ (r : Problem). Some (parts_of r)) same ∙ sym also
 
-one_job : (words : List (List ℕ)) (a b : JobModel) → job_of words ≡ Ok a → job_of words ≡ Ok b → a ≡ b
+pub one_job : (words : List (List ℕ)) (a b : JobModel) → job_of words ≡ Ok a → job_of words ≡ Ok b → a ≡ b
 one_job words a b is also = cc
 
 one_refusal : (words : List (List ℕ)) (a b : WordsFault) → job_of words ≡ Err a → job_of words ≡ Err b → a ≡ b
 one_refusal words a b is also = cc
 
-refused_or_not : (words : List (List ℕ)) (refusal : WordsFault) (job : JobModel) → job_of words ≡ Err refusal → job_of words ≡ Ok job → ⊥
+pub refused_or_not : (words : List (List ℕ)) (refusal : WordsFault) (job : JobModel) → job_of words ≡ Err refusal → job_of words ≡ Ok job → ⊥
 refused_or_not words refusal job is also = absurd (cc)
 
 -- the fault is neither that a file cannot be read, nor that there was no memory
-record IsCalm (fault : Fault) : Type 0 where
-  read : NotRead fault
-  memory : fault ≢ NoMemory
+pub record IsCalm (fault : Fault) : Type 0 where
+  pub read : NotRead fault
+  pub memory : fault ≢ NoMemory
 
 module _ (limits : Limits) (files : FileMap) where
   abbrev Fails : JourneyModel → AskModel → Option NamedParts → Fault → Type 0
   Fails j a known fault = FailsJourney (Some files) limits j a known fault
 
-  one_journey_fault : (j : JourneyModel) (ask : AskModel) (known other : Option NamedParts) (a b : Fault) → IsCalm a → IsCalm b → Fails j ask known a → Fails j ask other b → IsOneFault known other a b
+  pub one_journey_fault : (j : JourneyModel) (ask : AskModel) (known other : Option NamedParts) (a b : Fault) → IsCalm a → IsCalm b → Fails j ask known a → Fails j ask other b → IsOneFault known other a b
   one_journey_fault j ask known other a b m n (inl (p, has, is, (named, fails))) (inl (q, has_other, also, (called, misses))) = grind (arith, one_problem, one_ask_fault, with_line, one_known)
   one_journey_fault j ask known other a b m n (inl (p, has, is, fails)) (inr early) = absurd (no_fault limits files j p b is n.read n.memory early.1)
   one_journey_fault j ask known other a b m n (inr early) (inl (q, has_other, also, misses)) = absurd (no_fault limits files j q a also m.read m.memory early.1)
@@ -87,12 +87,12 @@ module _ (limits : Limits) (files : FileMap) where
 
   -- ---- an answer excludes a fault
 
-  journey_answered : (j : JourneyModel) (ask : AskModel) (found : Findings) (text : List ℕ) (known : Option NamedParts) (a : Fault) → IsCalm a
+  pub journey_answered : (j : JourneyModel) (ask : AskModel) (found : Findings) (text : List ℕ) (known : Option NamedParts) (a : Fault) → IsCalm a
       → AnswersJob (Some files) limits (Ask j ask) found text → FailsJourney (Some files) limits j ask known a → ⊥
   journey_answered j ask found text known a m (p, has, is, answers) (inl (q, has_other, also, (called, fails))) = grind (arith, answered_or_not, one_problem)
   journey_answered j ask found text known a m (p, has, is, answers) (inr early) = no_fault limits files j p a is m.read m.memory early.1
 
-  job_answered : (job : JobModel) (found : Findings) (text : List ℕ) (known : Option NamedParts) (a : Fault) → IsCalm a → AnswersJob (Some files) limits job found text
+  pub job_answered : (job : JobModel) (found : Findings) (text : List ℕ) (known : Option NamedParts) (a : Fault) → IsCalm a → AnswersJob (Some files) limits job found text
       → FailsJob (Some files) limits job known a → ⊥
   job_answered (Ask j ask) found text known a m answers fails = journey_answered j ask found text known a m answers fails
   job_answered (Sample size) found text known a m (folder, same, (p, has, is, (q, w, asked, reports))) (read, (made, alike, fails)) =
@@ -113,7 +113,7 @@ module _ (limits : Limits) (files : FileMap) where
       job_answered job found text known a m answers (subst (λ (w : JobModel). FailsJob (Some files) limits w known a) (one_job words other job from is) fails)
 
 -- nothing more is no byte more
-keeps_none : (old new : Option (List ℕ)) → Keeps old new → Appends old new []
+pub keeps_none : (old new : Option (List ℕ)) → Keeps old new → Appends old new []
 keeps_none None new kept = tt
 keeps_none (Some old) None kept = absurd kept
 keeps_none (Some old) (Some new) kept = kept ∙ sym (append-nil old)
@@ -122,23 +122,23 @@ keeps_none (Some old) (Some new) kept = kept ∙ sym (append-nil old)
 
 module _ (limits : Limits) (files : FileMap) (r : RunModel) where
   -- with an answer
-  record Answers : Type 0 where
-    none : r.report.fault ≡ None
-    text : List ℕ
-    answers : AnswersWords (Some files) limits r.words (findings_of r.report) text
-    out : Appends r.before.out.written r.after.out.written text
-    err : Keeps r.before.err.written r.after.err.written
+  pub record Answers : Type 0 where
+    pub none : r.report.fault ≡ None
+    pub text : List ℕ
+    pub answers : AnswersWords (Some files) limits r.words (findings_of r.report) text
+    pub out : Appends r.before.out.written r.after.out.written text
+    pub err : Keeps r.before.err.written r.after.err.written
 
   -- or with a fault
-  record Refuses : Type 0 where
-    fault : Fault
-    some : r.report.fault ≡ Some fault
-    calm : IsCalm fault
-    findings : findings_of r.report ≡ no_findings
-    known : Option NamedParts
-    why : IsExplained (Some files) limits r.words known fault
-    out : Keeps r.before.out.written r.after.out.written
-    err : Appends r.before.err.written r.after.err.written (line_of known fault)
+  pub record Refuses : Type 0 where
+    pub fault : Fault
+    pub some : r.report.fault ≡ Some fault
+    pub calm : IsCalm fault
+    pub findings : findings_of r.report ≡ no_findings
+    pub known : Option NamedParts
+    pub why : IsExplained (Some files) limits r.words known fault
+    pub out : Keeps r.before.out.written r.after.out.written
+    pub err : Appends r.before.err.written r.after.err.written (line_of known fault)
 
   module _ (run : IsRunWithin limits r) (calm : IsUntroubled files r) (memory : r.report.fault ≢ Some NoMemory) where
     abbrev Reports : List ℕ → Type 0
@@ -156,7 +156,7 @@ module _ (limits : Limits) (files : FileMap) (r : RunModel) where
     not_write : (fault : Fault) → r.report.fault ≡ Some fault → fault ≢ Write
     not_write fault is write = calm.out_calm (run.write (is ∙ ap (λ (f : Fault). Some f) write))
 
-    settled : (fault : Option Fault) → r.report.fault ≡ fault → Answers ⊎ Refuses
+    pub settled : (fault : Option Fault) → r.report.fault ≡ fault → Answers ⊎ Refuses
     settled None is = grind (arith, outcome)
     settled (Some fault) is =
         let both = subst (λ (e : Ending). OutcomeBy e (Some files) limits r.words r.report r.before.out.written r.after.out.written Reports (Some fault)) (refused_ending fault (not_write fault is)) (outcome (Some fault) is) in

@@ -25,3 +25,11 @@ pub mod Departing
 mod RowBounds
 pub mod BySafety
 pub mod Agreeing
+pub mod Saving
+pub mod FirstLine
+pub mod Greatest
+pub mod MoreService
+pub mod Reordered
+pub mod PlanRows
+pub mod SamplePlans
+pub mod Agreed

@@ -3,4 +3,11 @@ pub mod OneAnswer
 pub mod Runs
 pub mod OneRun
 pub mod Printed
+pub mod TwoRuns
+pub mod Saved
+pub mod Greatest
+pub mod MoreService
+pub mod Reordered
+pub mod RowsOfPlans
+pub mod SamplePlans
 pub mod Pairs

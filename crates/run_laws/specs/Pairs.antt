@@ -1,6 +1,5 @@
 -- Two runs, each of its words over a host of its own, and how the one agrees with the other.
-use Rattle.std.specs.Prelude.{◌≡◌, ◌≢◌, ◌⊎◌, ℕ, ◌+◌, ◌<◌, ◌≤◌, List, [], ◌++◌, None, Some, Ok, IsSome, length}
-use Rattle.std.specs.Io.KnownBytes.{Appends}
+use Rattle.std.specs.Prelude.{◌≡◌, ◌≢◌, ℕ, ◌+◌, ◌<◌, ◌≤◌, List, [], None, Some, Ok, length}
 use Rattle.file_ports.specs.Ports.{FileMap, file_at}
 use Rattle.csv_rows.specs.declared.limits.Limits.{Limits}
 use Rattle.interval_fixed.specs.Interval.{Interval}
@@ -23,44 +22,23 @@ use Rattle.trip_replay.specs.Walk.{IsSafeAnswer}
 use Rattle.command_line.specs.Jobs.{JourneyModel, AskModel, Ask, Safe, Expand, Plan, Replay, Certify, CheckProof, CheckGraph, Punctual, Departures, Latest, job_of}
 use Rattle.journey_model.specs.declared.faults.Fault.TheVariants.{GraphFile, NoSafe}
 use Rattle.journey_model.specs.declared.problem.Problem.{Problem}
-use Rattle.journey_problem.specs.Paths.{AgreeFor}
 use Rattle.journey_problem.specs.Problems.{IsProblem}
 use Rattle.journey_report.specs.AnswerTexts.{punctual_row}
 use Rattle.journey_report.specs.Findings.{findings_of}
 use Rattle.journey_problem.specs.GraphFiles.{graph_in}
 use Rattle.journey_answers.specs.Trips.{trip_by}
 use Rattle.meat_engine.specs.Ends.{EndsByWalk}
+use Rattle.run_laws.specs.Greatest.{CertificateIsGreatest}
+use Rattle.run_laws.specs.MoreService.{MoreIsNoLater, MoreLeavesNoSooner, MorePlansNoWorse}
 use Rattle.run_laws.specs.OneRun.{EndAlike, FormsEndAlike}
 use Rattle.run_laws.specs.Printed.{ArrivesByFile, KeepsUpperBound}
+use Rattle.run_laws.specs.Reordered.{OrderKeepsWorst, OrderKeepsPlans}
+use Rattle.run_laws.specs.RowsOfPlans.{RowIsOfPlan, CutRowIsOfPlan}
 use Rattle.run_laws.specs.Runs.{RunModel, IsUntroubled}
+pub use Rattle.run_laws.specs.TwoRuns.{AskOne, AskBoth, IsSaved, OrStatus9, EndWell, IsBySafety}
+use Rattle.run_laws.specs.SamplePlans.{SampleIsPlan}
+use Rattle.run_laws.specs.Saved.{SavingKeeps, FirstLineIsItsRow}
 use Rattle.run_laws.specs.Wholes.{IsOneStrategy}
-
--- an untroubled run that asks this about a journey, and ended without a fault
-pub record AskOne (files : FileMap) (j : JourneyModel) (a : AskModel) (r : RunModel) : Type 0 where
-  pub untroubled : IsUntroubled files r
-  pub asks : job_of r.words ≡ Ok (Ask j a)
-  pub no_fault : r.report.fault ≡ None
-
--- two untroubled runs, over files that agree at the paths of a journey, of which the first asks one thing about it and the second another
-pub record AskBoth (files others : FileMap) (j : JourneyModel) (a b : AskModel) (r s : RunModel) : Type 0 where
-  pub first : IsUntroubled files r
-  pub second : IsUntroubled others s
-  pub agree : AgreeFor j files others
-  pub first_asks : job_of r.words ≡ Ok (Ask j a)
-  pub second_asks : job_of s.words ≡ Ok (Ask j b)
-
--- the run ended without a fault and wrote these bytes and then a text, which the file of this path holds
-pub record IsSaved (limits : Limits) (files : FileMap) (path front : List ℕ) (r : RunModel) : Type 0 where
-  pub text : List ℕ
-  pub no_fault : r.report.fault ≡ None
-  pub known : IsSome r.before.out.written
-  pub written : Appends r.before.out.written r.after.out.written (front ++ text)
-  pub there : file_at files path ≡ Some text
-  pub small : length text ≤ limits.bytes
-
--- this holds, or the run ended with 9, since there was no memory
-abbrev pub OrStatus9 : RunModel → Type 0 → Type 0
-OrStatus9 s P = P ⊎ (s.report.status.0 ≡ 9)
 
 -- `check` of the graph that `plan` printed ends with 0, with the same upper bound
 abbrev pub PlanIsAccepted : Limits → RunModel → RunModel → Type 0
@@ -106,11 +84,6 @@ CertificateIsAccepted limits r s =
     (files others : FileMap) (j : JourneyModel) (alpha : ℕ) (path : List ℕ) → AskBoth files others j (Certify alpha) (CheckProof path) r s → IsSaved limits others path [] r
     → OrStatus9 s (s.report.status.0 ≡ 0)
 
--- both ended without a fault
-pub record EndWell (r s : RunModel) : Type 0 where
-  pub first : r.report.fault ≡ None
-  pub second : s.report.fault ≡ None
-
 -- `latest` and `departures` by one deadline end with one status
 abbrev pub LeaveAlike : Limits → RunModel → RunModel → Type 0
 LeaveAlike limits r s =
@@ -128,19 +101,6 @@ abbrev pub NeverLeave : RunModel → RunModel → Type 0
 NeverLeave r s =
     (files others : FileMap) (j : JourneyModel) (alpha until : ℕ) → AskBoth files others j (Safe alpha) (Latest until) r s → r.report.fault ≡ Some NoSafe
     → OrStatus9 s (s.report.status.0 ≡ 1)
-
--- it asks for an answer by strategies that always reach the target, with a deadline by this percentage
-abbrev pub IsBySafety : ℕ → AskModel → Type 0
-IsBySafety alpha (Safe beta) = beta ≡ alpha
-IsBySafety alpha (Expand beta) = beta ≡ alpha
-IsBySafety alpha (Plan beta) = beta ≡ alpha
-IsBySafety alpha (Certify beta) = beta ≡ alpha
-IsBySafety alpha (Punctual beta promise) = beta ≡ alpha
-IsBySafety alpha (Replay graph late) = ⊥
-IsBySafety alpha (CheckProof certificate) = ⊥
-IsBySafety alpha (CheckGraph graph) = ⊥
-IsBySafety alpha (Departures until last) = ⊥
-IsBySafety alpha (Latest until) = ⊥
 
 -- any two that do end with one status, whatever the percentages
 abbrev pub SearchAlike : Limits → RunModel → RunModel → Type 0
@@ -212,6 +172,8 @@ FaultIsFirst limits r =
 pub record Agree (limits : Limits) (r s : RunModel) : Type 0 where
   pub alike : EndAlike r s
   pub forms : FormsEndAlike limits r s
+  pub saved : SavingKeeps limits r
+  pub first_line : FirstLineIsItsRow limits r
   pub accepted : PlanIsAccepted limits r s
   pub replayed : PlanIsReplayed limits r s
   pub punctual : PunctualIsAccepted limits r s
@@ -223,9 +185,18 @@ pub record Agree (limits : Limits) (r s : RunModel) : Type 0 where
   pub search : SearchAlike limits r s
   pub query : ShareQuery r s
   pub within : CertificateIsWithin limits r s
+  pub greatest : CertificateIsGreatest r s
   pub strategy : ShareStrategy limits r s
   pub promise : PromiseIsSure r
   pub worst : WorstIsKept limits r
   pub later : LaterIsNoWorse r s
+  pub more : MoreIsNoLater limits r s
+  pub more_latest : MoreLeavesNoSooner limits r s
+  pub more_plans : MorePlansNoWorse limits r s
+  pub order_worst : OrderKeepsWorst limits r s
+  pub order_plans : OrderKeepsPlans limits r s
   pub last_row : LatestIsOfLastRow r s
+  pub row_of_plan : RowIsOfPlan limits r s
+  pub cut_row_of_plan : CutRowIsOfPlan r s
+  pub sample : SampleIsPlan r s
   pub first_fault : FaultIsFirst limits r

@@ -3,4 +3,4 @@ pub mod Trees
 pub mod Found
 pub mod Changes
 pub mod Compose
-mod Upper
+pub mod Upper

@@ -1,0 +1,50 @@
+-- Two runs agree.
+use Rattle.run_laws.proofs.Common.{Limits, HasOneProblem, RunModel, IsRunWithin}
+use Rattle.journey_problem.specs.OneProblem.{KeepsOwnFiles}
+use Rattle.run_laws.specs.Pairs.{Agree}
+use Rattle.run_laws.proofs.Agreeing.{FaultsAreReported, accepted, replayed, punctual_accepted, punctual_replayed, certified, leave, left_by_worst, never_left, search_alike, share_query}
+use Rattle.run_laws.proofs.Agreeing.{within, strategy, promise_is_sure}
+use Rattle.run_laws.proofs.Agreeing.{worst_is_kept, later_is_no_worse, latest_is_of_last_row, first_fault}
+use Rattle.run_laws.proofs.Ends.{one_end, forms_end}
+use Rattle.run_laws.proofs.FirstLine.{first_line}
+use Rattle.run_laws.proofs.Greatest.{greatest}
+use Rattle.run_laws.proofs.MoreService.{more, more_latest, more_plans}
+use Rattle.run_laws.proofs.PlanRows.{row_of_plan, cut_row_of_plan}
+use Rattle.run_laws.proofs.Reordered.{keeps_worst, keeps_plans}
+use Rattle.run_laws.proofs.SamplePlans.{sample_is_plan}
+use Rattle.run_laws.proofs.Saving.{saving}
+
+module _ (limits : Limits) (r s : RunModel) (first : IsRunWithin limits r) (second : IsRunWithin limits s) (one_problem : HasOneProblem) where
+  pub agree : KeepsOwnFiles → FaultsAreReported → Agree limits r s
+  agree keeps reported = record {
+    alike = one_end one_problem limits r s first second;
+    forms = forms_end one_problem limits r s first second;
+    saved = saving keeps limits r;
+    first_line = first_line limits r first;
+    accepted = accepted limits r s first second one_problem;
+    replayed = replayed limits r s first second one_problem;
+    punctual = punctual_accepted limits r s first second one_problem;
+    punctual_replayed = punctual_replayed limits r s first second one_problem;
+    certified = certified limits r s first second one_problem;
+    leave = leave limits r s first second one_problem;
+    by_worst = left_by_worst limits r s first second one_problem;
+    never = never_left limits r s first second one_problem;
+    search = search_alike limits r s first second one_problem;
+    query = share_query limits r s first second one_problem;
+    within = within limits r s first second one_problem;
+    greatest = greatest limits r s first second one_problem;
+    strategy = strategy limits r s first second one_problem;
+    promise = promise_is_sure limits r s first second one_problem;
+    worst = worst_is_kept limits r s first second one_problem;
+    later = later_is_no_worse limits r s first second one_problem;
+    more = more limits r s first second one_problem;
+    more_latest = more_latest limits r s first second one_problem;
+    more_plans = more_plans limits r s first second one_problem;
+    order_worst = keeps_worst limits r s first second one_problem;
+    order_plans = keeps_plans limits r s first second one_problem;
+    last_row = latest_is_of_last_row limits r s first second one_problem;
+    row_of_plan = row_of_plan limits r s first second one_problem;
+    cut_row_of_plan = cut_row_of_plan limits r s first second one_problem;
+    sample = sample_is_plan one_problem limits r s first second;
+    first_fault = first_fault limits r s first second one_problem reported;
+  }
