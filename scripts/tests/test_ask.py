@@ -5,10 +5,11 @@ from __future__ import annotations
 import unittest
 from random import Random
 
-from support import OLD_TOWN, USUAL, WALK, Case, Ran, call, made_feed, meat
+from support import OLD_TOWN, USUAL, WALK, Case, Ran, call, content, made_feed, meat
 
 from desk.journeys import alpha_within, hours_to
-from desk.plans import Moment, Safe, read, read_plan
+from desk.places import stops_meant
+from desk.plans import Moment, Refused, Safe, read, read_plan
 
 FEED, DELAYS = f"{OLD_TOWN}/feed", f"{OLD_TOWN}/delays.csv"
 
@@ -27,7 +28,21 @@ class Stops(Case):
 
     def test_what_is_unknown_or_many(self) -> None:
         self.is_refused(self.ask("nowhere", "AIR"), "FROM: there is no stop nowhere")
-        self.is_refused(self.ask("MIL", "a"), "TO: a may mean AIR (stop, Airport), HLF (stop, Halfway), S,1 (station, Old Town, Square); give the id")
+        self.is_refused(self.ask("nowhere", "airprt"), "FROM: there is no stop nowhere")
+        self.is_refused(self.ask("MIL", "airprt"), "TO: there is no stop airprt; did you mean Airport?")
+        many = self.feed("many", stops="stop_id,stop_name\n" + "".join(f"S{at},Saint {at}\n" for at in range(20)))
+        self.is_refused(call("ask", "", many, DELAYS, "saint", "S1", "08:00"), "and 10 more; write more of the name")
+
+    def test_names_as_people_say_them(self) -> None:
+        stops = ("stop_id,stop_name,stop_lat,stop_lon,stop_code\nBEL,\"Zürich, Bellevue\",47.3667,8.5450,8591058\n"
+                 "BEL2,\"Zürich, Bellevue\",47.3668,8.5451,\nFAR,\"Zürich, Bellevue\",47.4667,8.5451,\nE,Saint-Étienne,,,\nG,St. Gallen,,,\nL,Łódź,,,\n")
+        feed = self.feed("names", stops=stops, stop_times="trip_id,stop_id\n")
+        for text, found in (("bel", "BEL"), ("8591058", "BEL"), ("saint etienne", "E"), ("st gallen", "G"), ("lodz", "L"), ("etien saint", "E")):
+            self.assertEqual([stop.id for stop in stops_meant(feed, text, "FROM")], [found], text)
+        with self.assertRaisesRegex(Refused, "may mean BEL .*code 8591058.*BEL2.*FAR.*give the id"):
+            stops_meant(feed, "bellevue zuerich", "FROM")
+        near = self.feed("near", stops=stops.replace("FAR,\"Zürich, Bellevue\"", "FAR,Anderswo"))
+        self.assertEqual([stop.id for stop in stops_meant(near, "bellevue zuerich", "FROM")], ["BEL", "BEL2"])
 
     def test_moments(self) -> None:
         for when in ("2024-06-03 8:00", "2024-06-03T08:00:00"):
@@ -46,10 +61,26 @@ class By(Case):
 
     def test_too_soon(self) -> None:
         ran = call("ask", "", FEED, DELAYS, "MIL", "AIR", "2024-06-03T08:00", "--by", "09:20")
-        self.is_refused(ran, "not even from the day before on")
+        self.assertEqual((ran.status, ran.errors), (1, "ask: no plan arrives by 09:20 whatever the delays, not even from the day before on\n"))
+        self.assertIn("Later than 09:20 in at most 1 of 100 cases.\n", ran.printed)
+        self.assertIn("No plan is less often late.\n", ran.printed)
         sooner = call("ask", "", FEED, DELAYS, "MIL", "AIR", "2024-06-04T08:01", "--by", "2024-06-04T09:30")
-        self.is_refused(sooner, "leave by 08:00: ask for 2024-06-04T08:00:00")
-        self.is_refused(call("ask", "", FEED, DELAYS, "MIL", "AIR", "2024-06-03T08:00", "--by", "07:00"), "--by is before the start")
+        self.assertIn("leave by 08:00: ask for 2024-06-04T08:00:00", sooner.errors)
+        self.is_refused(call("ask", "", FEED, DELAYS, "MIL", "AIR", "2024-06-03T08:00", "--by", "2024-06-03T07:00"), "--by is before the start")
+
+    def test_a_deadline_alone(self) -> None:
+        ran = call("ask", "", FEED, DELAYS, "MIL", "AIR", "--by", "2024-06-03T12:00", "--next", "2")
+        self.assertEqual(ran.status, 0, ran.errors)
+        self.assertIn("Mon 2024-06-03, from 08:00 on.\n", ran.printed)
+        self.assertIn("To be there by 12:00 whatever the delays, leave by 08:00.\n", ran.printed)
+        self.assertEqual(call("ask", "", FEED, DELAYS, "MIL", "AIR").status, 2)
+        self.assertEqual(call("ask", "", FEED, DELAYS, "MIL", "AIR", "--by", "12:00", "--alpha", "150").status, 2)
+
+    def test_the_departures_that_follow(self) -> None:
+        ran = call("ask", "", FEED, DELAYS, "S,1", "AIR", "2024-06-03T08:00", "--next", "2", "--plan", f"{self.room}/kept.csv")
+        self.assertIn("Departures that follow, each there by", ran.printed)
+        self.assertIn("08:40 bus 7, there at", ran.printed)
+        self.assertEqual(read_plan(content(f"{self.room}/kept.csv")).source, "S,1")
 
     def test_the_greatest_alpha(self) -> None:
         made = Random(5)
