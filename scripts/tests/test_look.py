@@ -27,7 +27,7 @@ class Look(Case):
 What the planner does not take into account:
   stop times without a time (1): no boarding or alighting there
 """)
-        self.assertIn("2007-06-04 to 2007-06-10: Mon 0, Tue 7", call("look", "", f"{EXAMPLES}/demo_transit/feed").printed)
+        self.assertIn("2007-06-04 to 2007-06-10: Mon 0, Tue 140", call("look", "", f"{EXAMPLES}/demo_transit/feed").printed)
         none = self.feed("none", trips="trip_id,route_id,service_id\n", stops="stop_id\n",
                          stop_times="stop_id,arrival_time,departure_time\n")
         self.assertIn("No trip runs on any day.\n", call("look", "", none).printed)
