@@ -16,19 +16,20 @@ pub data TimetableModel : Type 0 where
   CutFile : (path : List ℕ) → TimetableModel
   FeedFolder : (folder : List ℕ) (horizon : ℕ) → TimetableModel
 
--- a journey over a timetable: the path of the delays, the stops where it begins and ends, and its start
+-- a journey over a timetable: the path of the delays, the stop where it begins, unless what is asked is about each of them, the
+-- stop where it ends, and its start
 pub record JourneyModel : Type 0 where
   pub timetable : TimetableModel
   pub delays : List ℕ
-  pub from : List ℕ
+  pub from : Option (List ℕ)
   pub to : List ℕ
   pub start : ℕ
 
 -- what is asked about a journey: the least worst arrival and the deadline, a decision graph ride by ride or by place, each by
 -- a percentage for the deadline; the trip by the graph of this path, with these delays; a certificate, by a percentage for the
 -- deadline; whether that of this path holds; the bounds of the graph of this path; the graph with the least chance of an arrival after a promised moment, by a
--- percentage for the deadline; what each departure up to a last moment promises, by this deadline; or the latest moment at which
--- one can leave, by this deadline
+-- percentage for the deadline; what each departure up to a last moment promises, by this deadline; the latest moment at which
+-- one can leave, by this deadline; or the same for each place
 pub data AskModel : Type 0 where
   Safe : (alpha : ℕ) → AskModel
   Expand : (alpha : ℕ) → AskModel
@@ -40,6 +41,7 @@ pub data AskModel : Type 0 where
   Punctual : (alpha : ℕ) (promise : ℕ) → AskModel
   Departures : (until : ℕ) (last : ℕ) → AskModel
   Latest : (until : ℕ) → AskModel
+  Reach : (until : ℕ) → AskModel
 
 -- what the words ask for: something about a journey, or the plan of one over a timetable that is made
 pub data JobModel : Type 0 where
@@ -80,10 +82,14 @@ abbrev pub journey_of : List (List ℕ) → JourneyModel
 journey_of settings = record {
   timetable = timetable_of settings;
   delays = text_of settings Delays;
-  from = text_of settings From;
+  from = value_of settings From;
   to = text_of settings To;
   start = start_of settings;
 }
+
+-- the stop where the journey begins; where it has none its target, from which there is nothing to be asked
+abbrev pub source_or_target : JourneyModel → List ℕ
+source_or_target j = unwrap_or j.from j.to
 
 -- the graph of a path is checked where one is given, and else the certificate of one
 abbrev pub check_by : Option (List ℕ) → List ℕ → AskModel
@@ -104,6 +110,7 @@ ask_of command.Check settings = Some (check_of settings)
 ask_of command.Punctual settings = Some (Punctual (alpha_of settings) (promise_of settings))
 ask_of command.Departures settings = Some (Departures (later_of settings Until) (later_of settings Last))
 ask_of command.Latest settings = Some (Latest (later_of settings Until))
+ask_of command.Reach settings = Some (Reach (later_of settings Until))
 ask_of command.Sample settings = None
 
 abbrev pub wanted_by : Option AskModel → List (List ℕ) → JobModel

@@ -3,7 +3,7 @@ use Rattle.std.specs.Prelude.{ℕ, List, [], ◌∷◌, Option, codes, find, ◌
 use Rattle.std.specs.Option.{option_map_or}
 use Rattle.std.specs.Str.{bytes_eq}
 use Rattle.command_line.specs.declared.options.Command.{Command}
-use Rattle.command_line.specs.declared.options.Command.TheVariants.{Safe, Expand, Plan, Replay, Certify, Check, Punctual, Departures, Latest, Sample}
+use Rattle.command_line.specs.declared.options.Command.TheVariants.{Safe, Expand, Plan, Replay, Certify, Check, Punctual, Departures, Latest, Reach, Sample}
 use Rattle.command_line.specs.declared.options.OptionName.{OptionName}
 use Rattle.command_line.specs.declared.options.OptionName.TheVariants.{Cut, Feed, Delays, From, To, At, Alpha, Horizon, Graph, Late, Size, Proof, By, Until, Last}
 
@@ -70,10 +70,11 @@ command_word Check = codes "check"
 command_word Punctual = codes "punctual"
 command_word Departures = codes "departures"
 command_word Latest = codes "latest"
+command_word Reach = codes "reach"
 command_word Sample = codes "sample"
 
 abbrev pub all_commands : List Command
-all_commands = Safe ∷ Expand ∷ Plan ∷ Replay ∷ Certify ∷ Check ∷ Punctual ∷ Departures ∷ Latest ∷ Sample ∷ []
+all_commands = Safe ∷ Expand ∷ Plan ∷ Replay ∷ Certify ∷ Check ∷ Punctual ∷ Departures ∷ Latest ∷ Reach ∷ Sample ∷ []
 
 -- the command that a word names
 abbrev pub command_named : List ℕ → Option Command

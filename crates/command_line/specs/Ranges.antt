@@ -3,7 +3,7 @@ use Rattle.std.specs.Prelude.{ℕ, ◌≤◌, ◌+◌}
 use Rattle.command_line.specs.Values.{least_alpha, most_alpha, least_horizon, most_horizon, least_size, most_size, last_until, longest_promise}
 use Rattle.plan_model.specs.Bounds.{first_start, last_start}
 use Rattle.command_line.specs.Jobs.{TimetableModel, CutFile, FeedFolder, JourneyModel, AskModel, Safe, Expand, Plan, Replay, Certify, CheckProof, CheckGraph}
-use Rattle.command_line.specs.Jobs.{Punctual, Departures, Latest, JobModel, Ask, Sample}
+use Rattle.command_line.specs.Jobs.{Punctual, Departures, Latest, Reach, JobModel, Ask, Sample}
 
 abbrev pub HasHorizon : TimetableModel → Type 0
 HasHorizon (CutFile path) = Unit {0}
@@ -35,6 +35,7 @@ IsAsk start (CheckGraph graph) = Unit {0}
 IsAsk start (Punctual alpha promise) = IsPercentage alpha × (start ≤ promise) × (promise ≤ start + longest_promise)
 IsAsk start (Departures until last) = IsLater start until × IsLater start last
 IsAsk start (Latest until) = IsLater start until
+IsAsk start (Reach until) = IsLater start until
 
 -- the size of a made timetable is from 10 to 400
 abbrev pub IsJob : JobModel → Type 0

@@ -12,14 +12,14 @@ use Rattle.command_line.specs.Settings.{is_given}
 
 -- a command about a journey that takes none of the options which not each such command takes
 abbrev pub no_own : OwnUses
-no_own = record { alpha = Unused; graph = Unused; late = Unused; proof = Unused; by = Unused; until = Unused; last = Unused }
+no_own = record { from = Unused; alpha = Unused; graph = Unused; late = Unused; proof = Unused; by = Unused; until = Unused; last = Unused }
 
 -- what a command about a journey does with an option
 abbrev pub on_journey : OwnUses → OptionName → Use
 on_journey own Cut = OneOf Feed
 on_journey own Feed = OneOf Cut
 on_journey own Delays = Needed
-on_journey own From = Needed
+on_journey own From = own.from
 on_journey own To = Needed
 on_journey own At = Needed
 on_journey own Alpha = own.alpha
@@ -52,15 +52,16 @@ on_made Last = Unused
 
 -- what a command about a journey does with the options that not each such command takes; none where it is about a made timetable
 abbrev pub own_of : Command → Option OwnUses
-own_of command.Safe = Some (record no_own { alpha = Optional })
-own_of command.Expand = Some (record no_own { alpha = Optional })
-own_of command.Plan = Some (record no_own { alpha = Optional })
-own_of command.Replay = Some (record no_own { graph = Needed; late = Needed })
-own_of command.Certify = Some (record no_own { alpha = Optional })
-own_of command.Check = Some (record no_own { graph = OneOf Proof; proof = OneOf Graph })
-own_of command.Punctual = Some (record no_own { alpha = Optional; by = Needed })
-own_of command.Departures = Some (record no_own { until = Needed; last = Needed })
-own_of command.Latest = Some (record no_own { until = Needed })
+own_of command.Safe = Some (record no_own { from = Needed; alpha = Optional })
+own_of command.Expand = Some (record no_own { from = Needed; alpha = Optional })
+own_of command.Plan = Some (record no_own { from = Needed; alpha = Optional })
+own_of command.Replay = Some (record no_own { from = Needed; graph = Needed; late = Needed })
+own_of command.Certify = Some (record no_own { from = Needed; alpha = Optional })
+own_of command.Check = Some (record no_own { from = Needed; graph = OneOf Proof; proof = OneOf Graph })
+own_of command.Punctual = Some (record no_own { from = Needed; alpha = Optional; by = Needed })
+own_of command.Departures = Some (record no_own { from = Needed; until = Needed; last = Needed })
+own_of command.Latest = Some (record no_own { from = Needed; until = Needed })
+own_of command.Reach = Some (record no_own { until = Needed })
 own_of command.Sample = None
 
 abbrev pub use_by : Option OwnUses → OptionName → Use

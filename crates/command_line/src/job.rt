@@ -1,6 +1,6 @@
 //! What a line of words asks for.
 ghost use Rattle.std.specs.Prelude.{◌≡◌, ◌≤◌, ◌+◌, map, string_bytes, option_map, option_and_then, unwrap_or, Some, IfOk, IfSome};
-ghost use Rattle.command_line.specs.Jobs.{promise_of, later_of, alpha_of, horizon_of, size_of, timetable_of, journey_of, check_of, ask_of, wanted_of, job_of};
+ghost use Rattle.command_line.specs.Jobs.{promise_of, later_of, alpha_of, horizon_of, size_of, timetable_of, journey_of, check_of, source_or_target, ask_of, wanted_of, job_of};
 ghost use Rattle.command_line.specs.Ranges.{HasHorizon, IsJourney, IsAsk, IsJob};
 ghost use Rattle.command_line.specs.Settings.{value_of};
 ghost use Rattle.command_line.specs.Shown.{timetable_shown, journey_shown, ask_shown, wanted_job, answer_shown};
@@ -77,12 +77,24 @@ pub struct Journey<'a> {
     pub timetable: Timetable<'a>,
     /// The path of the delay file.
     pub delays: &'a str,
-    /// The stop at which the journey begins.
-    pub from: &'a str,
+    /// The stop at which the journey begins; `None` if each place is asked about.
+    pub from: Option<&'a str>,
     /// The stop at which it ends.
     pub to: &'a str,
     /// The moment at which it begins.
     pub start: Moment,
+}
+
+impl<'a> Journey<'a> {
+    /// The stop at which the journey begins; if it has none, the stop at which it ends.
+    pub fn source_or_target(&self) -> &'a str
+        ensures { result.now ≡ source_or_target (journey_shown self.now) }
+    {
+        match self.from {
+            None => self.to,
+            Some(from) => from,
+        }
+    }
 }
 
 /// What is asked about a journey. A percentage is that of the deadline: of the least time that a plan
@@ -110,6 +122,8 @@ pub enum Ask<'a> {
     Departures { until: Moment, last: Moment },
     /// The latest moment at which one can leave and be sure to arrive by the deadline.
     Latest { until: Moment },
+    /// For each place the latest moment at which one can leave it and be sure to arrive by the deadline.
+    Reach { until: Moment },
 }
 
 /// What a line of words asks for.
@@ -179,7 +193,7 @@ fn journey_of(settings: &[String]) -> Journey<'_>
     Journey {
         timetable: timetable_of(settings),
         delays: text_of(settings, OptionName::Delays),
-        from: text_of(settings, OptionName::From),
+        from: value_of(settings, OptionName::From),
         to: text_of(settings, OptionName::To),
         start: start_of(settings),
     }
@@ -252,6 +266,9 @@ fn ask_of(command: Command, settings: &[String]) -> Option<Ask<'_>>
             last: later_of(settings, OptionName::Last),
         }),
         Command::Latest => Some(Ask::Latest {
+            until: later_of(settings, OptionName::Until),
+        }),
+        Command::Reach => Some(Ask::Reach {
             until: later_of(settings, OptionName::Until),
         }),
         Command::Sample => None,

@@ -24,6 +24,8 @@ pub enum Command {
     Departures,
     /// To print how late one can leave.
     Latest,
+    /// To print how late one can leave each place, and when one can expect to arrive from there.
+    Reach,
     /// To plan a journey over a timetable that is made by rule.
     Sample,
 }
@@ -64,7 +66,7 @@ pub enum OptionName {
 }
 
 /// All commands.
-const COMMANDS: [Command; 10] = [
+const COMMANDS: [Command; 11] = [
     Command::Safe,
     Command::Expand,
     Command::Plan,
@@ -74,6 +76,7 @@ const COMMANDS: [Command; 10] = [
     Command::Punctual,
     Command::Departures,
     Command::Latest,
+    Command::Reach,
     Command::Sample,
 ];
 
@@ -115,6 +118,7 @@ pub enum Use {
 /// What a command about a journey does with the options that not each of them takes.
 #[derive(Clone, Copy)]
 struct OwnUses {
+    from: Use,
     alpha: Use,
     graph: Use,
     late: Use,
@@ -126,6 +130,7 @@ struct OwnUses {
 
 /// None of them is taken.
 const NO_OWN: OwnUses = OwnUses {
+    from: Use::Unused,
     alpha: Use::Unused,
     graph: Use::Unused,
     late: Use::Unused,
@@ -160,6 +165,7 @@ impl Command {
             Command::Punctual => "punctual",
             Command::Departures => "departures",
             Command::Latest => "latest",
+            Command::Reach => "reach",
             Command::Sample => "sample",
         }
     }
@@ -170,30 +176,40 @@ impl Command {
     {
         match self {
             Command::Safe | Command::Expand | Command::Plan | Command::Certify => Some(OwnUses {
+                from: Use::Needed,
                 alpha: Use::Optional,
                 ..NO_OWN
             }),
             Command::Replay => Some(OwnUses {
+                from: Use::Needed,
                 graph: Use::Needed,
                 late: Use::Needed,
                 ..NO_OWN
             }),
             Command::Check => Some(OwnUses {
+                from: Use::Needed,
                 graph: Use::OneOf(OptionName::Proof),
                 proof: Use::OneOf(OptionName::Graph),
                 ..NO_OWN
             }),
             Command::Punctual => Some(OwnUses {
+                from: Use::Needed,
                 alpha: Use::Optional,
                 by: Use::Needed,
                 ..NO_OWN
             }),
             Command::Departures => Some(OwnUses {
+                from: Use::Needed,
                 until: Use::Needed,
                 last: Use::Needed,
                 ..NO_OWN
             }),
             Command::Latest => Some(OwnUses {
+                from: Use::Needed,
+                until: Use::Needed,
+                ..NO_OWN
+            }),
+            Command::Reach => Some(OwnUses {
                 until: Use::Needed,
                 ..NO_OWN
             }),
@@ -219,7 +235,8 @@ fn on_journey(own: OwnUses, option: OptionName) -> Use
     match option {
         OptionName::Cut => Use::OneOf(OptionName::Feed),
         OptionName::Feed => Use::OneOf(OptionName::Cut),
-        OptionName::Delays | OptionName::From | OptionName::To | OptionName::At => Use::Needed,
+        OptionName::Delays | OptionName::To | OptionName::At => Use::Needed,
+        OptionName::From => own.from,
         OptionName::Alpha => own.alpha,
         OptionName::Horizon => Use::With(OptionName::Feed),
         OptionName::Graph => own.graph,

@@ -1,6 +1,6 @@
 -- The names that most proofs of this crate cite, passed on from one place. Declares nothing.
 pub use Rattle.std.proofs.Common.{Bool, Contains, Err, IfErr, IfOk, IfSome, IsErrAnd, IsOk, IsOkAnd, List, None, Ok, OnOk, Option, Result, Some, [], ap, arith, bytes_eq, ext_get_or, false, get_or}
-pub use Rattle.std.proofs.Common.{if◌then◌else◌, inl, inr, is_some, length, option_map, refl, slice_get, slice_index_or, subst, suc, sym, true, zero, ℕ, ℤ, ⊎_elim, ◌++◌, ◌+◌, ◌<◌, ◌==◌, ◌∙◌, ◌∷◌}
+pub use Rattle.std.proofs.Common.{if◌then◌else◌, inl, inr, is_some, length, option_map, refl, slice_get, slice_index_or, subst, suc, sym, true, unwrap_or, zero, ℕ, ℤ, ⊎_elim, ◌++◌, ◌+◌, ◌<◌, ◌==◌, ◌∙◌, ◌∷◌}
 pub use Rattle.std.proofs.Common.{◌≡◌, ◌≢◌, ◌≤◌, ◌⊎◌}
 pub use Rattle.std.proofs.lemmas.Bool.{cases_lt}
 pub use Rattle.std.proofs.lemmas.Option.{IfSome_then, slice_get-get_or, slice_get_within}
@@ -8,7 +8,7 @@ pub use Rattle.std.proofs.lemmas.Result.{IfErr-weaker, IfOk-weaker}
 pub use mathlib.Core.Path.{fun_ext}
 pub use Rattle.change_times.specs.Changes.{AreCollectedChanges, ChangeParts, links_of, place_seconds}
 pub use Rattle.change_times.specs.Transfers.{place_of_stop}
-pub use Rattle.command_line.specs.Jobs.{CutFile, FeedFolder, JourneyModel, TimetableModel}
+pub use Rattle.command_line.specs.Jobs.{CutFile, FeedFolder, JourneyModel, TimetableModel, source_or_target}
 pub use Rattle.command_line.specs.Shown.{journey_shown, timetable_shown}
 pub use Rattle.connections.specs.Cut.{IsNetworkFrom, connection_count, entry_count}
 pub use Rattle.csv_rows.proofs.FaultLemmas.{if_raised}
@@ -50,3 +50,4 @@ pub use Rattle.journey_problem.specs.Files.{Finds, HasCauses, Records, bytes_of,
 pub use Rattle.journey_problem.specs.Folders.{gtfs_folder_of}
 pub use Rattle.journey_problem.specs.InputTables.{AreDelaysOf, HasCut, IsCutOf, IsCutOfSome, cut_as, cut_fault, cut_records, delay_fault, delay_records, fault_in}
 pub use Rattle.journey_problem.specs.Problems.{HasTimetable, IsProblem, IsProblemFault, IsProblemFaultOver, IsProblemOver}
+pub use Rattle.journey_problem.specs.Stops.{first_which}

@@ -1,6 +1,6 @@
 -- The steps of reading a cut file, put together.
 use Rattle.journey_problem.proofs.Common.{arith, ◌≡◌, ℕ, List, Option, Some, None, Result, Ok, Err, sym, subst, ◌≢◌, IfOk, IfErr, OnOk, IfSome, FileMap, file_at, Limits, IsCutNetwork, CutParts}
-use Rattle.journey_problem.proofs.Common.{IsCutRead, DelayLists, AreDelays, NameLists, NetworkModel, Timetable, JourneyModel, Input, Fault, NoMemory, IsFirst, MayBeUnread, unread_input, Problem}
+use Rattle.journey_problem.proofs.Common.{IsCutRead, DelayLists, AreDelays, NameLists, NetworkModel, Timetable, JourneyModel, source_or_target, Input, Fault, NoMemory, IsFirst, MayBeUnread, unread_input, Problem}
 use Rattle.journey_problem.proofs.Common.{Records, HasCut, cut_fault, delay_fault, IsCutOfSome, AreDelaysOf, stop_fault, cut_problem_fault, IsNamed, IsCutProblem, HasCutTimetable}
 use Rattle.journey_model.specs.declared.faults.Input.TheVariants as input
 
@@ -17,7 +17,7 @@ IsNetworkOf cut lists p =
 module _ (j : JourneyModel) (cut : CutParts) (lists : DelayLists) where
   -- the timetable of a cut file is that of some cut file
   pub cut_timetable : (r : Result Problem Fault) → IsCutOfSome cut → AreDelays lists → IfOk r (IsNetworkOf cut lists)
-      → IfOk r (λ p. IsNamed p.timetable.names p.source.0 j.from) → IfOk r (λ p. IsNamed p.timetable.names p.target.0 j.to)
+      → IfOk r (λ p. IsNamed p.timetable.names p.source.0 (source_or_target j)) → IfOk r (λ p. IsNamed p.timetable.names p.target.0 j.to)
       → IfOk r (HasCutTimetable j)
   cut_timetable (Ok p) (table, is, read) are network source target = grind arith
   cut_timetable (Err fault) some are network source target = tt
@@ -27,7 +27,7 @@ module _ (j : JourneyModel) (cut : CutParts) (lists : DelayLists) where
     pub cut_file_problem : (r : Result Problem Fault)
         → (delay_fault limits (file_at files j.delays) None ≡ None) × AreDelaysOf limits (file_at files j.delays) lists
         → IfOk r (IsNetworkOf cut lists)
-        → IfOk r (λ p. IsNamed p.timetable.names p.source.0 j.from) → IfOk r (λ p. IsNamed p.timetable.names p.target.0 j.to)
+        → IfOk r (λ p. IsNamed p.timetable.names p.source.0 (source_or_target j)) → IfOk r (λ p. IsNamed p.timetable.names p.target.0 j.to)
         → OnOk r (stop_fault cut.places j.from j.to ≡ None)
         → IfOk r (λ p. (path : List ℕ) → HasCut limits (file_at files path) cut → IsCutProblem limits files path j p)
     cut_file_problem (Ok p) (no_delays, are) network source target stops = grind arith

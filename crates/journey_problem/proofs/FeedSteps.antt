@@ -1,6 +1,6 @@
 -- The steps of reading a feed, put together.
 use Rattle.journey_problem.proofs.Common.{arith, ◌≡◌, ℕ, List, Option, Some, None, Result, Ok, Err, inr, sym, subst, ◌≢◌, IfOk, IfErr, OnOk, IfSome, FileMap, file_at, Limits, place_of_stop}
-use Rattle.journey_problem.proofs.Common.{IsNetworkFrom, DelayLists, AreDelays, JourneyModel, Input, Fault, NoMemory, Problem, MayBeUnread, unread_input, AreDelaysOf, delay_fault, GtfsFolder}
+use Rattle.journey_problem.proofs.Common.{IsNetworkFrom, DelayLists, AreDelays, JourneyModel, source_or_target, Input, Fault, NoMemory, Problem, MayBeUnread, unread_input, AreDelaysOf, delay_fault, GtfsFolder}
 use Rattle.journey_problem.proofs.Common.{IsFolder, IsSoundFolder, IsWindowFault, IsFaultAfterFolder, IsFeedProblem, HasFeedTimetable, window_fault_of}
 
 -- what holds of a known folder before and after a step that leaves it the same
@@ -13,7 +13,7 @@ if_some_both (Some a) (Some b) {Q = Q} same p q f = let one : b ≡ a = (cc) in 
 pub feed_timetable : (horizon : ℕ) (j : JourneyModel) (h : GtfsFolder) (lists : DelayLists) (r : Result Problem Fault)
     → IsSoundFolder h → AreDelays lists
     → IfOk r (λ p. IsNetworkFrom h.feed h.services h.changes lists j.start horizon p.timetable.network p.timetable.names)
-    → IfOk r (λ p. place_of_stop h.feed j.from ≡ Some p.source.0)
+    → IfOk r (λ p. place_of_stop h.feed (source_or_target j) ≡ Some p.source.0)
     → IfOk r (λ p. place_of_stop h.feed j.to ≡ Some p.target.0)
     → IfOk r (HasFeedTimetable horizon j)
 feed_timetable horizon j h lists (Ok p) sound are network source target = (h, lists, sound, are, record { is_network = network; source = source; target = target })
@@ -29,7 +29,7 @@ module _ (limits : Limits) (files : FileMap) (horizon : ℕ) (j : JourneyModel) 
   pub window_problem : (r : Result Problem Fault)
       → IfOk r (λ p. IsNetworkFrom h.feed h.services h.changes lists j.start horizon p.timetable.network p.timetable.names)
       → OnOk r (window_fault_of limits horizon j h ≡ None)
-      → IfOk r (λ p. place_of_stop h.feed j.from ≡ Some p.source.0)
+      → IfOk r (λ p. place_of_stop h.feed (source_or_target j) ≡ Some p.source.0)
       → IfOk r (λ p. place_of_stop h.feed j.to ≡ Some p.target.0)
       → IfOk r (λ p. (folder : List ℕ) → IsFolder limits files folder h → IsFeedProblem limits files folder horizon j p)
   window_problem (Ok p) network no_fault source target = grind arith

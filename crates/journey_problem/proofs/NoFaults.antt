@@ -1,6 +1,6 @@
 -- Files of which a problem is made have no fault.
-use Rattle.journey_problem.proofs.Common.{arith, ◌≡◌, ℕ, refl, inl, inr, List, Option, Some, None, Result, Ok, Err, ◌≢◌, IsOkAnd, FileMap, file_at, Limits, FeedFault, unread_table, FeedParts, Tables}
-use Rattle.journey_problem.proofs.Common.{tables_in, IsFeedOf, place_of_stop, TimetableModel, CutFile, FeedFolder, JourneyModel, Input, Fault, Read, NoMemory, unread_input, cut_problem_fault}
+use Rattle.journey_problem.proofs.Common.{arith, unwrap_or, ◌≡◌, ℕ, refl, inl, inr, List, Option, Some, None, Result, Ok, Err, ◌≢◌, IsOkAnd, FileMap, file_at, Limits, FeedFault, unread_table, FeedParts, Tables}
+use Rattle.journey_problem.proofs.Common.{tables_in, IsFeedOf, place_of_stop, TimetableModel, CutFile, FeedFolder, JourneyModel, source_or_target, Input, Fault, Read, NoMemory, unread_input, cut_problem_fault}
 use Rattle.journey_problem.proofs.Common.{delay_fault, feed_as, GtfsFolder, IsFolder, IsFolderFault, IsLaterTableFault, IsFaultAfterFolder, IsWindowFault, IsFeedProblem, IsFeedProblemFault}
 use Rattle.journey_problem.proofs.Common.{feed_stop_fault, window_fault_of, IsProblem, IsProblemOver, IsProblemFault, IsProblemFaultOver}
 use Rattle.csv_rows.specs.declared.feed_tables.FeedFault.TheVariants as feed
@@ -34,7 +34,7 @@ no_cut_fault : (limits : Limits) (files : FileMap) (path : List ℕ) (j : Journe
     → NotRead fault → cut_problem_fault limits files path j (unread_input fault) ≡ Some fault → ⊥
 no_cut_fault limits files path j fault none n h = grind (arith, not_both, none_unread)
 
-no_stop : (f : FeedParts) (from to : List ℕ) (a b : ℕ) (fault : Fault) → place_of_stop f from ≡ Some a → place_of_stop f to ≡ Some b → feed_stop_fault f from to ≡ Some fault → ⊥
+no_stop : (f : FeedParts) (from : Option (List ℕ)) (to : List ℕ) (a b : ℕ) (fault : Fault) → place_of_stop f (unwrap_or from to) ≡ Some a → place_of_stop f to ≡ Some b → feed_stop_fault f from to ≡ Some fault → ⊥
 no_stop f from to a b fault h k e = grind arith
 
 module _ (limits : Limits) (files : FileMap) (folder : List ℕ) (h : GtfsFolder) (is : IsFolder limits files folder h) where
@@ -46,13 +46,13 @@ module _ (limits : Limits) (files : FileMap) (folder : List ℕ) (h : GtfsFolder
   no_folder_fault g u (inl k) = grind (arith, not_feed)
   no_folder_fault g u (inr (f, feed, later)) = no_later f g (one_feed_of (tables_in files folder limits None) f h.feed feed is.feed) u later
 
-no_window : (limits : Limits) (horizon : ℕ) (j : JourneyModel) (h : GtfsFolder) (a b : ℕ) (fault : Fault) → place_of_stop h.feed j.from ≡ Some a → place_of_stop h.feed j.to ≡ Some b
+no_window : (limits : Limits) (horizon : ℕ) (j : JourneyModel) (h : GtfsFolder) (a b : ℕ) (fault : Fault) → place_of_stop h.feed (source_or_target j) ≡ Some a → place_of_stop h.feed j.to ≡ Some b
     → window_fault_of limits horizon j h ≡ None → IsWindowFault limits horizon j h fault → ⊥
 no_window limits horizon j h a b fault from to sound (inl e) = no_stop h.feed j.from j.to a b fault from to e
 no_window limits horizon j h a b fault from to sound (inr (none, is)) = not_both (window_fault_of limits horizon j h) fault sound is
 
 no_after : (limits : Limits) (files : FileMap) (horizon : ℕ) (j : JourneyModel) (h : GtfsFolder) (a b : ℕ) (fault : Fault) → NotRead fault → delay_fault limits (file_at files j.delays) None ≡ None
-    → place_of_stop h.feed j.from ≡ Some a → place_of_stop h.feed j.to ≡ Some b → window_fault_of limits horizon j h ≡ None
+    → place_of_stop h.feed (source_or_target j) ≡ Some a → place_of_stop h.feed j.to ≡ Some b → window_fault_of limits horizon j h ≡ None
     → IsFaultAfterFolder limits files horizon j h fault → ⊥
 no_after limits files horizon j h a b fault n none from to sound (inl e) = grind (arith, not_both, none_unread)
 no_after limits files horizon j h a b fault n none from to sound (inr (ok, w)) = no_window limits horizon j h a b fault from to sound w

@@ -1,6 +1,6 @@
 -- A folder with a delay file has one problem.
-use Rattle.journey_problem.proofs.Common.{◌≡◌, ℕ, sym, ap, ◌∙◌, subst, arith, List, Some, Result, Ok, Err, IsOkAnd, cases_lt, FileMap, file_at, Limits, FeedFault, DelayLists, FeedParts, ServiceParts}
-use Rattle.journey_problem.proofs.Common.{runs, Calendars, RunsBy, ChangeParts, AreCollectedChanges, place_seconds, links_of, place_of_stop, IsNetworkFrom, JourneyModel, GtfsFolder, IsFolder}
+use Rattle.journey_problem.proofs.Common.{◌≡◌, ℕ, refl, sym, ap, ◌∙◌, subst, arith, List, Some, Result, Ok, Err, IsOkAnd, cases_lt, FileMap, file_at, Limits, FeedFault, DelayLists, FeedParts, ServiceParts}
+use Rattle.journey_problem.proofs.Common.{runs, Calendars, RunsBy, ChangeParts, AreCollectedChanges, place_seconds, links_of, place_of_stop, IsNetworkFrom, JourneyModel, source_or_target, Problem, AreDelaysOf, GtfsFolder, IsFolder}
 use Rattle.journey_problem.proofs.Common.{IsFeedProblem, window_fault_of}
 use Rattle.std.proofs.lemmas.List.{get_or_past}
 use Rattle.table_files.specs.Required.{Records}
@@ -41,16 +41,33 @@ module _ (limits : Limits) (files : FileMap) (folder : List ℕ) where
   pub one_window_fault : (horizon : ℕ) (j : JourneyModel) (g h : GtfsFolder) → SameGtfsFolder g h → window_fault_of limits horizon j g ≡ window_fault_of limits horizon j h
   one_window_fault horizon j g h s = grind (arith, same_count, same_entries)
 
+  -- journeys with one delay file and one start
+  module _ (horizon : ℕ) (j i : JourneyModel) (p q : Problem) (delays : i.delays ≡ j.delays) (start : i.start ≡ j.start)
+      (a : IsFeedProblem limits files folder horizon j p) (b : IsFeedProblem limits files folder horizon i q) where
+    one_folder_of : SameGtfsFolder a.parts b.parts
+    one_folder_of = one_folder a.parts b.parts a.is_folder b.is_folder
+
+    pub one_feed_timetable : (p.timetable.network ≡ q.timetable.network) × (p.timetable.names ≡ q.timetable.names)
+    one_feed_timetable =
+        let lists : a.lists ≡ b.lists = delays_of_one limits (file_at files j.delays) a.lists b.lists a.are_delays
+        (subst (λ (at : List ℕ). AreDelaysOf limits (file_at files at) b.lists) delays b.are_delays) in
+        let here : IsNetworkFrom b.parts.feed b.parts.services b.parts.changes b.lists j.start horizon q.timetable.network q.timetable.names
+        = subst (λ (from : ℕ). IsNetworkFrom b.parts.feed b.parts.services b.parts.changes b.lists from horizon q.timetable.network q.timetable.names) start b.timetable.is_network in
+        let other : IsNetworkFrom a.parts.feed b.parts.services b.parts.changes a.lists j.start horizon q.timetable.network q.timetable.names
+        = subst (λ (f : FeedParts). IsNetworkFrom f b.parts.services b.parts.changes a.lists j.start horizon q.timetable.network q.timetable.names) (sym one_folder_of.feed)
+        (subst (λ (d : DelayLists). IsNetworkFrom b.parts.feed b.parts.services b.parts.changes d j.start horizon q.timetable.network q.timetable.names) (sym lists) here) in
+        one_window a.parts.feed a.parts.services b.parts.services a.parts.changes b.parts.changes a.lists j.start horizon one_folder_of.days one_folder_of.changes one_folder_of.links
+        p.timetable.network q.timetable.network p.timetable.names q.timetable.names a.timetable.is_network other
+
+    -- a stop has one place
+    pub one_feed_stop : (name same : List ℕ) → same ≡ name → (x y : ℕ) → place_of_stop a.parts.feed name ≡ Some x → place_of_stop b.parts.feed same ≡ Some y → x ≡ y
+    one_feed_stop name same is x y here there =
+        one_place a.parts.feed b.parts.feed one_folder_of.feed name x y here (subst (λ (n : List ℕ). place_of_stop b.parts.feed n ≡ Some y) is there)
+
   -- a folder and a delay file have one problem of a journey
   pub one_feed_problem : (horizon : ℕ) (j : JourneyModel) (p q : _) → IsFeedProblem limits files folder horizon j p → IsFeedProblem limits files folder horizon j q → p ≡ q
   one_feed_problem horizon j p q a b =
-      let parts = one_folder a.parts b.parts a.is_folder b.is_folder in
-      let lists : a.lists ≡ b.lists = delays_of_one limits (file_at files j.delays) a.lists b.lists a.are_delays b.are_delays in
-      let other : IsNetworkFrom a.parts.feed b.parts.services b.parts.changes a.lists j.start horizon q.timetable.network q.timetable.names
-      = subst (λ (f : FeedParts). IsNetworkFrom f b.parts.services b.parts.changes a.lists j.start horizon q.timetable.network q.timetable.names) (sym parts.feed)
-      (subst (λ (d : DelayLists). IsNetworkFrom b.parts.feed b.parts.services b.parts.changes d j.start horizon q.timetable.network q.timetable.names) (sym lists) b.timetable.is_network) in
-      let w = one_window a.parts.feed a.parts.services b.parts.services a.parts.changes b.parts.changes a.lists j.start horizon parts.days parts.changes parts.links
-      p.timetable.network q.timetable.network p.timetable.names q.timetable.names a.timetable.is_network other in
-      let source : p.source.0 ≡ q.source.0 = one_place a.parts.feed b.parts.feed parts.feed j.from p.source.0 q.source.0 a.timetable.source b.timetable.source in
-      let target : p.target.0 ≡ q.target.0 = one_place a.parts.feed b.parts.feed parts.feed j.to p.target.0 q.target.0 a.timetable.target b.timetable.target in
+      let source = one_feed_stop horizon j j p q refl refl a b (source_or_target j) (source_or_target j) refl p.source.0 q.source.0 a.timetable.source b.timetable.source in
+      let target = one_feed_stop horizon j j p q refl refl a b j.to j.to refl p.target.0 q.target.0 a.timetable.target b.timetable.target in
+      let w = one_feed_timetable horizon j j p q refl refl a b in
       same_problem p q w.0 w.1 (λ i. record { 0 = source i }) (λ i. record { 0 = target i })

@@ -7,7 +7,7 @@ use Rattle.plan_model.specs.Propositions.{IsValid-prop}
 NamesFit-prop : (names : NameLists) (network : NetworkModel) → IsProp (NamesFit names network)
 NamesFit-prop names network = Prim.hlevel props
 
-same_timetable : (s t : Timetable) → s.network ≡ t.network → s.names ≡ t.names → s ≡ t
+pub same_timetable : (s t : Timetable) → s.network ≡ t.network → s.names ≡ t.names → s ≡ t
 same_timetable s t network named =
     let P : NetworkModel → NameLists → Type 0 = λ n names. (valid : IsValid n) (fit : NamesFit names n) → s ≡ record { network = n; names = names; valid = valid; fit = fit } in
     let here : P s.network s.names = λ valid fit i. record {

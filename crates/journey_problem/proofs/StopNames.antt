@@ -1,5 +1,5 @@
 -- Whether the stops of a journey are among the names.
-use Rattle.journey_problem.proofs.Common.{arith, ◌≡◌, ℕ, zero, suc, List, [], ◌∷◌, Some, None, Bool, true, false, Contains, refl, slice_get, bytes_eq, UnknownStop, is_among, stop_fault}
+use Rattle.journey_problem.proofs.Common.{arith, ◌≡◌, ℕ, zero, suc, List, [], ◌∷◌, Option, Some, None, unwrap_or, Bool, true, false, Contains, refl, slice_get, bytes_eq, UnknownStop, is_among, stop_fault, first_which}
 use Rattle.std.proofs.Math.Bool.{or-true}
 use Rattle.std.proofs.lemmas.Slice.Eq.{bytes_eq-Decides}
 use Rattle.std.proofs.lemmas.Map.Views.{Contains-from_any}
@@ -17,11 +17,11 @@ among-false names name false e absent = e
 among-absent : (names : List (List ℕ)) (name : List ℕ) → ¬ Contains names name → is_among names name ≡ false
 among-absent names name absent = among-false names name (is_among names name) refl absent
 
-pub stop_fault-from : (names : List (List ℕ)) (from to : List ℕ) → ¬ Contains names from → stop_fault names from to ≡ Some (UnknownStop which.From)
-stop_fault-from names from to absent = rw (among-absent names from absent) refl
+pub stop_fault-from : (names : List (List ℕ)) (from : Option (List ℕ)) (to : List ℕ) → ¬ Contains names (unwrap_or from to) → stop_fault names from to ≡ Some (UnknownStop (first_which from))
+stop_fault-from names from to absent = rw (among-absent names (unwrap_or from to) absent) refl
 
-pub stop_fault-to : (names : List (List ℕ)) (from to : List ℕ) (k : ℕ) → slice_get names k ≡ Some from → ¬ Contains names to → stop_fault names from to ≡ Some (UnknownStop which.To)
-stop_fault-to names from to k there absent = rw (among-at names k from there, among-absent names to absent) refl
+pub stop_fault-to : (names : List (List ℕ)) (from : Option (List ℕ)) (to : List ℕ) (k : ℕ) → slice_get names k ≡ Some (unwrap_or from to) → ¬ Contains names to → stop_fault names from to ≡ Some (UnknownStop which.To)
+stop_fault-to names from to k there absent = rw (among-at names k (unwrap_or from to) there, among-absent names to absent) refl
 
-pub stop_fault-none : (names : List (List ℕ)) (from to : List ℕ) (k j : ℕ) → slice_get names k ≡ Some from → slice_get names j ≡ Some to → stop_fault names from to ≡ None
-stop_fault-none names from to k j there here = rw (among-at names k from there, among-at names j to here) refl
+pub stop_fault-none : (names : List (List ℕ)) (from : Option (List ℕ)) (to : List ℕ) (k j : ℕ) → slice_get names k ≡ Some (unwrap_or from to) → slice_get names j ≡ Some to → stop_fault names from to ≡ None
+stop_fault-none names from to k j there here = rw (among-at names k (unwrap_or from to) there, among-at names j to here) refl

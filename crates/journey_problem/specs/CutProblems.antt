@@ -1,5 +1,5 @@
 -- The timetable of a cut file, and the first fault of a journey over it.
-use Rattle.std.specs.Prelude.{◌≡◌, ℕ, Bool, List, [], Option, None, Some, Result, Ok, Err, if◌then◌else◌, slice_get}
+use Rattle.std.specs.Prelude.{◌≡◌, ℕ, Bool, List, [], Option, None, Some, Result, Ok, Err, if◌then◌else◌, slice_get, unwrap_or}
 use Rattle.std.specs.List.{list_any}
 use Rattle.std.specs.Str.{bytes_eq}
 use Rattle.std.specs.Option.{option_or}
@@ -11,13 +11,14 @@ use Rattle.cut_file.specs.CutNetwork.{IsCutNetwork}
 use Rattle.delay_table.specs.DelayLists.{DelayLists}
 use Rattle.delay_table.specs.Slots.{AreDelays}
 use Rattle.plan_model.specs.NameLists.{NameLists}
-use Rattle.command_line.specs.Jobs.{JourneyModel}
+use Rattle.command_line.specs.Jobs.{JourneyModel, source_or_target}
 use Rattle.journey_model.specs.declared.faults.Input.{Input}
 use Rattle.journey_model.specs.declared.faults.Which.TheVariants as which
 use Rattle.journey_model.specs.declared.faults.Fault.{Fault}
 use Rattle.journey_model.specs.declared.faults.Fault.TheVariants.{UnknownStop}
 use Rattle.journey_model.specs.declared.problem.Problem.{Problem}
 use Rattle.journey_problem.specs.Files.{Records}
+use Rattle.journey_problem.specs.Stops.{first_which}
 use Rattle.journey_problem.specs.InputTables.{IsCutTable, AreDelaysOf, cut_records, cut_fault, delay_fault}
 
 -- the place names of the cut file
@@ -29,12 +30,12 @@ places_in (Ok table) = place_names table (row_count table)
 abbrev pub is_among : List (List ℕ) → List ℕ → Bool
 is_among names name = list_any (λ other. bytes_eq name other) names
 
--- a stop of the journey that no place is named by
-abbrev pub stop_fault : List (List ℕ) → (from to : List ℕ) → Option Fault
+-- the first stop of a journey that no place is named by: the source, if it has one, or the target
+abbrev pub stop_fault : List (List ℕ) → (from : Option (List ℕ)) (to : List ℕ) → Option Fault
 stop_fault names from to =
-    if is_among names from
+    if is_among names (unwrap_or from to)
     then (if is_among names to then None else Some (UnknownStop which.To))
-    else Some (UnknownStop which.From)
+    else Some (UnknownStop (first_which from))
 
 -- the first fault: of the cut file, of the delay file, of the stops
 abbrev pub cut_problem_fault : Limits → FileMap → List ℕ → JourneyModel → Option Input → Option Fault
@@ -48,10 +49,10 @@ abbrev pub IsNamed : NameLists → ℕ → List ℕ → Type 0
 IsNamed names place name = slice_get names.places place ≡ Some name
 
 -- the network and the names are those of the cut file of this table with these delays; and the journey goes from the place
--- that is named as its first stop to that of its last
+-- that is named as its source to that of its target. A journey without a source has its target in place of one
 pub record IsCutTimetable (table : Records) (lists : DelayLists) (j : JourneyModel) (p : Problem) : Type 0 where
   pub is_network : IsCutNetwork table lists p.timetable.network p.timetable.names
-  pub source : IsNamed p.timetable.names p.source.0 j.from
+  pub source : IsNamed p.timetable.names p.source.0 (source_or_target j)
   pub target : IsNamed p.timetable.names p.target.0 j.to
 
 -- this is so of some cut file with no fault and some delays

@@ -1,5 +1,5 @@
 -- The timetable of a feed's folder, and the first fault of a journey over it.
-use Rattle.std.specs.Prelude.{◌≡◌, ℕ, ◌+◌, ◌⊎◌, List, Option, None, Some, Err, IsOk, IsOkAnd, is_none, option_map, if◌then◌else◌}
+use Rattle.std.specs.Prelude.{◌≡◌, ℕ, ◌+◌, ◌⊎◌, List, Option, None, Some, Err, IsOk, IsOkAnd, is_none, option_map, unwrap_or, if◌then◌else◌}
 use Rattle.file_ports.specs.Ports.{FileMap, file_at}
 use Rattle.csv_rows.specs.declared.feed_tables.FeedFault.{FeedFault}
 use Rattle.csv_rows.specs.declared.feed_tables.FeedFault.TheVariants as feed
@@ -15,7 +15,7 @@ use Rattle.delay_table.specs.Slots.{AreDelays}
 use Rattle.connections.specs.declared.cuts.WindowFault.{WindowFault}
 use Rattle.connections.specs.declared.cuts.WindowFault.TheVariants as window
 use Rattle.connections.specs.Cut.{IsNetworkFrom, fault_from}
-use Rattle.command_line.specs.Jobs.{JourneyModel}
+use Rattle.command_line.specs.Jobs.{JourneyModel, source_or_target}
 use Rattle.journey_model.specs.declared.faults.Input.TheVariants as input
 use Rattle.journey_model.specs.declared.faults.Which.TheVariants as which
 use Rattle.journey_model.specs.declared.faults.LimitKind.TheVariants.{Bytes, Rows, Connections, Entries}
@@ -24,6 +24,7 @@ use Rattle.journey_model.specs.declared.faults.Fault.TheVariants.{Feed, UnknownS
 use Rattle.journey_model.specs.declared.problem.Problem.{Problem}
 use Rattle.journey_model.specs.Faults.{unread_input}
 use Rattle.journey_problem.specs.InputTables.{AreDelaysOf, delay_fault}
+use Rattle.journey_problem.specs.Stops.{first_which}
 
 -- a fault of a feed as one of the run
 abbrev pub feed_as : Limits → FeedFault → Fault
@@ -68,10 +69,10 @@ IsFolderFault limits files folder fault =
     (tables_in files folder limits (unread_table fault) ≡ Err fault)
     ⊎ ((f : FeedParts) × IsFeedOf (tables_in files folder limits None) f × IsLaterTableFault limits files folder f fault)
 
--- a stop of the journey that the feed does not have
-abbrev pub feed_stop_fault : FeedParts → (from to : List ℕ) → Option Fault
+-- the first stop of a journey that the feed does not have: the source, if the journey has one, or the target
+abbrev pub feed_stop_fault : FeedParts → (from : Option (List ℕ)) (to : List ℕ) → Option Fault
 feed_stop_fault f from to =
-    if is_none (place_of_stop f from) then Some (UnknownStop which.From)
+    if is_none (place_of_stop f (unwrap_or from to)) then Some (UnknownStop (first_which from))
     else if is_none (place_of_stop f to) then Some (UnknownStop which.To)
     else None
 
@@ -104,10 +105,10 @@ IsFeedProblemFault limits files folder horizon j fault =
     ⊎ ((h : GtfsFolder) × IsFolder limits files folder h × IsFaultAfterFolder limits files horizon j h fault)
 
 -- the network and the names are those of the window of a feed of these parts with these delays; and the journey goes from
--- the place of its first stop to that of its last
+-- the place of its source to that of its target. A journey without a source has its target in place of one
 pub record IsFeedTimetable (parts : GtfsFolder) (lists : DelayLists) (horizon : ℕ) (j : JourneyModel) (p : Problem) : Type 0 where
   pub is_network : IsNetworkFrom parts.feed parts.services parts.changes lists j.start horizon p.timetable.network p.timetable.names
-  pub source : place_of_stop parts.feed j.from ≡ Some p.source.0
+  pub source : place_of_stop parts.feed (source_or_target j) ≡ Some p.source.0
   pub target : place_of_stop parts.feed j.to ≡ Some p.target.0
 
 -- whatever the files contain, each part is that of some tables with no fault

@@ -2,6 +2,7 @@ pub mod Files
 pub mod InputTables
 pub mod FaultsBeforeSearch
 pub mod Paths
+pub mod Stops
 pub mod GraphFiles
 pub mod CertificateFiles
 pub mod CutProblems

@@ -1,5 +1,5 @@
 -- The files of a journey have one problem, and no other file counts.
-use Rattle.std.specs.Prelude.{◌≡◌, ◌≢◌, ◌↔◌, ℕ, List, Some}
+use Rattle.std.specs.Prelude.{◌≡◌, ◌≢◌, ◌↔◌, ℕ, List, Option, Some}
 use Rattle.file_ports.specs.Ports.{FileMap}
 use Rattle.file_ports.specs.Steady.{PutsFile}
 use Rattle.csv_rows.specs.declared.limits.Limits.{Limits}
@@ -16,6 +16,13 @@ abbrev pub HasOneProblem : Type 0
 HasOneProblem =
     (limits : Limits) (files : FileMap) (j : JourneyModel) (p q : Problem)
     → IsProblem limits files j p → IsProblem limits files j q → p ≡ q
+
+-- where a journey begins, or that it has no source, changes neither its timetable nor its target
+abbrev pub HasOneTimetable : Type 0
+HasOneTimetable =
+    (limits : Limits) (files : FileMap) (j : JourneyModel) (from : Option (List ℕ)) (p q : Problem)
+    → IsProblem limits files j p → IsProblem limits files (record j { from = from }) q
+    → (p.timetable ≡ q.timetable) × (p.target ≡ q.target)
 
 -- files of which a problem is made have no fault, unless one fails to be read or there is no memory
 abbrev pub HasNoFault : Type 0

@@ -4,7 +4,7 @@ ghost use Rattle.cut_file.specs.CutNetwork.{IsCutNetwork};
 ghost use Rattle.cut_file.specs.Read.{IsCutRead};
 ghost use Rattle.file_ports.specs.Ports.{file_at};
 ghost use Rattle.command_line.specs.Shown.{journey_shown};
-ghost use Rattle.command_line.specs.Jobs.{TimetableModel, CutFile};
+ghost use Rattle.command_line.specs.Jobs.{TimetableModel, CutFile, source_or_target};
 ghost use Rattle.journey_model.specs.Faults.{IsFirst, MayBeUnread, unread_input};
 ghost use Rattle.journey_problem.specs.Files.{Records, OwnPaths, path_by, HasCauses};
 ghost use Rattle.journey_problem.specs.FaultsBeforeSearch.{IsBeforeSearch};
@@ -12,6 +12,7 @@ ghost use Rattle.journey_problem.specs.CutProblems.{cut_problem_fault, IsCutProb
 ghost use Rattle.journey_problem.specs.InputTables.{HasCut, IsCutOfSome};
 
 use crate::inputs::{read_cut_file, read_delay_file};
+use crate::stops::first_which;
 use command_line::Journey;
 use csv_rows::Limits;
 use cut_file::CutTable;
@@ -22,19 +23,21 @@ use plan_model::{Names, Timetable};
 use std::alloc::Global;
 
 /// The places that are named as the stops of a journey.
-fn ends_of(names: &Names, from: &str, to: &str) -> Result<Ends, Fault>
-    ensures source { IfOk result (λ ends. IsNamed names.now ends.source.0 from.now) }
-    ensures target { IfOk result (λ ends. IsNamed names.now ends.target.0 to.now) }
-    ensures none { OnOk result (stop_fault names.now.places from.now to.now ≡ None) }
-    ensures fault { IfErr result (λ fault.
-        stop_fault names.now.places from.now to.now ≡ Some fault) }
+fn ends_of(names: &Names, journey: &Journey) -> Result<Ends, Fault>
+    ensures source { IfOk result (λ ends.
+        IsNamed names.now ends.source.0 (source_or_target (journey_shown journey.now))) }
+    ensures target { IfOk result (λ ends. IsNamed names.now ends.target.0 journey.now.to.now) }
+    ensures none { OnOk result (stop_fault names.now.places
+        (journey_shown journey.now).from journey.now.to.now ≡ None) }
+    ensures fault { IfErr result (λ fault. stop_fault names.now.places
+        (journey_shown journey.now).from journey.now.to.now ≡ Some fault) }
     ensures early { (timetable : TimetableModel) → IfErr result (IsBeforeSearch timetable) }
     ensures read { IfErr result (λ fault. unread_input fault ≡ None) }
 {
-    let Some(source) = names.place(from) else {
-        return Err(Fault::UnknownStop(Which::From));
+    let Some(source) = names.place(journey.source_or_target()) else {
+        return Err(Fault::UnknownStop(first_which(journey)));
     };
-    let Some(target) = names.place(to) else {
+    let Some(target) = names.place(journey.to) else {
         return Err(Fault::UnknownStop(Which::To));
     };
     Ok(Ends { source, target })
@@ -51,19 +54,19 @@ fn problem_in(
         → IsCutRead table cut.now.runs cut.now.places cut.now.rows cut.now.keys
         → IsCutNetwork table delays.now p.timetable.network p.timetable.names) }
     ensures source { IfOk result (λ p.
-        IsNamed p.timetable.names p.source.0 journey.now.from.now) }
+        IsNamed p.timetable.names p.source.0 (source_or_target (journey_shown journey.now))) }
     ensures target { IfOk result (λ p.
         IsNamed p.timetable.names p.target.0 journey.now.to.now) }
     ensures none { OnOk result
-        (stop_fault cut.now.places journey.now.from.now journey.now.to.now ≡ None) }
+        (stop_fault cut.now.places (journey_shown journey.now).from journey.now.to.now ≡ None) }
     ensures fault { IfErr result (λ fault. fault ≢ Fault.NoMemory
-        → stop_fault cut.now.places journey.now.from.now journey.now.to.now ≡ Some fault) }
+        → stop_fault cut.now.places (journey_shown journey.now).from journey.now.to.now ≡ Some fault) }
     ensures early { (timetable : TimetableModel) → IfErr result (IsBeforeSearch timetable) }
     ensures read { IfErr result (λ fault. unread_input fault ≡ None) }
 {
     let (network, names) = cut.network(alloc, delays)?;
     let timetable = Timetable::new(network, names);
-    let ends = ends_of(&timetable.names, journey.from, journey.to)?;
+    let ends = ends_of(&timetable.names, journey)?;
     Ok(Problem::between(ends, timetable))
 }
 

@@ -7,7 +7,7 @@ ghost use Rattle.connections.specs.Cut.{IsNetworkFrom};
 ghost use Rattle.service_days.specs.Services.{runs};
 ghost use Rattle.service_days.specs.Calendars.{RunsBySome};
 ghost use Rattle.command_line.specs.Shown.{journey_shown};
-ghost use Rattle.command_line.specs.Jobs.{TimetableModel, FeedFolder};
+ghost use Rattle.command_line.specs.Jobs.{TimetableModel, FeedFolder, source_or_target};
 ghost use Rattle.command_line.specs.Ranges.{IsJourney};
 ghost use Rattle.command_line.specs.Values.{most_horizon};
 ghost use Rattle.journey_model.specs.Faults.{MayBeUnread, unread_input};
@@ -18,6 +18,7 @@ ghost use Rattle.journey_problem.specs.Folders.{gtfs_folder_of};
 
 use crate::feed_tables::{FeedRules, FeedTables};
 use crate::inputs::read_delay_file;
+use crate::stops::first_which;
 use change_times::Changes;
 use command_line::Journey;
 use connections::{WindowFault, cut};
@@ -99,19 +100,23 @@ fn fault_of(fault: FeedFault, limits: &Limits) -> Fault
 }
 
 /// The places of the stops of a journey.
-fn ends_of(feed: &Feed, from: &str, to: &str) -> Result<Ends, Fault>
-    ensures source { IfOk result (λ ends. place_of_stop feed.now from.now ≡ Some ends.source.0) }
-    ensures target { IfOk result (λ ends. place_of_stop feed.now to.now ≡ Some ends.target.0) }
+fn ends_of(feed: &Feed, journey: &Journey) -> Result<Ends, Fault>
+    ensures source { IfOk result (λ ends.
+        place_of_stop feed.now (source_or_target (journey_shown journey.now)) ≡ Some ends.source.0) }
+    ensures target { IfOk result (λ ends.
+        place_of_stop feed.now journey.now.to.now ≡ Some ends.target.0) }
     ensures source_in { IfOk result (λ ends. ends.source.0 < length feed.now.stop_ids) }
     ensures target_in { IfOk result (λ ends. ends.target.0 < length feed.now.stop_ids) }
-    ensures none { OnOk result (feed_stop_fault feed.now from.now to.now ≡ None) }
-    ensures fault { IfErr result (λ fault. feed_stop_fault feed.now from.now to.now ≡ Some fault) }
+    ensures none { OnOk result (feed_stop_fault feed.now
+        (journey_shown journey.now).from journey.now.to.now ≡ None) }
+    ensures fault { IfErr result (λ fault. feed_stop_fault feed.now
+        (journey_shown journey.now).from journey.now.to.now ≡ Some fault) }
     ensures early { (timetable : TimetableModel) → IfErr result (IsBeforeSearch timetable) }
 {
-    let Some(source) = feed.place_of(from) else {
-        return Err(Fault::UnknownStop(Which::From));
+    let Some(source) = feed.place_of(journey.source_or_target()) else {
+        return Err(Fault::UnknownStop(first_which(journey)));
     };
-    let Some(target) = feed.place_of(to) else {
+    let Some(target) = feed.place_of(journey.to) else {
         return Err(Fault::UnknownStop(Which::To));
     };
     Ok(Ends { source, target })
@@ -133,7 +138,7 @@ fn window_problem(
     ensures no_window_fault { OnOk result (window_fault_of limits.now horizon
         (journey_shown journey.now) (gtfs_folder_of tables.now) ≡ None) }
     ensures source { IfOk result (λ p.
-        place_of_stop tables.now.feed journey.now.from.now ≡ Some p.source.0) }
+        place_of_stop tables.now.feed (source_or_target (journey_shown journey.now)) ≡ Some p.source.0) }
     ensures target { IfOk result (λ p.
         place_of_stop tables.now.feed journey.now.to.now ≡ Some p.target.0) }
     ensures fault { IfErr result (λ fault. fault ≢ Fault.NoMemory → IsWindowFault limits.now
@@ -141,7 +146,7 @@ fn window_problem(
     ensures early { (folder : Bytes ℕ) → IfErr result (IsBeforeSearch (FeedFolder folder horizon)) }
     ensures read { IfErr result (λ fault. unread_input fault ≡ None) }
 {
-    let ends = ends_of(&tables.feed, journey.from, journey.to)?;
+    let ends = ends_of(&tables.feed, journey)?;
     match cut(
         alloc,
         &tables.feed,

@@ -1,9 +1,14 @@
 //! The files of a journey have one problem, and no other file counts.
-ghost use Rattle.journey_problem.specs.OneProblem.{HasOneProblem, HasNoFault, HasOwnProblem, HasOwnFault, KeepsOwnFiles, HasProblemOfRecords, HasFaultOfRecords};
+ghost use Rattle.journey_problem.specs.OneProblem.{HasOneProblem, HasOneTimetable, HasNoFault, HasOwnProblem, HasOwnFault, KeepsOwnFiles, HasProblemOfRecords, HasFaultOfRecords};
 
 /// Two problems of a journey over the same files are one.
 pub fn files_have_one_problem()
     ensures { HasOneProblem }
+{}
+
+/// Where a journey begins, or that it has no source, changes neither its timetable nor its target.
+pub fn journeys_to_a_stop_have_one_timetable()
+    ensures { HasOneTimetable }
 {}
 
 /// Files of which a problem is made have no fault, unless one fails to be read or there is no memory.

@@ -13,11 +13,13 @@ mod graph_files;
 mod inputs;
 mod journey;
 mod laws;
+mod stops;
 
 pub use certificate_files::read_certificate_file;
 pub use graph_files::read_graph_file;
 pub use journey::problem_of;
 pub use laws::{
-    files_have_one_problem, files_of_a_problem_have_no_fault, only_own_files_count,
-    only_records_count, saving_elsewhere_keeps_own_files,
+    files_have_one_problem, files_of_a_problem_have_no_fault,
+    journeys_to_a_stop_have_one_timetable, only_own_files_count, only_records_count,
+    saving_elsewhere_keeps_own_files,
 };

@@ -25,7 +25,7 @@ abbrev pub sample_journey : JourneyModel
 sample_journey = record {
   timetable = FeedFolder (codes "feed") 24;
   delays = codes "delays.csv";
-  from = codes "H0";
+  from = Some (codes "H0");
   to = codes "H5";
   start = 1717401601;
 }

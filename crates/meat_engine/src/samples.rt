@@ -37,7 +37,7 @@ fn sample_journey() -> Journey<'static>
     Journey {
         timetable: Timetable::Feed("feed", 24),
         delays: "delays.csv",
-        from: "H0",
+        from: Some("H0"),
         to: "H5",
         start: Moment(1_717_401_601),
     }

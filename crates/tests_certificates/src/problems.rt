@@ -11,7 +11,7 @@ use test_runs::{Source, files_of};
 const JOURNEY: Journey<'static> = Journey {
     timetable: Timetable::Cut("c"),
     delays: "d",
-    from: "A",
+    from: Some("A"),
     to: "T",
     start: Moment(1_717_401_600),
 };

@@ -27,7 +27,7 @@ fn words_of(alloc: Global, lines: &[&str]) -> Result<Vec<String>, Fail> {
 /// Whether a journey is that of `JOURNEY`.
 fn is_journey(journey: &Journey) -> bool {
     journey.delays == "d"
-        && journey.from == "A"
+        && journey.from == Some("A")
         && journey.to == "T"
         && journey.start == Moment(1_717_401_600)
 }
@@ -54,6 +54,21 @@ fn asks(alloc: Global, line: &str, timetable: Timetable, asked: Ask) -> Result<b
             Ok(ask == asked && are_same(journey.timetable, timetable) && is_journey(&journey))
         }
         _ => Ok(false),
+    }
+}
+
+/// A question about each place: where one can be at T by nine.
+const REACH: &str =
+    "reach --cut c --delays d --to T --at 2024-06-03T08:00:00 --until 2024-06-03T09:00:00";
+
+/// The deadline of a line that asks about each place and has no source.
+fn reach_deadline_of(alloc: Global, line: &str) -> Result<Option<Moment>, Fail> {
+    let words = words_of(alloc, &[line])?;
+    match read_job(words.as_slice()) {
+        Ok(Job::Journey(journey, Ask::Reach { until })) if journey.from.is_none() => {
+            Ok(Some(until))
+        }
+        _ => Ok(None),
     }
 }
 
@@ -176,6 +191,15 @@ fn asks_for_a_journey(rt: HostRuntime) -> Result<(), Fail> {
 }
 
 #[test]
+fn asks_about_each_place(rt: HostRuntime) -> Result<(), Fail> {
+    assert_eq!(rt;
+        reach_deadline_of(rt.alloc(), REACH)?,
+        Some(Moment(1_717_405_200))
+    );
+    Ok(())
+}
+
+#[test]
 fn begins_at_the_moment(rt: HostRuntime) -> Result<(), Fail> {
     for (line, start) in [
         ("--at 1970-01-08T00:00:00", 604_800),
@@ -210,7 +234,7 @@ fn reports_the_delays(rt: HostRuntime) -> Result<(), Fail> {
 }
 
 /// Lines that are refused, in parts, with the reason.
-const REFUSED: [(&[&str], WordsFault); 33] = [
+const REFUSED: [(&[&str], WordsFault); 39] = [
     (&["sample --size"], WordsFault::Line),
     (&["sample --size 10 --size 10"], WordsFault::Line),
     (&["sample --sizes 10"], WordsFault::Line),
@@ -230,6 +254,9 @@ const REFUSED: [(&[&str], WordsFault); 33] = [
     (&["plan --by x"], WordsFault::NotUsed(13)),
     (&["latest --until x --alpha 200"], WordsFault::NotUsed(7)),
     (&["latest --until x --last x"], WordsFault::NotUsed(15)),
+    (&["reach --from A --last x"], WordsFault::NotUsed(4)),
+    (&["reach --alpha 200"], WordsFault::NotUsed(7)),
+    (&["reach --until x --last x"], WordsFault::NotUsed(15)),
     (&["safe"], WordsFault::Missing(2)),
     (&["safe --cut c"], WordsFault::Missing(3)),
     (&["plan --feed f --delays d"], WordsFault::Missing(4)),
@@ -245,6 +272,15 @@ const REFUSED: [(&[&str], WordsFault); 33] = [
     (
         &["departures", TO_T, "--at x --until x"],
         WordsFault::Missing(15),
+    ),
+    (&["reach --cut c --delays d"], WordsFault::Missing(5)),
+    (
+        &["reach --cut c --delays d --to T --at x"],
+        WordsFault::Missing(14),
+    ),
+    (
+        &["reach --cut c --delays d --to T --at 2024-06-03T08:00:00 --until 2024-06-03T07:59:59"],
+        WordsFault::BadValue(14),
     ),
     (
         &["safe", TO_T, "--at 1970-01-07T23:59:59"],
@@ -354,6 +390,9 @@ fn reports_what_options_are_for(rt: HostRuntime) {
         (Command::Replay, OptionName::Graph, Use::Needed),
         (Command::Sample, OptionName::Size, Use::Needed),
         (Command::Sample, OptionName::At, Use::Unused),
+        (Command::Latest, OptionName::From, Use::Needed),
+        (Command::Reach, OptionName::From, Use::Unused),
+        (Command::Reach, OptionName::Until, Use::Needed),
     ] {
         assert_eq!(rt; command.use_of(option), done, "{}", option.name());
     }

@@ -1,5 +1,5 @@
 -- A journey over a folder with more trips.
-use Rattle.std.proofs.Common.{◌≡◌, ℕ, List, Option, Some, refl, sym, ap, ap₂, ◌∙◌, subst, arith}
+use Rattle.std.proofs.Common.{◌≡◌, ℕ, List, Option, Some, unwrap_or, refl, sym, ap, ap₂, ◌∙◌, subst, arith}
 use Rattle.plan_model.specs.declared.model.Moment.{Moment}
 use Rattle.plan_model.specs.Strategy.{IsLeastWorst}
 use Rattle.file_ports.specs.Ports.{file_at}
@@ -7,7 +7,7 @@ use Rattle.csv_rows.specs.declared.limits.Limits.{Limits}
 use Rattle.gtfs_tables.specs.Feeds.{FeedParts}
 use Rattle.change_times.specs.Transfers.{place_of_stop}
 use Rattle.delay_table.specs.DelayLists.{DelayLists}
-use Rattle.command_line.specs.Jobs.{JourneyModel}
+use Rattle.command_line.specs.Jobs.{JourneyModel, source_or_target}
 use Rattle.journey_model.specs.declared.problem.Problem.{Problem}
 use Rattle.journey_problem.specs.InputTables.{AreDelaysOf}
 use Rattle.journey_problem.proofs.OneCutProblem.{delays_of_one}
@@ -63,7 +63,9 @@ module _ (limits : Limits) (j i : JourneyModel) (p q : Problem) (both : AreMoreA
   places = own_places limits both.files both.others both.folder both.other both.rows both.less.parts both.more.parts both.less.is_folder both.more.is_folder
 
   pub source_same : q.source.0 ≡ p.source.0
-  source_same = place_same both.less.parts.feed both.more.parts.feed stops places j.from i.from both.journey.from p.source.0 q.source.0 both.less.timetable.source both.more.timetable.source
+  source_same =
+      let one : source_or_target i ≡ source_or_target j = ap₂ (λ (from : Option (List ℕ)) (to : List ℕ). unwrap_or from to) both.journey.from both.journey.to in
+      place_same both.less.parts.feed both.more.parts.feed stops places (source_or_target j) (source_or_target i) one p.source.0 q.source.0 both.less.timetable.source both.more.timetable.source
 
   pub target_same : q.target.0 ≡ p.target.0
   target_same = place_same both.less.parts.feed both.more.parts.feed stops places j.to i.to both.journey.to p.target.0 q.target.0 both.less.timetable.target both.more.timetable.target
