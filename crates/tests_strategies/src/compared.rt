@@ -40,7 +40,7 @@ struct Counts {
 
 /// Whether bounds in nanoseconds enclose an expected arrival over this many rides, and are as near as
 /// is promised.
-fn encloses(bounds: Span, expected: u128, rides: u32) -> bool {
+pub(crate) fn encloses(bounds: Span, expected: u128, rides: u32) -> bool {
     let scale = scale_of(rides);
     let nanoseconds = expected.saturating_mul(1_000_000_000);
     u128::from(bounds.lo()).saturating_mul(scale) <= nanoseconds

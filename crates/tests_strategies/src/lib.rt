@@ -8,4 +8,6 @@ mod compared;
 #[cfg(test)]
 mod made;
 #[cfg(test)]
+mod reached;
+#[cfg(test)]
 mod strategies;
