@@ -2,7 +2,7 @@
 """Measures the built program: processor seconds, peak memory and instructions, and how each grows with the input.
 
 One run prints a Markdown table, headed by the machine, the kit's version and the commit. The inputs are those of
-bench/inputs.py. Each of the ten commands has a line for each size of feed (`sample` up to 400 lines), and all but `sample`
+bench/inputs.py. Each of the eleven commands has a line for each size of feed (`sample` up to 400 lines), and all but `sample`
 have one for each size of cut file (bench/questions.py). A line shows
 
 - the items: stop times of the feed, or rows of the cut file;
@@ -13,8 +13,8 @@ have one for each size of cut file (bench/questions.py). A line shows
 are the seconds of `wc -l` over the same files.
 
 `--before PROGRAM` runs a second program in turn with the first. Further columns show its seconds and peak memory, and the
-seconds of the first divided by its own. An old program may not have `certify`, `check`, `punctual`, `departures` and `latest`,
-so these are left out, unless `--all` says that it has them.
+seconds of the first divided by its own. An old program may not have `certify`, `check`, `punctual`, `departures`, `latest` and
+`reach`, so these are left out, unless `--all` says that it has them.
 
 `--instructions` has valgrind count the instructions of each line, in one further run. Other work on the machine does not
 change them; since the key of the hashes is drawn anew, two runs differ by about a part in a thousand. Further columns show the

@@ -36,6 +36,12 @@ class Question:
         return [command, *self.files, "--delays", os.path.join(self.folder, "delays.csv"), "--from", self.source,
                 "--to", self.target, "--at", self.at, *self.more, *more]
 
+    def without_source(self, command: str, *more: str) -> list[str]:
+        """The words that ask for a command about each place."""
+        words = self.words(command, *more)
+        at = words.index("--from")
+        return words[:at] + words[at + 2:]
+
 
 def over_feed(folder: str, hours: int = 0) -> Question:
     """The question over a feed, with a window of these hours, or the default one."""
@@ -93,11 +99,12 @@ def of_bounds(program: str, question: Question) -> Iterator[tuple[str, list[str]
 
 
 def of_promises(question: Question) -> Iterator[tuple[str, list[str]]]:
-    """The least chance of being late, the departures of a day, and the last safe moment."""
+    """The least chance of being late, the departures of a day, and the last safe moment, of one place and of each."""
     until = ("--until", NEXT_MORNING)
     yield "punctual", question.words("punctual", "--by", PROMISE)
     yield "departures", question.words("departures", *until, "--last", NEXT_MORNING)
     yield "latest", question.words("latest", *until)
+    yield "reach", question.without_source("reach", *until)
 
 
 def commands(program: str, question: Question, newer: bool) -> Iterator[tuple[str, list[str]]]:

@@ -1,9 +1,10 @@
-"""Reads the rows that the program prints: plans, promises, departures, latest moments, least worst arrivals and trips.
+"""Reads the rows that the program prints: plans, promises, departures, latest moments, of one place or of each, least worst
+arrivals and trips.
 
     from plans import read, read_plan
 
-`read` takes what `plan`, `punctual`, `departures`, `latest`, `safe` or `replay` prints, and `read_plan` only what `plan` or
-`punctual` prints. docs/FORMATS.md has the rows. Moments have no zone. Any other text raises `Refused`, with the line and the
+`read` takes what `plan`, `punctual`, `departures`, `latest`, `reach`, `safe` or `replay` prints, and `read_plan` only what
+`plan` or `punctual` prints. docs/FORMATS.md has the rows. Moments have no zone. Any other text raises `Refused`, with the line and the
 reason.
 """
 
@@ -27,7 +28,7 @@ BOUND = re.compile(r"(\d{4}-\d\d-\d\dT\d\d:\d\d:\d\d)\.(\d{9})", re.ASCII)
 CHANCE = re.compile(r"[01]\.\d{18}", re.ASCII)
 NUMBER = re.compile(r"\d{1,10}", re.ASCII)
 # The first field of a text, and the command that prints it.
-COMMANDS = {"graph": "plan", "punctual": "punctual", "departures": "departures", "latest": "latest", "safe": "safe",
+COMMANDS = {"graph": "plan", "punctual": "punctual", "departures": "departures", "latest": "latest", "reach": "reach", "safe": "safe",
             "ride": "replay", "arrived": "replay", "expanded": "expand", "bounds": "certify", "holds": "check",
             "encloses": "check", "sample": "sample"}
 
@@ -129,6 +130,24 @@ class Latest:
 
 
 @dataclass(frozen=True)
+class ReachRow:
+    """The latest moment at which one can set out at a place and arrive by the deadline, and bounds on the expected arrival of a
+    traveller who sets out there at the first moment."""
+    place: str
+    latest: Moment
+    expected: Bounds
+
+
+@dataclass
+class Reach:
+    """The places from which one can arrive at the target by the deadline, all from one moment on."""
+    target: str
+    first: Moment
+    deadline: Moment
+    rows: list[ReachRow]
+
+
+@dataclass(frozen=True)
 class Safe:
     """The least worst arrival, and the deadline of plans."""
     source: str
@@ -158,7 +177,7 @@ class Trip:
     arrival: Moment
 
 
-Printed = Union[Plan, Departures, Latest, Safe, Trip]
+Printed = Union[Plan, Departures, Latest, Reach, Safe, Trip]
 
 
 def moment_text(moment: Moment) -> str:
@@ -338,6 +357,22 @@ def latest_of(rows: Rows) -> Latest:
     return Latest(rows.name(row[1]), rows.name(row[2]), rows.moment(row[3]), rows.moment(row[4]), rows.moment(row[5]))
 
 
+def reach_of(rows: Rows) -> Reach:
+    row = rows.fields(rows.next("reach"), 6)
+    if row[1] != "1":
+        rows.refuse("this is an unknown version of reach")
+    found = Reach(rows.name(row[2]), rows.moment(row[3]), rows.moment(row[4]), [])
+    known = {found.target}
+    for _ in range(rows.number(row[5])):
+        row = rows.fields(rows.next("from"), 5)
+        if row[1] in known:
+            rows.refuse("a place comes twice, or the target has a row")
+        known.add(row[1])
+        found.rows.append(ReachRow(rows.name(row[1]), rows.moment(row[2]), rows.bounds(row[3], row[4])))
+    rows.end()
+    return found
+
+
 def safe_of(rows: Rows) -> Safe:
     row = rows.fields(rows.next("safe"), 6)
     rows.end()
@@ -356,8 +391,8 @@ def trip_of(rows: Rows) -> Trip:
 
 
 READERS: dict[str, Callable[[Rows], Printed]] = {
-    "graph": plan_of, "punctual": plan_of, "departures": departures_of, "latest": latest_of, "safe": safe_of,
-    "ride": trip_of, "arrived": trip_of}
+    "graph": plan_of, "punctual": plan_of, "departures": departures_of, "latest": latest_of, "reach": reach_of,
+    "safe": safe_of, "ride": trip_of, "arrived": trip_of}
 
 
 def read(text: str) -> Printed:
@@ -368,7 +403,8 @@ def read(text: str) -> Printed:
         raise Refused("there is no text")
     if kind not in READERS:
         found = f"this is the output of `{COMMANDS[kind]}`" if kind in COMMANDS else "the program prints no such first row"
-        raise Refused(f"line 1: {found}; expected that of `plan`, `punctual`, `departures`, `latest`, `safe` or `replay`")
+        raise Refused(f"line 1: {found}; expected that of `plan`, `punctual`, `departures`, `latest`, `reach`, `safe` or "
+                      "`replay`")
     return READERS[kind](rows)
 
 

@@ -155,6 +155,7 @@ class Manual(Case):
         bash = call("manual", "", "bash").printed
         for command, options in (("sample", "--size"), ("certify", "--cut --feed --delays --from --to --at --alpha --horizon"),
                                  ("latest", "--cut --feed --delays --from --to --at --horizon --until"),
+                                 ("reach", "--cut --feed --delays --to --at --horizon --until"),
                                  ("check", "--cut --feed --delays --from --to --at --horizon --graph --proof")):
             self.assertIn(f"{command}) options='{options}' ;;", bash)
         check = subprocess.run(["bash", "-n"], input=bash.encode(), capture_output=True)

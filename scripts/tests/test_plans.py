@@ -7,12 +7,16 @@ from fractions import Fraction
 
 from support import CONNECTIONS, OLD_TOWN, Case, content
 
-from desk.plans import Departures, Latest, Moment, Plan, Refused, Safe, Trip, moment_text, read, read_plan
+from desk.plans import Departures, Latest, Moment, Plan, Reach, Refused, Safe, Trip, moment_text, read, read_plan
 
 PLAN = content(f"{OLD_TOWN}/graph.csv")
 DEPARTURES = """departures,1,B,T,2024-06-03T08:00:00,2024-06-03T08:40:00,2024-06-03T10:42:00,2
 row,2024-06-03T08:24:00,r2,1,2024-06-03T08:51:30.000000000,2024-06-03T08:51:30.000000001
 row,2024-06-03T08:40:00,r3,1,2024-06-03T09:07:30.000000000,2024-06-03T09:07:30.000000000
+"""
+REACH = """reach,1,T,2024-06-03T08:00:00,2024-06-03T10:42:00,2
+from,A,2024-06-03T08:00:00,2024-06-03T08:54:42.000000000,2024-06-03T08:54:42.000000000
+from,"S,1",2024-06-03T08:40:00,2024-06-03T08:51:30.000000000,2024-06-03T08:51:30.000000001
 """
 TRIP = """ride,r1,A,2024-06-03T08:00:00,B,2024-06-03T08:20:00,300,2024-06-03T08:25:00
 arrived,T,2024-06-03T09:21:00
@@ -52,12 +56,16 @@ class Plans(Case):
         assert isinstance(departures, Departures) and isinstance(latest, Latest)
         self.assertEqual([row.run for row in departures.rows], ["r2", "r3"])
         self.assertEqual(latest.moment, Moment(2024, 6, 3, 8, 40))
+        reach = read(REACH)
+        assert isinstance(reach, Reach)
+        self.assertEqual([(row.place, row.latest.minute) for row in reach.rows], [("A", 0), ("S,1", 40)])
         safe, trip = read("safe,A,T,2024-06-03T08:00:00,2024-06-03T09:21:00,2024-06-03T10:42:00\n"), read(TRIP)
         assert isinstance(safe, Safe) and isinstance(trip, Trip)
         self.assertEqual((safe.worst.minute, trip.rides[0].delay, trip.arrival.minute), (21, 300, 21))
 
     def test_spoilt_texts(self) -> None:
-        for text in [*spoilt(PLAN), *spoilt(DEPARTURES), *spoilt(TRIP), "", "\n", PLAN + "leg\n", PLAN.replace(",120,2,", ",120,x,"),
+        for text in [*spoilt(PLAN), *spoilt(DEPARTURES), *spoilt(REACH), *spoilt(TRIP), REACH.replace('"S,1"', "A"), REACH.replace(",T,", ",A,"),
+                     "", "\n", PLAN + "leg\n", PLAN.replace(",120,2,", ",120,x,"),
                      PLAN.replace("graph,1", "graph,3"), PLAN.replace(",120,2,", ",120,3,"), "certificate,1\n", "graph\n", 'graph,"1\n',
                      "punctual,1,2024-06-03T09:00:00,0.5,0.5\n" + PLAN, PLAN.replace("08:00:00", "24:00:00", 1), TRIP + TRIP,
                      PLAN.replace("42.000000000", "43.000000000", 1), PLAN.replace("2024", "٢٠٢٤", 1)]:

@@ -1,9 +1,11 @@
-//! Journeys over folders, by delays of routes and hours and with trips that repeat, through the top call.
+//! Journeys over folders, by delays of routes and hours, with trips that repeat and from each place, through the top call.
 #![tactic(auto)]
 
 #[cfg(test)]
 mod delays;
 #[cfg(test)]
 mod feeds;
+#[cfg(test)]
+mod reach;
 #[cfg(test)]
 mod repeats;

@@ -4,4 +4,6 @@
 #[cfg(test)]
 mod journeys;
 #[cfg(test)]
+mod reach;
+#[cfg(test)]
 mod rides;
