@@ -1,6 +1,6 @@
 -- The lists of a network with gates, as they are made.
-use Rattle.departure_table.proofs.Common.{◌≡◌, ℕ, ◌+◌, ◌<◌, List, [], ◌∷◌, ◌++◌, length, map, All, arith, sym, ap, ◌∙◌, inl, inr, append-nil, append_assoc, cases_eq, slice_index_or, range_with_len, take}
-use Rattle.departure_table.proofs.Common.{Connection, NetworkModel, plain_network, IsValid, AreLinksInto, PlaceId, Way, links_into, source_at, way_from, way_if_to, ways_from_gates, links_with_gates, places_with, extended_by}
+use Rattle.departure_table.proofs.Common.{◌≡◌, ℕ, ◌+◌, ◌<◌, List, [], ◌∷◌, ◌++◌, length, map, arith, sym, ap, ◌∙◌, inl, inr, append-nil, append_assoc, cases_eq, slice_index_or, range_with_len, take}
+use Rattle.departure_table.proofs.Common.{Connection, NetworkModel, plain_network, IsValid, AreLinksInto, FitGates, PlaceId, Way, links_into, source_at, way_from, way_if_to, ways_from_gates, links_with_gates, places_with, extended_by}
 use Rattle.std.specs.Prelude.{slice_set}
 use Rattle.std.proofs.lemmas.List.{get_or-set_same, get_or-set_other, take_more, length-take-le, ext_get_or}
 use Rattle.std.proofs.lemmas.List.FromFn.{map-range_with_len_more, length-map-range_with_len, get_or-map-range_with_len}
@@ -53,7 +53,7 @@ all_led_to m sources old now before many led =
     ∙ ap (λ (ways : List Way). ways ++ ways_from_gates (length m.change) sources r) (get_or-map-range_with_len (links_into m) 0 places r r [] inside (omega arith))
     ∙ sym (get_or-map-range_with_len (links_with_gates m sources) 0 places r r [] inside (omega arith)))
 
-module _ (m : NetworkModel) (v : IsValid m) (sources : List PlaceId) (there : All (λ source. source.0 < length m.change) sources) (few : length m.change + length sources < 4294967296) where
+module _ (m : NetworkModel) (v : IsValid m) (sources : List PlaceId) (fit : FitGates m sources) where
   abbrev more : NetworkModel
   more = extended_by m sources
 
@@ -61,13 +61,13 @@ module _ (m : NetworkModel) (v : IsValid m) (sources : List PlaceId) (there : Al
   pub plain_valid : (connections : List Connection) (change : List ℕ) (classes : List (List Outcome)) → connections ≡ m.connections → change ≡ more.change → classes ≡ m.classes
       → IsValid (plain_network connections change classes)
   plain_valid connections change classes a b d =
-      rw (a, b, d) (IsValid-relinked more [] (is_valid m v sources there few) (AreLinks-none (length more.change)))
+      rw (a, b, d) (IsValid-relinked more [] (is_valid m v sources fit.there fit.few) (AreLinks-none (length more.change)))
 
   -- there is a list of links for each place
   pub as_many_links : (links : List (List Way)) (change : List ℕ) → links ≡ more.links → change ≡ more.change → length links ≡ length change
   as_many_links links change a b =
-      ap length a ∙ length-map-range_with_len (links_with_gates m sources) 0 (places_with m sources) ∙ sym (places m v sources there few) ∙ ap length (sym b)
+      ap length a ∙ length-map-range_with_len (links_with_gates m sources) 0 (places_with m sources) ∙ sym (places m v sources fit.there fit.few) ∙ ap length (sym b)
 
   pub are_links : (links : List (List Way)) (change : List ℕ) → links ≡ more.links → change ≡ more.change → (r : ℕ) → r < length change → AreLinksInto (length change) r (slice_index_or links r [])
   are_links links change a b =
-      rw (a, b) (is_valid m v sources there few).links.each
+      rw (a, b) (is_valid m v sources fit.there fit.few).links.each

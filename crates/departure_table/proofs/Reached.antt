@@ -1,18 +1,9 @@
 -- What is said of each gate is said of each place.
-use Rattle.departure_table.proofs.Common.{◌≢◌, ℕ, ◌<◌, ◌≤◌, arith, Option, Some, None, length, MatchOption, Query, Moment, PlaceId, NetworkModel, IsValid, Tree, DepartureRow}
+use Rattle.departure_table.proofs.Common.{◌≢◌, ℕ, ◌<◌, ◌≤◌, arith, Option, Some, None, length, refl, MatchOption, Query, Moment, PlaceId, NetworkModel, IsValid, DepartureRow}
 use Rattle.departure_table.proofs.Common.{SafeAfter, SafeFrom, IsNoneSafeFrom, IsBestFrom, IsGreatestMoment, IsExtendedFor, IsGate, LooksAhead}
 use Rattle.departure_table.proofs.Sources.{says, to_source, from_source, answer_reported}
 use Rattle.departure_table.specs.Looked.{asked_at}
-use Rattle.departure_table.specs.Reach.{AreBounds, IsReachRow}
-
--- the best without its leg
-bounds_of : (m : NetworkModel) (Safe : ℕ → Tree → Type 0) (moment : ℕ) (row : DepartureRow) → IsBestFrom m Safe moment row → AreBounds m (Safe moment) row.bounds
-bounds_of m Safe moment row best = record {
-  below_safe = best.below_safe;
-  least = best.least;
-  covers_one = let (tree, safe, begins, covers, is) = best.covers_one in (tree, safe, covers, is);
-  gap = best.gap;
-}
+use Rattle.departure_table.specs.Reach.{IsReachRow}
 
 module _ (n m : NetworkModel) (q : Query) (gate : ℕ) (place : PlaceId) (g : IsGate n m gate place.0) (valid : IsValid m) (target : q.target.0 < length m.change) (away : place.0 ≢ q.target.0) (some : 1 ≤ q.start.0) where
   pub for_place : IsExtendedFor n (asked_at q gate) m place.0
@@ -32,5 +23,5 @@ module _ (n m : NetworkModel) (q : Query) (gate : ℕ) (place : PlaceId) (g : Is
       → IsReachRow m q q.start.0 (record { place = place; latest = latest; bounds = row.bounds })
   row_reported row latest ahead greatest = record {
     latest = (says n (asked_at q gate) m place.0 for_place).greatest q.start.0 (Some latest) some greatest;
-    bounds = bounds_of m (SafeFrom m place.0 q) q.start.0 row (reported (Some row) (ahead.3 q.start.0 (omega arith) ahead.0));
+    bounds = (row, reported (Some row) (ahead.3 q.start.0 (omega arith) ahead.0), refl);
   }

@@ -1,16 +1,11 @@
 -- What the reach of a target says.
-use Rattle.std.specs.Prelude.{◌≡◌, ◌≢◌, ℕ, ◌+◌, ◌-◌, ◌<◌, ◌≤◌, ◌==◌, List, ◌∷◌, [], Option, Some, MatchOption, All, AllPairs, find, length, map}
+use Rattle.std.specs.Prelude.{◌≡◌, ◌≢◌, ℕ, ◌+◌, ◌<◌, ◌==◌, List, ◌∷◌, [], Option, Some, MatchOption, All, AllPairs, find, length, map}
 use Rattle.std.specs.List.{range_with_len}
 use Rattle.interval_fixed.specs.Interval.{Interval}
 use Rattle.plan_model.specs.declared.model.PlaceId.{PlaceId}
 use Rattle.plan_model.specs.declared.model.Query.{Query}
-use Rattle.plan_model.specs.Bounds.{nanos_per_second}
 use Rattle.plan_model.specs.NetworkModel.{NetworkModel}
-use Rattle.plan_model.specs.Network.{count}
-use Rattle.plan_model.specs.Tree.{Tree}
-use Rattle.plan_model.specs.Expected.{Below, Covers, arrival}
-use Rattle.value_laws.specs.Rounded.{rounded_up, rounded_down}
-use Rattle.departure_table.specs.Departures.{SafeFrom, IsNoneSafeFrom, IsGreatestMoment}
+use Rattle.departure_table.specs.Departures.{SafeFrom, IsNoneSafeFrom, IsGreatestMoment, IsBestFrom}
 use Rattle.value_laws.specs.declared.MeanSpan.{MeanSpan}
 use Rattle.value_laws.specs.Means.{mean_scoring}
 use Rattle.plan_model.specs.declared.model.ConnectionId.{ConnectionId}
@@ -30,24 +25,20 @@ places_up_to count = map (λ (k : ℕ). record { 0 = k }) (range_with_len 0 coun
 abbrev pub places_of : NetworkModel → List PlaceId
 places_of m = places_up_to (length m.change)
 
--- bounds on the least mean of what is safe: the lower one is below all that is safe, and at most that with each mean rounded down,
--- ride by ride; the upper one covers one that is safe, and is that rounded up
-pub record AreBounds (m : NetworkModel) (Safe : Tree → Type 0) (bounds : Interval) : Type 0 where
-  pub below_safe : (tree : Tree) → Safe tree → Below bounds.lo tree
-  pub least : (tree : Tree) → Safe tree → bounds.lo ≤ rounded_down nanos_per_second arrival tree
-  pub covers_one : (tree : Tree) × Safe tree × Covers bounds.hi tree × (bounds.hi ≡ rounded_up nanos_per_second arrival tree)
-  pub gap : bounds.hi - bounds.lo ≤ count m
+-- the bounds are those of a row of departures of which something holds
+abbrev pub AreBoundsOf : (DepartureRow → Type 0) → Interval → Type 0
+AreBoundsOf Is bounds = (best : DepartureRow) × Is best × (bounds ≡ best.bounds)
 
 -- what the row says of its place: the latest moment from the start on at which one can set out there and be safe, and
--- bounds on the least expected arrival of who sets out there at the start
+-- the bounds of the best that is safe for who sets out there at the start
 pub record IsReachRow (m : NetworkModel) (query : Query) (start : ℕ) (row : ReachRow) : Type 0 where
   pub latest : IsGreatestMoment (SafeFrom m row.place.0 query) start (Some row.latest)
-  pub bounds : AreBounds m (SafeFrom m row.place.0 query start) row.bounds
+  pub bounds : AreBoundsOf (IsBestFrom m (SafeFrom m row.place.0 query) start) row.bounds
 
 -- the bounds of the row are those that a scan found at the gate of its place, for who sets out there at the start
 abbrev pub IsFoundAtGate : (longer m : NetworkModel) → Query → ScanResult MeanSpan → ReachRow → Type 0
 IsFoundAtGate longer m query found row =
-    (best : DepartureRow) × (row_found longer (asked_at query (length m.change + row.place.0)) found query.start.0 ≡ Some best) × (row.bounds ≡ best.bounds)
+    AreBoundsOf (λ best. row_found longer (asked_at query (length m.change + row.place.0)) found query.start.0 ≡ Some best) row.bounds
 
 -- the first row of a place
 abbrev pub row_of_place : ℕ → List ReachRow → Option ReachRow

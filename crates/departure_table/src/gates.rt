@@ -3,7 +3,7 @@ ghost use Rattle.std.specs.Prelude.{◌≡◌, ℕ, ◌+◌, ◌*◌, ◌^◌, �
 ghost use Rattle.std.specs.List.{range_with_len};
 ghost use Rattle.plan_model.specs.Network.{IsValid, links_into};
 ghost use Rattle.plan_model.specs.NetworkModel.{NetworkModel};
-ghost use Rattle.plan_model.specs.Gates.{HasGates, extended_by as with_gates, links_with_gates, places_with, ways_from_gates};
+ghost use Rattle.plan_model.specs.Gates.{FitGates, HasGates, extended_by as with_gates, links_with_gates, places_with, ways_from_gates};
 
 use plan_model::{List, Network, NoMemory, PlaceId, Way};
 use std::alloc::Global;
@@ -55,8 +55,7 @@ fn links_by(
     network: &Network,
     sources: &[PlaceId],
 ) -> Result<List<List<Way>>, NoMemory>
-    requires sources { All (λ source. source.0 < length network.now.change) sources.now }
-    requires room { length network.now.change + length sources.now < 2 ^ 32 }
+    requires { FitGates network.now sources.now }
     ensures { IfOk result (λ links. links ≡ map (links_with_gates network.now sources.now) (range_with_len 0 (places_with network.now sources.now))) }
 {
     let places = network.places();
@@ -85,8 +84,7 @@ pub fn extended_by(
     network: &Network,
     sources: &[PlaceId],
 ) -> Result<Network, NoMemory>
-    requires sources { All (λ source. source.0 < length network.now.change) sources.now }
-    requires room { length network.now.change + length sources.now < 2 ^ 32 }
+    requires { FitGates network.now sources.now }
     ensures parts { IfOk result (λ more. more ≡ with_gates network.now sources.now) }
     ensures gates { IfOk result (λ more. HasGates more network.now sources.now) }
 {

@@ -9,7 +9,7 @@ lead_to-requires-clause-sources c = λ k d within.
     let m = c.args.network.now in
     let many : length c.deref_mut.result.now ≡ places_with m c.args.sources.now =
     ap length c.deref_mut.ensures.value ∙ ap length c.in_ok-links.ensures ∙ length-map-range_with_len (links_into m) 0 _ ∙ ap (λ k. k + length c.args.sources.now) c.places-places.ensures.count in
-    omega (arith, many, c.requires.sources k d within)
+    omega (arith, many, c.requires.there k d within)
 
 pub returns : goal.returns
 returns c =

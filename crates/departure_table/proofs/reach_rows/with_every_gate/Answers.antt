@@ -7,16 +7,13 @@ pub loop-place-preserved : goal.loop-place-preserved
 loop-place-preserved c =
     c.in_ok-push.ensures.items ∙ ap (λ (places : List PlaceId). places ++ record { 0 = c.loop-place.place } ∷ []) c.loop-place.invariant ∙ sym (places_more c.loop-place.place)
 
-pub extended_by-requires-clause-sources : goal.extended_by-requires-clause-sources
-extended_by-requires-clause-sources c =
+pub extended_by-requires : goal.extended_by-requires
+extended_by-requires c =
     let m = c.args.network.now in
     let end : c.loop-place.place ≡ length m.change = omega (arith, c.places-places.ensures.count) in
     let all : c.deref.result.now ≡ places_of m = c.deref.ensures.value ∙ c.loop-place.invariant ∙ ap places_up_to end in
-    subst (All (λ (place : PlaceId). place.0 < length m.change)) (sym all) (are_below (length m.change))
-
-pub extended_by-requires-clause-room : goal.extended_by-requires-clause-room
-extended_by-requires-clause-room c =
-    let m = c.args.network.now in
-    let end : c.loop-place.place ≡ length m.change = omega (arith, c.places-places.ensures.count) in
     let many : length c.deref.result.now ≡ length m.change = ap length (c.deref.ensures.value ∙ c.loop-place.invariant) ∙ count_up_to c.loop-place.place ∙ end in
-    omega (arith, many, c.if-places.false, c.places-places.ensures.count)
+    record {
+      there = subst (All (λ (place : PlaceId). place.0 < length m.change)) (sym all) (are_below (length m.change));
+      few = omega (arith, many, c.if-places.false, c.places-places.ensures.count);
+    }
