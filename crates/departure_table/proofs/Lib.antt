@@ -6,4 +6,5 @@ pub mod Sources
 pub mod Latest
 pub mod Reached
 pub mod ReachGrowth
+pub mod EachRow
 pub mod SameGates

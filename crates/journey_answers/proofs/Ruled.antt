@@ -1,9 +1,12 @@
--- The departures are those that the rules give.
-use Rattle.journey_answers.proofs.Common.{◌≡◌, ℕ, List, [], ◌∷◌, subst, Query, NetworkModel, DepartureRow, Problem, IsRuled, AreByRules, added_query}
+-- The departures, and the bounds of a reach, are those that the rules give.
+use Rattle.journey_answers.proofs.Common.{◌≡◌, ℕ, List, [], ◌∷◌, All, length, subst, Query, NetworkModel, DepartureRow, Problem, IsRuled, AreByRules, added_query}
 use Rattle.value_laws.specs.declared.MeanSpan.{MeanSpan}
 use Rattle.meat_scan.specs.ScanResult.{ScanResult}
 use Rattle.plan_model.specs.Gates.{extended_by}
-use Rattle.departure_table.specs.Looked.{row_found, AreLooked}
+use Rattle.departure_table.specs.Looked.{asked_at, row_found, AreLooked}
+use Rattle.departure_table.specs.Reach.{IsFoundAtGate, places_of}
+use Rattle.departure_table.specs.declared.reach_rows.ReachRow.{ReachRow}
+use Rattle.journey_answers.specs.Reach.{IsReachByRules}
 
 pub by_rules : (p : Problem) (q : Query) (last : ℕ) (rows : List DepartureRow) (n : NetworkModel) (asked : Query) (found : ScanResult MeanSpan)
     → n ≡ extended_by p.timetable.network (q.source ∷ []) → asked ≡ added_query p.timetable.network q → IsRuled n asked found
@@ -15,4 +18,14 @@ by_rules p q last rows n asked found network query ruled looked =
       ruled = subst (λ (r : Query). IsRuled more r found) query (subst (λ (m : NetworkModel). IsRuled m asked found) network ruled);
       looked = subst (λ (r : Query). AreLooked (row_found more r found) last q.start.0 rows) query
           (subst (λ (m : NetworkModel). AreLooked (row_found m asked found) last q.start.0 rows) network looked);
+    }
+
+pub by_gates : (m : NetworkModel) (q : Query) (rows : List ReachRow) (n : NetworkModel) (x : ℕ) (found : ScanResult MeanSpan) → n ≡ extended_by m (places_of m) → x ≡ length m.change
+    → IsRuled n (asked_at q x) found → All (IsFoundAtGate n m q found) rows → IsReachByRules m q rows
+by_gates m q rows n x found network last ruled looked =
+    let more = extended_by m (places_of m) in
+    record {
+      found = found;
+      ruled = subst (λ (k : ℕ). IsRuled more (asked_at q k) found) last (subst (λ (l : NetworkModel). IsRuled l (asked_at q x) found) network ruled);
+      looked = subst (λ (l : NetworkModel). All (IsFoundAtGate l m q found) rows) network looked;
     }

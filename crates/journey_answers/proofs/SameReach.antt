@@ -1,5 +1,8 @@
--- A reach does not depend on the source of its query.
-use Rattle.journey_answers.proofs.Common.{ℕ, List, Option, None, Some, MatchOption, Query, NetworkModel}
+-- A reach does not depend on the source of its query, and has a text.
+use Rattle.journey_answers.proofs.Common.{ℕ, ◌<◌, ◌≤◌, arith, length, slice_index_or, All, List, Option, None, Some, MatchOption, Query, NetworkModel, IsValid}
+use Rattle.plan_model.specs.NameLists.{NameLists, NamesFit}
+use Rattle.journey_report.specs.DepartureTexts.{IsPrintable}
+use Rattle.departure_table.proofs.EachRow.{each_row, leaves_early}
 use Rattle.departure_table.specs.Looked.{asked_at}
 use Rattle.departure_table.specs.Reach.{IsReach, IsReachRow, row_of_place}
 use Rattle.departure_table.specs.declared.reach_rows.ReachRow.{ReachRow}
@@ -18,3 +21,10 @@ module _ (m : NetworkModel) (q : Query) (x start : ℕ) where
     places = is.places;
     rising = is.rising;
   }
+
+-- the rows of a reach can be printed
+pub printable : (m : NetworkModel) (names : NameLists) → IsValid m → NamesFit names m → (q : Query) (rows : List ReachRow) → IsReach m q q.start.0 rows → All (IsPrintable names) rows
+printable m names v fit q rows is k d within =
+    let at = is.places k d within in
+    let early = leaves_early m q q.start.0 v (slice_index_or rows k d) at.1 (each_row m q q.start.0 rows is k d within) in
+    record { named = omega (arith, at.0, fit.places); latest = omega (arith, early) }

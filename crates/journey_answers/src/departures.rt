@@ -33,15 +33,15 @@ struct FromAdded {
 
 /// A query of a problem with a deadline of its own, which is not before its start.
 #[derive(Clone, Copy)]
-struct QueryUntil<'a> {
-    problem: &'a Problem,
-    query: Query,
+pub(crate) struct QueryUntil<'a> {
+    pub(crate) problem: &'a Problem,
+    pub(crate) query: Query,
     ghost until: { IsUntil problem.now query },
     ghost deadline: { query.deadline.0 ≤ last_until },
 }
 
 /// The query of a problem, from a start on, with a deadline of its own.
-fn query_until(problem: &Problem, start: Start, until: Moment) -> Query
+pub(crate) fn query_until(problem: &Problem, start: Start, until: Moment) -> Query
     ensures { result ≡ query_until problem.now start.moment.0 until.0 }
 {
     Query {

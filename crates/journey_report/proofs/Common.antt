@@ -5,8 +5,8 @@ pub use Rattle.std.proofs.lemmas.List.{at_drop_all}
 pub use Rattle.clock_text.specs.Civil.{moment_text, nanos_text}
 pub use Rattle.journey_report.specs.AnswerTexts.{rides_text, start_count}
 unfoldable pub use Rattle.journey_report.specs.AnswerTexts.{arrived_text, encloses_text, holds_text, punctual_row, ride_text, sample_text}
-pub use Rattle.journey_report.specs.DepartureTexts.{departures_text, rows_text}
-unfoldable pub use Rattle.journey_report.specs.DepartureTexts.{departure_text, departures_head}
+pub use Rattle.journey_report.specs.DepartureTexts.{departures_text, froms_text, reach_text, rows_text}
+unfoldable pub use Rattle.journey_report.specs.DepartureTexts.{departure_text, departures_head, from_text, reach_head}
 pub use Rattle.plan_model.specs.NameLists.{NameLists}
 pub use Rattle.plan_model.specs.NetworkModel.{NetworkModel}
 pub use Rattle.plan_model.specs.declared.model.Connection.{Connection}

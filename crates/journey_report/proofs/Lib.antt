@@ -1,4 +1,5 @@
 mod Common
 pub mod TextLemmas
 pub mod DepartureLines
+pub mod ReachLines
 pub mod RowLemmas

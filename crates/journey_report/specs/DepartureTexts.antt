@@ -1,5 +1,5 @@
--- The printed texts of departures, and of the latest moment at which one can leave.
-use Rattle.std.specs.Prelude.{ℕ, List, [], ◌∷◌, ◌++◌, length, codes, decimal}
+-- The printed texts of departures, of the latest moment at which one can leave, and of the places from which one can reach a target.
+use Rattle.std.specs.Prelude.{ℕ, ◌<◌, ◌≤◌, List, [], ◌∷◌, ◌++◌, length, codes, decimal}
 use Rattle.clock_text.specs.Civil.{moment_text, nanos_text}
 use Rattle.plan_model.specs.declared.model.Moment.{Moment}
 use Rattle.plan_model.specs.declared.model.Query.{Query}
@@ -7,6 +7,8 @@ use Rattle.plan_model.specs.NetworkModel.{NetworkModel}
 use Rattle.plan_model.specs.NameLists.{NameLists}
 use Rattle.plan_model.specs.Network.{run_of, step_of}
 use Rattle.departure_table.specs.declared.DepartureRow.{DepartureRow}
+use Rattle.departure_table.specs.declared.reach_rows.ReachRow.{ReachRow}
+use Rattle.journey_model.specs.Sites.{last_printable}
 use Rattle.printed_rows.specs.Writers.{row_of_fields, place_name, run_name}
 
 -- the first row: the version of the text, the source, the target, the first moment and the last, the deadline, and how many rows follow
@@ -40,3 +42,28 @@ departures_text network names query last rows =
 unfoldable pub latest_text : List ℕ → List ℕ → Query → Moment → List ℕ
 latest_text source target query moment =
     row_of_fields (codes "latest" ∷ source ∷ target ∷ moment_text query.start.0 ∷ moment_text query.deadline.0 ∷ moment_text moment.0 ∷ [])
+
+-- the row's place has a name, and its moment a text
+pub record IsPrintable (names : NameLists) (row : ReachRow) : Type 0 where
+  pub named : row.place.0 < length names.places
+  pub latest : row.latest.0 ≤ last_printable
+
+-- the first row: the version of the text, the target, the first moment, the deadline, and how many rows follow
+unfoldable pub reach_head : NameLists → Query → (count : ℕ) → List ℕ
+reach_head names query count =
+    row_of_fields
+    (codes "reach" ∷ codes "1" ∷ place_name names query.target.0 ∷ moment_text query.start.0 ∷ moment_text query.deadline.0 ∷ decimal count ∷ [])
+
+-- the row of a place: its name, the latest moment at which one can set out there, and the two bounds
+unfoldable pub from_text : NameLists → ReachRow → List ℕ
+from_text names r =
+    row_of_fields
+    (codes "from" ∷ place_name names r.place.0 ∷ moment_text r.latest.0 ∷ nanos_text r.bounds.lo ∷ nanos_text r.bounds.hi ∷ [])
+
+abbrev pub froms_text : NameLists → List ReachRow → List ℕ
+froms_text names [] = []
+froms_text names (r ∷ rows) = from_text names r ++ froms_text names rows
+
+-- the first row, and then a row for each place
+abbrev pub reach_text : NameLists → Query → List ReachRow → List ℕ
+reach_text names query rows = reach_head names query (length rows) ++ froms_text names rows

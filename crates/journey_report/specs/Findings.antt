@@ -3,6 +3,7 @@ use Rattle.std.specs.Prelude.{ℕ, List, Option, None, Some}
 use Rattle.plan_model.specs.declared.model.Moment.{Moment}
 use Rattle.plan_model.specs.declared.model.Query.{Query}
 use Rattle.departure_table.specs.declared.DepartureRow.{DepartureRow}
+use Rattle.departure_table.specs.declared.reach_rows.ReachRow.{ReachRow}
 use Rattle.interval_fixed.specs.Interval.{Interval}
 use Rattle.plan_graph.specs.declared.ExpandedGraph.{ExpandedGraph}
 use Rattle.plan_graph.specs.declared.PlanGraph.{PlanGraph}
@@ -23,6 +24,7 @@ pub record Findings : Type 0 where
   pub chance : Option Interval
   pub departures : Option (List DepartureRow)
   pub latest : Option Moment
+  pub reach : Option (List ReachRow)
 
 abbrev pub findings_of : Report → Findings
 findings_of r = record {
@@ -38,6 +40,7 @@ findings_of r = record {
   chance = r.chance;
   departures = r.departures;
   latest = r.latest;
+  reach = r.reach;
 }
 
 abbrev pub no_findings : Findings
@@ -54,6 +57,7 @@ no_findings = record {
   chance = None;
   departures = None;
   latest = None;
+  reach = None;
 }
 
 -- the least worst arrival and the deadline
@@ -99,3 +103,7 @@ departures_findings q rows = record no_findings { query = Some q; departures = S
 -- the query with its deadline, and the latest moment
 abbrev pub latest_findings : Query → Moment → Findings
 latest_findings q moment = record no_findings { query = Some q; latest = Some moment }
+
+-- the query with its deadline, whose source is of no account, and a row for each place from which one can reach its target
+abbrev pub reach_findings : Query → List ReachRow → Findings
+reach_findings q rows = record no_findings { query = Some q; reach = Some rows }

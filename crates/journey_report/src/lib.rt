@@ -6,11 +6,13 @@
 
 mod answer;
 mod departure_texts;
+mod reach_texts;
 mod report;
 mod texts;
 
 pub use answer::Answer;
 pub use departure_texts::{departures_text, latest_text};
+pub use reach_texts::reach_text;
 pub use report::{Report, Status};
 pub use texts::{
     NamedQuery, encloses_text, holds_text, punctual_row, safe_text, sample_text, trace_text,

@@ -3,7 +3,7 @@ ghost use Rattle.std.specs.Prelude.{◌≡◌, Some, None};
 ghost use Rattle.journey_model.specs.Faults.{status_of};
 ghost use Rattle.journey_report.specs.Findings.{findings_of, no_findings};
 
-use departure_table::DepartureRow;
+use departure_table::{DepartureRow, ReachRow};
 use interval_fixed::Span;
 use journey_model::Fault;
 use late_chance::LateChance;
@@ -22,7 +22,7 @@ pub struct Status(pub u8);
 pub struct Report {
     /// The number that the process ends with.
     pub status: Status,
-    /// The journey and its deadline: of `replay` and `check` that of the file.
+    /// The journey and its deadline: of `replay` and `check` that of the file, and of `reach` with its target as source.
     pub query: Option<Query>,
     /// The least worst arrival, of `safe`, `expand`, `plan`, `certify`, `punctual` and `sample`.
     pub worst: Option<Moment>,
@@ -48,6 +48,8 @@ pub struct Report {
     pub departures: Option<List<DepartureRow>>,
     /// The latest moment at which one can leave, of `latest`.
     pub latest: Option<Moment>,
+    /// The places from which one can reach the target, of `reach`.
+    pub reach: Option<List<ReachRow>>,
     /// Why there is no answer, or why it was not written.
     pub fault: Option<Fault>,
 }
@@ -73,6 +75,7 @@ impl Report {
             chance: None,
             departures: None,
             latest: None,
+            reach: None,
             fault: None,
         }
     }

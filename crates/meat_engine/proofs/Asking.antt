@@ -1,6 +1,6 @@
 -- Answers and faults, one from another.
 use Rattle.meat_engine.proofs.Common.{arith, ◌≡◌, ℕ, List, Option, None, Result, inl, inr, refl, subst, ◌≢◌, RoseAt, FilesState, TimetableModel, JourneyModel, AskModel, Safe, Expand, Plan, Replay}
-use Rattle.meat_engine.proofs.Common.{Certify, CheckProof, CheckGraph, Punctual, Departures, Latest, Input, Fault, Read, NoSafe, NoMemory, unread_input, NamedParts, HasSite, IsStageBeforeSearch}
+use Rattle.meat_engine.proofs.Common.{Certify, CheckProof, CheckGraph, Punctual, Departures, Latest, Reach, Input, Fault, Read, NoSafe, NoMemory, unread_input, NamedParts, HasSite, IsStageBeforeSearch}
 use Rattle.meat_engine.proofs.Common.{path_of, HasCauses, OrNoMemory, own_paths, IsRefusalBy}
 use Rattle.journey_model.specs.declared.faults.Input.TheVariants as input
 use Rattle.journey_model.proofs.Sited.{has_site}
@@ -68,3 +68,4 @@ beside (CheckGraph graph) j before_of now_of file rose = beside_graph graph j be
 beside (Punctual alpha promise) j before_of now_of file rose = absurd rose
 beside (Departures until last) j before_of now_of file rose = absurd rose
 beside (Latest until) j before_of now_of file rose = absurd rose
+beside (Reach until) j before_of now_of file rose = absurd rose

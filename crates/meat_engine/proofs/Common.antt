@@ -2,7 +2,7 @@
 pub use Rattle.std.proofs.Common.{Err, IfErr, IfOk, IsSome, List, None, Ok, OnErr, OnOk, Option, Result, Some, ap, arith, inl, inr, length, map, refl, string_bytes, subst, sym, ℕ, ⊎_elim, ◌<◌, ◌∙◌}
 pub use Rattle.std.proofs.Common.{◌≡◌, ◌≢◌, ◌⊎◌}
 pub use Rattle.std.specs.Io.KnownBytes.{Appends, Keeps}
-pub use Rattle.command_line.specs.Jobs.{Ask, AskModel, Certify, CheckGraph, CheckProof, Departures, Expand, JobModel, JourneyModel, Latest, Plan, Punctual, Replay, Replay as Replays, Safe, Sample}
+pub use Rattle.command_line.specs.Jobs.{Ask, AskModel, Certify, CheckGraph, CheckProof, Departures, Expand, JobModel, JourneyModel, Latest, Plan, Punctual, Reach, Replay, Replay as Replays, Safe, Sample}
 pub use Rattle.command_line.specs.Jobs.{TimetableModel, job_of}
 pub use Rattle.command_line.specs.Shown.{ask_shown, journey_shown, wanted_job}
 pub use Rattle.csv_rows.specs.declared.limits.Limits.{Limits}

@@ -1,6 +1,6 @@
 -- A question about a problem ends as the problem says.
 use Rattle.meat_engine.proofs.Common.{arith, ◌≡◌, ℕ, refl, ap, subst, inl, inr, List, Option, Some, ◌⊎◌, FileMap, Limits, JourneyModel, AskModel, Safe, Expand, Plan, Replays, Certify, CheckProof}
-use Rattle.meat_engine.proofs.Common.{CheckGraph, Punctual, Departures, Latest, Input, Fault, Read, status_of, NamedParts, Problem, IsProblem, IsProblemFault, none_unread, IsQueryOf, IsNoSafe}
+use Rattle.meat_engine.proofs.Common.{CheckGraph, Punctual, Departures, Latest, Reach, Input, Fault, Read, status_of, NamedParts, Problem, IsProblem, IsProblemFault, none_unread, IsQueryOf, IsNoSafe}
 use Rattle.meat_engine.proofs.Common.{AnswersAsk, FailsAsk, EndsAsk, FailsJourney, FailsCheck, FailsReplay, FailsScore, EndsBySafety, EndsByGraphFile, EndsByCertificateFile, EndsByScore, Findings}
 use Rattle.plan_model.specs.declared.model.Query.{Query}
 use Rattle.plan_model.specs.declared.model.Moment.{Moment}
@@ -28,6 +28,7 @@ module _ (limits : Limits) (files : FileMap) (start : ℕ) (p : Problem) where
   answers_end (Punctual alpha promise) found text (q, w, asked, reports) = asked_ends p start alpha q w asked
   answers_end (Departures until last) found text (rows, same, are, safe, reported) = inl (refl, safe)
   answers_end (Latest until) found text (moment, same, is, reported) = inl (refl, (moment.0, is.1.0, is.0, is.1.1))
+  answers_end (Reach until) found text reached = refl
 
   replay_ends : (graph late : List ℕ) (fault : Fault) → ((i : Input) → fault ≡ Read i → ⊥)
       → FailsReplay (Some files) limits start graph late p fault → EndsByGraphFile limits files start graph late p (status_of (Some fault))
@@ -58,6 +59,7 @@ module _ (limits : Limits) (files : FileMap) (start : ℕ) (p : Problem) where
   fails_end (Punctual alpha promise) fault never fails = unsafe_ends p start fault fails
   fails_end (Departures until last) fault never (is, none) = inr (ap (λ (f : Fault). status_of (Some f)) is, λ h. none h.0 h.1)
   fails_end (Latest until) fault never (is, none) = inr (ap (λ (f : Fault). status_of (Some f)) is, λ h. none h.0 h.2 h.1 h.3)
+  fails_end (Reach until) fault never fails = absurd fails
 
 module _ (limits : Limits) (files : FileMap) (j : JourneyModel) (a : AskModel) where
   -- over some problem of the files it ends so

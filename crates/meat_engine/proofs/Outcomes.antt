@@ -1,6 +1,6 @@
 -- What a run comes to.
 use Rattle.meat_engine.proofs.Common.{arith, ◌≡◌, ℕ, List, Option, Some, None, Ok, inl, inr, refl, sym, subst, ⊎_elim, ◌∙◌, ◌≢◌, ◌⊎◌, Keeps, FileMap, Limits, AskModel, Safe, Expand, Plan, Replays}
-use Rattle.meat_engine.proofs.Common.{Certify, CheckProof, CheckGraph, Punctual, Departures, Latest, JobModel, Ask, Sample, job_of, Input, Fault, Missing, Limit, Read, Write, NoMemory, line_of}
+use Rattle.meat_engine.proofs.Common.{Certify, CheckProof, CheckGraph, Punctual, Departures, Latest, Reach, JobModel, Ask, Sample, job_of, Input, Fault, Missing, Limit, Read, Write, NoMemory, line_of}
 use Rattle.meat_engine.proofs.Common.{IsFormatted, NamedParts, stage_of_input, stage_of_limit, Problem, Report, FailsAsk, Findings, findings_of, no_findings, Refused, ending_at, ending_of}
 use Rattle.meat_engine.proofs.Common.{AnswersJob, FailsJob, IsExplained, IsRefused, IsRefusedWith, IsWritten, IsLineWritten, Outcome}
 use Rattle.std.proofs.lemmas.Option.{same_Some}
@@ -48,6 +48,7 @@ module _ (contents : Option FileMap) (limits : Limits) (words : List (List ℕ))
   ask_write start p (Punctual alpha promise) (is, none) = cc
   ask_write start p (Departures until last) (is, none) = cc
   ask_write start p (Latest until) (is, none) = cc
+  ask_write start p (Reach until) fails = absurd fails
 
   pub write_fails : (wanted : JobModel) (known : Option NamedParts) → FailsJob contents limits wanted known Write → ⊥
   write_fails (Ask j ask) known (inl (p, sound, problem, (is, why))) = ask_write j.start p ask why

@@ -2,7 +2,7 @@
 use Rattle.std.specs.Prelude.{◌≡◌, ◌⊎◌, ℕ, List, Option, Some}
 use Rattle.file_ports.specs.Ports.{FileMap}
 use Rattle.csv_rows.specs.declared.limits.Limits.{Limits}
-use Rattle.command_line.specs.Jobs.{JourneyModel, AskModel, Safe, Expand, Plan, Replay, Certify, CheckProof, CheckGraph, Punctual, Departures, Latest}
+use Rattle.command_line.specs.Jobs.{JourneyModel, AskModel, Safe, Expand, Plan, Replay, Certify, CheckProof, CheckGraph, Punctual, Departures, Latest, Reach}
 use Rattle.journey_model.specs.declared.faults.Fault.{Fault}
 use Rattle.journey_model.specs.Sites.{NamedParts}
 use Rattle.journey_model.specs.declared.problem.Problem.{Problem}
@@ -16,11 +16,12 @@ use Rattle.journey_problem.specs.Paths.{no_path, graph_path, certificate_path}
 use Rattle.journey_problem.specs.GraphFiles.{InGraphFile, FailsGraph}
 use Rattle.journey_answers.specs.Trips.{AnswersReplay, IsTripFault}
 use Rattle.journey_answers.specs.Scores.{IsEnclosed, IsUnsafeGraph}
-use Rattle.meat_engine.specs.Ends.{EndsByScore, EndsBySafety, EndsByGraphFile, EndsByCertificateFile, EndsByDepartures, EndsByLatest}
+use Rattle.meat_engine.specs.Ends.{EndsByScore, EndsBySafety, EndsByGraphFile, EndsByCertificateFile, EndsByDepartures, EndsByLatest, EndsByReach}
 use Rattle.journey_answers.specs.Certified.{AnswersCertify}
 use Rattle.journey_problem.specs.CertificateFiles.{InCertificateFile, FailsCertificate}
 use Rattle.journey_answers.specs.Checks.{IsHeld, IsBroken}
 use Rattle.journey_answers.specs.Departures.{query_until, AnswersDepartures, AnswersLatest, FailsDepartures, FailsLatest}
+use Rattle.journey_answers.specs.Reach.{AnswersReach, FailsReach}
 
 -- the paths of the files that are read beside those of the journey
 abbrev pub own_paths : AskModel → OwnPaths
@@ -34,6 +35,7 @@ own_paths (CheckGraph graph) = graph_path graph
 own_paths (Punctual alpha promise) = no_path
 own_paths (Departures until last) = no_path
 own_paths (Latest until) = no_path
+own_paths (Reach until) = no_path
 
 -- the findings and the text answer what is asked about a problem, from a start on
 abbrev pub AnswersAsk : Option FileMap → Limits → ℕ → Problem → AskModel → Findings → List ℕ → Type 0
@@ -47,6 +49,7 @@ AnswersAsk contents limits start p (CheckGraph graph) found text = InGraphFile c
 AnswersAsk contents limits start p (Punctual alpha promise) found text = InQuery p start alpha (AnswersPunctual p promise found text)
 AnswersAsk contents limits start p (Departures until last) found text = AnswersDepartures p (query_until p start until) last found text
 AnswersAsk contents limits start p (Latest until) found text = AnswersLatest p (query_until p start until) found text
+AnswersAsk contents limits start p (Reach until) found text = AnswersReach p (query_until p start until) found text
 
 -- why a replay has no answer, unless there was no memory: the graph file has a fault; or the trip by its graph
 abbrev pub FailsReplay : Option FileMap → Limits → ℕ → List ℕ → List ℕ → Problem → Fault → Type 0
@@ -74,6 +77,7 @@ FailsAsk contents limits start p (CheckGraph graph) fault = FailsScore contents 
 FailsAsk contents limits start p (Punctual alpha promise) fault = IsNoSafe p start fault
 FailsAsk contents limits start p (Departures until last) fault = FailsDepartures p (query_until p start until) fault
 FailsAsk contents limits start p (Latest until) fault = FailsLatest p (query_until p start until) fault
+FailsAsk contents limits start p (Reach until) fault = FailsReach fault
 
 -- the status that it ends with if no file fails to be read and the answer is written, unless there was no memory
 abbrev pub EndsAsk : Limits → FileMap → ℕ → Problem → AskModel → ℕ → Type 0
@@ -87,6 +91,7 @@ EndsAsk limits files start p (CheckGraph graph) status = EndsByScore limits file
 EndsAsk limits files start p (Punctual alpha promise) status = EndsBySafety p start status
 EndsAsk limits files start p (Departures until last) status = EndsByDepartures p (query_until p start until) status
 EndsAsk limits files start p (Latest until) status = EndsByLatest p (query_until p start until) status
+EndsAsk limits files start p (Reach until) status = EndsByReach status
 
 -- why what is asked about a journey has no answer if this timetable is known, unless there was no memory: it has none over the
 -- problem of the journey, whose timetable that is; or it is the first fault of the files of the journey

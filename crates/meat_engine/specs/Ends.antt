@@ -80,3 +80,7 @@ EndsByDepartures p query status = EndsBy (HasSafeFor p query) status
 -- 0 if some tree is safe from some moment on, and 1 if none is
 abbrev pub EndsByLatest : Problem → Query → ℕ → Type 0
 EndsByLatest p query status = EndsBy (HasLater p query) status
+
+-- 0, also if from no place anything is safe
+abbrev pub EndsByReach : ℕ → Type 0
+EndsByReach status = status ≡ 0

@@ -23,7 +23,7 @@ use csv_rows::Limits;
 use file_ports::Files;
 use journey_answers::{
     ReadCertificate, ReadGraph, certify_over, check_over, departures_over, expand_over,
-    latest_over, plan_over, punctual_over, safe_over, score_over, trip_over,
+    latest_over, plan_over, punctual_over, reach_over, safe_over, score_over, trip_over,
 };
 use journey_model::{Fault, Percent, Problem, Start};
 use journey_problem::{problem_of, read_certificate_file, read_graph_file};
@@ -153,6 +153,7 @@ fn ask_over<F: Files>(
         }
         Ask::Departures { until, last } => departures_over(alloc, problem, start, until, last),
         Ask::Latest { until } => latest_over(alloc, problem, start, until),
+        Ask::Reach { until } => reach_over(alloc, problem, start, until),
     }
 }
 

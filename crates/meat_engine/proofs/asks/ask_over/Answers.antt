@@ -54,3 +54,8 @@ pub returns-in-Latest : goal.returns-in-Latest
 returns-in-Latest g c =
     let h = alone-asked _ _ _ _ c.latest_over.result c.in-Latest.is (λ fault why. why.0) c.latest_over.ensures.answer c.latest_over.ensures.fault in
     record { answer = h.own.answer; fault = h.own.fault; has_site = h.has_site; causes = causes-none c.latest_over.result h.unread }
+
+pub returns-in-Reach : goal.returns-in-Reach
+returns-in-Reach g c =
+    let h = alone-asked _ _ _ _ c.reach_over.result c.in-Reach.is (λ fault why. absurd why) c.reach_over.ensures.answer c.reach_over.ensures.fault in
+    record { answer = h.own.answer; fault = h.own.fault; has_site = h.has_site; causes = causes-none c.reach_over.result h.unread }
