@@ -1,6 +1,6 @@
 -- The names that most proofs of this crate cite, passed on from one place. Declares nothing.
 pub use Rattle.std.proofs.Common.{All, Bool, Err, List, MatchOption, None, Option, Result, Some, [], ap, arith, false, if◌then◌else◌, inl, inr, length, nat_le, refl, slice_index_or, subst, suc, sym, true, zero}
-pub use Rattle.std.proofs.Common.{ℕ, ◌+◌, ◌-◌, ◌/◌, ◌<◌, ◌==◌, ◌∙◌, ◌∷◌, ◌≡◌, ◌≢◌, ◌≤◌}
+pub use Rattle.std.proofs.Common.{ℕ, ◌*◌, ◌+◌, ◌-◌, ◌/◌, ◌<◌, ◌==◌, ◌∙◌, ◌∷◌, ◌≡◌, ◌≢◌, ◌≤◌}
 pub use Rattle.std.proofs.lemmas.Option.{MatchOption-at_some}
 pub use Rattle.decision_graph.specs.Expanded.{IsNoneSafe}
 pub use Rattle.departure_table.specs.declared.DepartureRow.{DepartureRow}

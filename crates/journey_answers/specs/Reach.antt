@@ -2,7 +2,7 @@
 use Rattle.std.specs.Prelude.{◌≡◌, ℕ, List, All}
 use Rattle.plan_model.specs.declared.model.Query.{Query}
 use Rattle.plan_model.specs.NetworkModel.{NetworkModel}
-use Rattle.plan_model.specs.Gates.{extended_by}
+use Rattle.plan_model.specs.Gates.{FitGates, extended_by}
 use Rattle.value_laws.specs.declared.MeanSpan.{MeanSpan}
 use Rattle.meat_scan.specs.ScanResult.{ScanResult}
 use Rattle.departure_table.specs.declared.reach_rows.ReachRow.{ReachRow}
@@ -15,6 +15,7 @@ use Rattle.journey_answers.specs.ByRules.{IsRuled, added_query}
 
 -- the bounds are those that the rules give in the network with a gate for each place
 pub record IsReachByRules (m : NetworkModel) (query : Query) (rows : List ReachRow) : Type 0 where
+  pub fit : FitGates m (places_of m)
   pub found : ScanResult MeanSpan
   pub ruled : IsRuled (extended_by m (places_of m)) (added_query m query) found
   pub looked : All (IsFoundAtGate (extended_by m (places_of m)) m query found) rows

@@ -1,10 +1,10 @@
 -- Two runs agree.
 use Rattle.run_laws.proofs.Common.{Limits, HasOneProblem, RunModel, IsRunWithin}
-use Rattle.journey_problem.specs.OneProblem.{KeepsOwnFiles}
+use Rattle.journey_problem.specs.OneProblem.{KeepsOwnFiles, HasOneTimetable}
 use Rattle.run_laws.specs.Pairs.{Agree}
 use Rattle.run_laws.proofs.Agreeing.{FaultsAreReported, accepted, replayed, punctual_accepted, punctual_replayed, certified, leave, left_by_worst, never_left, search_alike, share_query}
 use Rattle.run_laws.proofs.Agreeing.{within, strategy, promise_is_sure}
-use Rattle.run_laws.proofs.Agreeing.{worst_is_kept, later_is_no_worse, latest_is_of_last_row, first_fault}
+use Rattle.run_laws.proofs.Agreeing.{worst_is_kept, later_is_no_worse, latest_is_of_last_row, reach_is_latest, reach_is_first_departure, later_reaches_more, first_fault}
 use Rattle.run_laws.proofs.Ends.{one_end, forms_end}
 use Rattle.run_laws.proofs.FirstLine.{first_line}
 use Rattle.run_laws.proofs.Greatest.{greatest}
@@ -15,8 +15,8 @@ use Rattle.run_laws.proofs.SamplePlans.{sample_is_plan}
 use Rattle.run_laws.proofs.Saving.{saving}
 
 module _ (limits : Limits) (r s : RunModel) (first : IsRunWithin limits r) (second : IsRunWithin limits s) (one_problem : HasOneProblem) where
-  pub agree : KeepsOwnFiles → FaultsAreReported → Agree limits r s
-  agree keeps reported = record {
+  pub agree : KeepsOwnFiles → FaultsAreReported → HasOneTimetable → Agree limits r s
+  agree keeps reported one_timetable = record {
     alike = one_end one_problem limits r s first second;
     forms = forms_end one_problem limits r s first second;
     saved = saving keeps limits r;
@@ -45,6 +45,9 @@ module _ (limits : Limits) (r s : RunModel) (first : IsRunWithin limits r) (seco
     last_row = latest_is_of_last_row limits r s first second one_problem;
     row_of_plan = row_of_plan limits r s first second one_problem;
     cut_row_of_plan = cut_row_of_plan limits r s first second one_problem;
+    reach_latest = reach_is_latest limits r s first second one_problem one_timetable;
+    reach_departures = reach_is_first_departure limits r s first second one_problem one_timetable;
+    reach_later = later_reaches_more limits r s first second one_problem;
     sample = sample_is_plan one_problem limits r s first second;
     first_fault = first_fault limits r s first second one_problem reported;
   }

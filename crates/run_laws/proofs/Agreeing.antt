@@ -1,6 +1,6 @@
 -- What two runs of questions about a journey agree in.
 use Rattle.run_laws.proofs.Common.{◌≡◌, ℕ, ◌≤◌, List, length, Option, None, Some, Result, Ok, Err, arith, ◌↔◌, inl, inr, refl, sym, subst, ap, ◌∙◌, Appends, FileMap, file_at, Limits, Moment}
-use Rattle.run_laws.proofs.Common.{Query, IsLeastWorst, PlanGraph, JobModel, JourneyModel, AskModel, Ask, Safe, Expand, Plan, Certify, CheckProof, CheckGraph, Punctual, Departures, Latest, job_of}
+use Rattle.run_laws.proofs.Common.{Query, IsLeastWorst, PlanGraph, JobModel, JourneyModel, AskModel, Ask, Safe, Expand, Plan, Certify, CheckProof, CheckGraph, Punctual, Departures, Latest, Reach, job_of}
 use Rattle.run_laws.proofs.Common.{Fault, Problem, status_of, HasOneProblem, IsProblem, Findings, findings_of, Head, graph_of, NetworkModel, IsValid, graph_in, graph_as, trip_by, AnswersPlan}
 use Rattle.run_laws.proofs.Common.{head_of, AnswersCertify, query_until, AnswersAsk, EndsAsk, FailsJourney, FailsScore, EndsByGraphFile, EndsByWalk, AnswersJob, NamedParts, own_problem, WritesLine, Interval, IsEnclosed, punctual_row, [], ◌++◌}
 use Rattle.run_laws.proofs.Common.{RunModel, IsRunWithin, IsUntroubled, worst_kept, no_worse, of_last_row}
@@ -17,6 +17,14 @@ use Rattle.meat_engine.specs.Received.{Outcome}
 use Rattle.meat_engine.proofs.Undisturbed.{fails as job_fails}
 use Rattle.run_laws.specs.Pairs.{AskBoth, IsSaved, OrStatus9, PlanIsAccepted, PlanIsReplayed, IsReplayed, PunctualIsAccepted, PunctualIsReplayed, CertificateIsAccepted, LeaveAlike, LeaveByWorst, NeverLeave, SearchAlike, ShareQuery}
 use Rattle.run_laws.specs.Pairs.{CertificateIsWithin, ShareStrategy, PromiseIsSure, WorstIsKept, LaterIsNoWorse, LatestIsOfLastRow, FaultIsFirst}
+use Rattle.run_laws.specs.Reaches.{from_stop, ReachesBoth, ReachIsLatest, ReachIsFirstDeparture, LaterReachesMore}
+use Rattle.departure_table.specs.declared.DepartureRow.{DepartureRow}
+use Rattle.departure_table.specs.declared.reach_rows.ReachRow.{ReachRow}
+use Rattle.departure_table.specs.Looked.{asked_at}
+use Rattle.journey_answers.specs.ByRules.{AreByRules}
+use Rattle.journey_answers.specs.Reach.{AreReached}
+use Rattle.journey_problem.specs.OneProblem.{HasOneTimetable}
+use Rattle.run_laws.proofs.Reaches.{over_timetable, latest_by_row, begins_the_departures, keeps_rows}
 use Rattle.late_chance.proofs.Rounded.{no_chance}
 use Rattle.run_laws.proofs.Asks.{answer_of, outcome_of}
 use Rattle.run_laws.proofs.BySafety.{one_status, never_latest, by_safety, asked_by, one_asked}
@@ -362,6 +370,68 @@ module _ (limits : Limits) (r s : RunModel) (first : IsRunWithin limits r) (seco
       let same_rows = one_some table rows s.report.departures (ap (λ (f : Findings). f.departures) found_too) rows_is in
       let apart = λ (e : w.p.source.0 ≡ w.p.target.0). differ (ap (λ (z : Query). z.source.0) (sym same_query) ∙ e ∙ ap (λ (z : Query). z.target.0) same_query) in
       of_last_row w.p.timetable.network w.p.source.0 (query_until w.p j.start until) j.start last rows latest (rw (sym same_rows) (are.table apart)) (rw (sym same_latest) greatest) before
+
+  -- one run that asks about each place, and one that asks about another journey
+  module _ (files others : FileMap) (j other : JourneyModel) (until : ℕ) (ask : AskModel) (rows : List ReachRow) (both : ReachesBoth files others j other until ask rows r s) where
+    -- the rows of the first, over its problem
+    pub record Reached : Type 0 where
+      p : Problem
+      is_problem : IsProblem limits files j p
+      reached : AreReached p.timetable.network (query_until p j.start until) rows
+
+    of_reach : Reached
+    of_reach =
+        let w = answered limits files r first both.first j (Reach until) both.first_asks both.no_fault in
+        let (list, found, reached, printed) = w.answers in
+        let same = one_some list rows r.report.reach (ap (λ (f : Findings). f.reach) found) both.reach in
+        record { p = w.p; is_problem = w.is_problem; reached = subst (AreReached w.p.timetable.network (query_until w.p j.start until)) same reached }
+
+    -- the answer of the second, over the problem of its journey
+    other_answer : s.report.fault ≡ None → (p : Problem) → IsProblem limits others other p → (text : List ℕ) × AnswersAsk (Some others) limits other.start p ask (findings_of s.report) text
+    other_answer none p is =
+        let v = answered limits others s second both.second other ask both.second_asks none in
+        (v.text, subst (λ (q : Problem). AnswersAsk (Some others) limits other.start q ask (findings_of s.report) v.text) (one_problem limits others other v.p p v.is_problem is) v.answers)
+
+  module _ (one_timetable : HasOneTimetable) (files others : FileMap) (j : JourneyModel) (name : List ℕ) (until : ℕ) (ask : AskModel) (p : Problem) (rows : List ReachRow)
+      (both : ReachesBoth files others j (from_stop j name) until ask rows r s) (is : IsProblem limits files (from_stop j name) p) where
+    from_there : IsProblem limits others (from_stop j name) p
+    from_there = own_problem limits files others (from_stop j name) p both.agree is
+
+    reached_there : AreReached p.timetable.network (asked_at (query_until p j.start until) (of_reach files others j (from_stop j name) until ask rows both).p.source.0) rows
+    reached_there =
+        let w = of_reach files others j (from_stop j name) until ask rows both in
+        let same = one_timetable limits files j (Some name) w.p p w.is_problem is in
+        over_timetable w.p p j.start until rows same.0 same.1 w.reached
+
+  pub reach_is_latest : HasOneTimetable → ReachIsLatest limits r s
+  reach_is_latest one files others j name until p rows both is away =
+      let k = from_stop j name in
+      let there = from_there one files others j name until (Latest until) p rows both is in
+      or_nine s (λ ends. latest_by_row p j.start until _ rows (reached_there one files others j name until (Latest until) p rows both is) away s.report.status.0 s.report.latest (
+        ends,
+        λ zero.
+            let (text, (moment, found, greatest, printed)) = other_answer files others j k until (Latest until) rows both (no_fault limits others s second both.second zero) p there in
+            (moment, ap (λ (f : Findings). f.latest) found, greatest),
+      ))
+      (ends_so limits others s second both.second k (Latest until) both.second_asks p there)
+
+  pub reach_is_first_departure : HasOneTimetable → ReachIsFirstDeparture limits r s
+  reach_is_first_departure one files others j name until last p rows departures both is away soon none departures_are =
+      let k = from_stop j name in
+      let there = from_there one files others j name until (Departures until last) p rows both is in
+      let (text, (table, found, are, safe, printed)) = other_answer files others j k until (Departures until last) rows both none p there in
+      let same = one_some table departures s.report.departures (ap (λ (f : Findings). f.departures) found) departures_are in
+      begins_the_departures p j.start until _ rows (reached_there one files others j name until (Departures until last) p rows both is) away last departures soon
+      (subst (λ (list : List DepartureRow). AreByRules p (query_until p j.start until) last list) same (are.by_rules away)) safe
+
+  pub later_reaches_more : LaterReachesMore r s
+  later_reaches_more files others j until later rows more both none more_is less =
+      let w = of_reach files others j j until (Reach later) rows both in
+      let there = own_problem limits files others j w.p both.agree w.is_problem in
+      let (text, (list, found, reached, printed)) = other_answer files others j j until (Reach later) rows both none w.p there in
+      let same = one_some list more s.report.reach (ap (λ (f : Findings). f.reach) found) more_is in
+      let others_reached = subst (AreReached w.p.timetable.network (query_until w.p j.start later)) same reached in
+      keeps_rows w.p.timetable.network w.p.target w.p.source w.p.source (record { 0 = j.start }) (record { 0 = until }) (record { 0 = later }) less rows more w.reached.reach others_reached.reach
 
   -- the fault of the graph file, by what its text is read as
   module _ (reported : FaultsAreReported) (files : FileMap) (j : JourneyModel) (path text : List ℕ) (p : Problem) (f : TextFault) where

@@ -1,7 +1,7 @@
 -- What is asked about a problem has an answer or one first fault.
 use Rattle.run_laws.proofs.Common.{◌≡◌, ◌≢◌, ℕ, ◌<◌, ◌⊎◌, List, Option, Some, Result, Ok, Err, inl, inr, sym, subst, ap, ◌∙◌, arith, cases_eq, cases_order, FileMap, file_at, table_of, Limits, Query}
 use Rattle.run_laws.proofs.Common.{NetworkModel, IsValid, count, dep_of, IsEarlier, PlanGraph, Head, LowerBounds, ProofFault, IsLastFault, read_once, never_memory, AskModel, Safe, Expand, Plan}
-use Rattle.run_laws.proofs.Common.{Replays, Certify, CheckProof, CheckGraph, Punctual, Departures, Latest, Input, Fault, ProofFile, ProofFails, Problem, Findings, none_unread, bytes_of}
+use Rattle.run_laws.proofs.Common.{Replays, Certify, CheckProof, CheckGraph, Punctual, Departures, Latest, Reach, Input, Fault, ProofFile, ProofFails, Problem, Findings, none_unread, bytes_of}
 use Rattle.run_laws.proofs.Common.{AnswersReplay, IsTripFault, trip_by, IsEnclosed, IsUnsafeGraph, IsHeld, IsBroken, graph_in, InGraphFile, FailsGraph, FailsText, FailsFile, FailsCertificate}
 use Rattle.run_laws.proofs.Common.{InCertificateFile, IsNoSafe, AnswersAsk, FailsAsk, FailsCheck, FailsReplay, FailsScore}
 use Rattle.lower_proof.specs.declared.reader.ProofFault.TheVariants.{NoMemory as NoRoom}
@@ -161,6 +161,7 @@ module _ (p : Problem) (files : FileMap) (limits : Limits) (start : ℕ) where
   one_ask_fault (Punctual alpha promise) a b m n is also = one_no_safe a b is also
   one_ask_fault (Departures until last) a b m n is also = is.0 ∙ sym also.0
   one_ask_fault (Latest until) a b m n is also = is.0 ∙ sym also.0
+  one_ask_fault (Reach until) a b m n is also = absurd is
 
   -- what has an answer has no fault
   pub answered_or_not : (ask : AskModel) (found : Findings) (text : List ℕ) (a : Fault) → NotRead a → AnswersAsk (Some files) limits start p ask found text → FailsAsk (Some files) limits start p ask a → ⊥
@@ -174,3 +175,4 @@ module _ (p : Problem) (files : FileMap) (limits : Limits) (start : ℕ) where
   answered_or_not (Punctual alpha promise) found text a m (q, w, is, reports) fails = not_none p start alpha q w is fails.1
   answered_or_not (Departures until last) found text a m (rows, is, are, safe, reported) fails = fails.1 safe.0 safe.1
   answered_or_not (Latest until) found text a m (moment, is, greatest, reported) fails = fails.1 moment.0 greatest.0 greatest.1.0 greatest.1.1
+  answered_or_not (Reach until) found text a m reached fails = fails

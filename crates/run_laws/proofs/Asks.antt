@@ -1,6 +1,6 @@
 -- The answers of two runs are one.
 use Rattle.run_laws.proofs.Common.{arith, ◌≡◌, ℕ, List, None, Some, sym, subst, ◌∙◌, Appends, FileMap, Limits, Moment, Query, JobModel, Ask, Sample, AskModel, Safe, Expand, Plan}
-use Rattle.run_laws.proofs.Common.{Certify, CheckProof, CheckGraph, Punctual, Departures, Latest, Problem, HasOneProblem, agree_all, own_problem, Findings, findings_of, query_until, AnswersAsk}
+use Rattle.run_laws.proofs.Common.{Certify, CheckProof, CheckGraph, Punctual, Departures, Latest, Reach, Problem, HasOneProblem, agree_all, own_problem, Findings, findings_of, query_until, AnswersAsk}
 use Rattle.run_laws.proofs.Common.{AnswersJob, AnswersWords, HasAnswer, sample_journey, sample_alpha, AnswersSampled, IsSampled, WritesLine, IsOneAnswer, RunModel, IsRunWithin, HasOneRun}
 use Rattle.command_line.specs.Jobs.{Replay}
 use Rattle.meat_engine.specs.Received.{Outcome}
@@ -9,6 +9,7 @@ use Rattle.run_laws.proofs.Plans.{one_planned}
 use Rattle.run_laws.proofs.Queries.{in_one_query}
 use Rattle.run_laws.proofs.Certificates.{one_certificate_answer, one_check_answer}
 use Rattle.run_laws.proofs.Departures.{one_departures_answer}
+use Rattle.run_laws.proofs.Reaches.{one_reach_answer}
 use Rattle.run_laws.proofs.Texts.{one_safe_answer, one_plan_answer, one_expanded_answer}
 use Rattle.run_laws.proofs.Punctuals.{one_punctual_answer}
 use Rattle.run_laws.proofs.Files.{one_trip_answer, one_score_answer, one_latest_answer}
@@ -29,6 +30,7 @@ module _ (found others : Findings) (text other : List ℕ) where
   one_ask files limits start p (Punctual alpha promise) = one_punctual_answer p found others text other promise start alpha
   one_ask files limits start p (Departures until last) = one_departures_answer p (query_until p start until) last found others text other
   one_ask files limits start p (Latest until) = one_latest_answer p found others text other (query_until p start until)
+  one_ask files limits start p (Reach until) = one_reach_answer p (query_until p start until) found others text other
 
   one_sample_reported : (size : ℕ) (p : Problem) (q : Query) (w : Moment) → AnswersSampled size p found text q w → AnswersSampled size p others other q w → One
   one_sample_reported size p q w (graph, bounds, is, plan, text_is) (graphs, spans, is_other, plan_other, text_other) = grind (arith, one_planned)

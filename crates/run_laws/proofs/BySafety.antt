@@ -1,6 +1,6 @@
 -- What is asked by safe strategies has one status, one query and one least worst arrival.
 use Rattle.run_laws.proofs.Common.{◌≡◌, ℕ, sym, ap, subst, ◌∙◌, inl, inr, List, Some, FileMap, Limits, Moment, Query, IsQueryOf, reaches_from_safe, AskModel, Safe, Expand, Plan, Certify, CheckProof}
-use Rattle.run_laws.proofs.Common.{CheckGraph, Punctual, Departures, Latest, Replays, Problem, Findings, AnswersAsk, EndsAsk, HasNoSafe, query_until, EndsByLatest}
+use Rattle.run_laws.proofs.Common.{CheckGraph, Punctual, Departures, Latest, Reach, Replays, Problem, Findings, AnswersAsk, EndsAsk, HasNoSafe, query_until, EndsByLatest}
 use Rattle.meat_engine.specs.Ends.{EndsBySafety}
 use Rattle.run_laws.specs.Pairs.{IsBySafety}
 use Rattle.run_laws.proofs.Departing.{later_is_now}
@@ -32,6 +32,7 @@ module _ (p : Problem) (start : ℕ) where
     by_safety (CheckGraph graph) status by ends = absurd by
     by_safety (Departures until last) status by ends = absurd by
     by_safety (Latest until) status by ends = absurd by
+    by_safety (Reach until) status by ends = absurd by
 
     -- the query that was found, and the least worst arrival
     pub record Asked (found : Findings) : Type 0 where
@@ -60,6 +61,7 @@ module _ (p : Problem) (start : ℕ) where
     asked_by (CheckGraph graph) found text by answers = absurd by
     asked_by (Departures until last) found text by answers = absurd by
     asked_by (Latest until) found text by answers = absurd by
+    asked_by (Reach until) found text by answers = absurd by
 
   -- both found one query and one least worst arrival
   pub one_asked : (alpha : ℕ) (limits : Limits) (files others : FileMap) (found other : Findings) → Asked limits files alpha found → Asked limits others alpha other

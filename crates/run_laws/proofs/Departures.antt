@@ -8,7 +8,7 @@ use Rattle.stop_profile.specs.Inserts.{row_in_time}
 use Rattle.meat_scan.specs.ScanResult.{ScanResult}
 use Rattle.departure_table.specs.declared.DepartureRow.{DepartureRow}
 use Rattle.plan_model.specs.Gates.{extended_by}
-use Rattle.departure_table.specs.Looked.{row_of_choice, row_found, AreLooked}
+use Rattle.departure_table.specs.Looked.{asked_at, row_of_choice, row_found, AreLooked}
 use Rattle.journey_answers.specs.ByRules.{IsRuled, AreByRules, added_query}
 use Rattle.run_laws.proofs.OneOrder.{one_order}
 
@@ -24,10 +24,9 @@ one_looked look last next (x ∷ xs) (y ∷ ys) a b =
     ap₂ (λ (z : DepartureRow) (zs : List DepartureRow). z ∷ zs) same
     (one_looked look last (x.by.0 + 1) xs ys a.2 (subst (λ (z : DepartureRow). AreLooked look last (z.by.0 + 1) ys) (sym same) b.2))
 
--- what the rules give at a moment is one row
-one_look : (n : NetworkModel) (q : Query) (a b : ScanResult MeanSpan) → IsRuled n q a → IsRuled n q b → (next : ℕ) → row_found n q a next ≡ row_found n q b next
-one_look n q a b is other next =
-    let place = q.source.0 in
+-- what the rules give at a place and a moment is one row
+pub found_at : (n : NetworkModel) (q : Query) (a b : ScanResult MeanSpan) → IsRuled n q a → IsRuled n q b → (place next : ℕ) → row_found n (asked_at q place) a next ≡ row_found n (asked_at q place) b next
+found_at n q a b is other place next =
     let kept : List ConnectionId → List (Row MeanSpan) = λ ids. (kept_after mean_scoring n q ids).rows place in
     let same = is.rules.rows place ∙ ap kept (one_order n is.order other.order is.is_order other.is_order) ∙ sym (other.rules.rows place) in
     ap (λ (rows : List (Row MeanSpan)). option_map (row_of_choice n) (option_map (λ (row : Row MeanSpan). (row.value, row.leg)) (row_in_time (next - 1) rows))) same
@@ -37,7 +36,7 @@ module _ (p : Problem) (q : Query) (last : ℕ) where
   one_by_rules xs ys is other =
       let n = extended_by p.timetable.network (q.source ∷ []) in
       let asked = added_query p.timetable.network q in
-      let same = one_look n asked is.found other.found is.ruled other.ruled in
+      let same = found_at n asked is.found other.found is.ruled other.ruled asked.source.0 in
       one_looked (row_found n asked is.found) last q.start.0 xs ys is.looked
       (subst (λ (look : ℕ → Option DepartureRow). AreLooked look last q.start.0 ys) (λ i next. sym (same next) i) other.looked)
 

@@ -1,6 +1,6 @@
 -- What is answered, and why it is not, depends on the records of the files at the paths that the words name, and on no others.
 use Rattle.run_laws.proofs.Common.{arith, ◌≡◌, ◌⊎◌, ℕ, ◌≤◌, List, length, nat_lt, nat_tests, false, Option, None, Some, Result, Ok, Err, inl, inr, refl, sym, subst, ap, ◌∙◌, FileMap, file_at, table_of, Limits}
-use Rattle.run_laws.proofs.Common.{JobModel, Ask, Sample, job_of, JourneyModel, AskModel, Safe, Expand, Plan, Replays, Certify, CheckProof, CheckGraph, Punctual, Departures, Latest, Query, PlanGraph, Head}
+use Rattle.run_laws.proofs.Common.{JobModel, Ask, Sample, job_of, JourneyModel, AskModel, Safe, Expand, Plan, Replays, Certify, CheckProof, CheckGraph, Punctual, Departures, Latest, Reach, Query, PlanGraph, Head}
 use Rattle.run_laws.proofs.Common.{LowerBounds, Fault, Read, Input, unread_input, NamedParts, Problem, Findings, bytes_of, AgreeAt, AgreeFor, agree_sym, own_problem, own_fault, file_path, own_paths, path_in}
 use Rattle.run_laws.proofs.Common.{graph_in, graph_as, graph_of, InGraphFile, FailsGraph, FailsFile, FailsCertificate, InCertificateFile, IsProblem, IsProblemFault, AnswersAsk, FailsAsk, FailsJourney}
 use Rattle.run_laws.proofs.Common.{AnswersJob, AnswersWords, FailsJob, IsExplained, AgreeOn}
@@ -185,6 +185,7 @@ module _ (limits : Limits) (files other : FileMap) where
   ask_answers j p (Punctual alpha promise) found text same is = is
   ask_answers j p (Departures until last) found text same is = is
   ask_answers j p (Latest until) found text same is = is
+  ask_answers j p (Reach until) found text same is = is
 
   ask_fails : (j : JourneyModel) (p : Problem) (a : AskModel) (fault : Fault) → CarriesAsk j a
       → FailsAsk (Some other) limits j.start p a fault → FailsAsk (Some files) limits j.start p a fault
@@ -198,6 +199,7 @@ module _ (limits : Limits) (files other : FileMap) where
   ask_fails j p (Punctual alpha promise) fault same is = is
   ask_fails j p (Departures until last) fault same is = is
   ask_fails j p (Latest until) fault same is = is
+  ask_fails j p (Reach until) fault same is = is
 
   pub journey_fails : (j : JourneyModel) (a : AskModel) (known : Option NamedParts) (fault : Fault) → CarriesAsk j a
       → FailsJourney (Some other) limits j a known fault → FailsJourney (Some files) limits j a known fault

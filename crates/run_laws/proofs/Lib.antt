@@ -14,6 +14,7 @@ pub mod Files
 pub mod Tight
 pub mod Certificates
 pub mod Departures
+pub mod Reaches
 pub mod Framed
 pub mod Asks
 pub mod FirstFaults

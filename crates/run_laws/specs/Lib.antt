@@ -10,4 +10,5 @@ pub mod MoreService
 pub mod Reordered
 pub mod RowsOfPlans
 pub mod SamplePlans
+pub mod Reaches
 pub mod Pairs

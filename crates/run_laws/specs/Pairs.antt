@@ -19,7 +19,7 @@ use Rattle.lower_proof.specs.declared.LowerBounds.{LowerBounds}
 use Rattle.lower_proof.specs.Certificates.{IsLeastAtStart}
 use Rattle.trip_replay.specs.Late.{ArePossible}
 use Rattle.trip_replay.specs.Walk.{IsSafeAnswer}
-use Rattle.command_line.specs.Jobs.{JourneyModel, AskModel, Ask, Safe, Expand, Plan, Replay, Certify, CheckProof, CheckGraph, Punctual, Departures, Latest, job_of}
+use Rattle.command_line.specs.Jobs.{JourneyModel, AskModel, Ask, Safe, Expand, Plan, Replay, Certify, CheckProof, CheckGraph, Punctual, Departures, Latest, Reach, job_of}
 use Rattle.journey_model.specs.declared.faults.Fault.TheVariants.{GraphFile, NoSafe}
 use Rattle.journey_model.specs.declared.problem.Problem.{Problem}
 use Rattle.journey_problem.specs.Problems.{IsProblem}
@@ -31,6 +31,7 @@ use Rattle.meat_engine.specs.Ends.{EndsByWalk}
 use Rattle.run_laws.specs.Greatest.{CertificateIsGreatest}
 use Rattle.run_laws.specs.MoreService.{MoreIsNoLater, MoreLeavesNoSooner, MorePlansNoWorse}
 use Rattle.run_laws.specs.OneRun.{EndAlike, FormsEndAlike}
+use Rattle.run_laws.specs.Reaches.{ReachIsLatest, ReachIsFirstDeparture, LaterReachesMore}
 use Rattle.run_laws.specs.Printed.{ArrivesByFile, KeepsUpperBound}
 use Rattle.run_laws.specs.Reordered.{OrderKeepsWorst, OrderKeepsPlans}
 use Rattle.run_laws.specs.RowsOfPlans.{RowIsOfPlan, CutRowIsOfPlan}
@@ -198,5 +199,8 @@ pub record Agree (limits : Limits) (r s : RunModel) : Type 0 where
   pub last_row : LatestIsOfLastRow r s
   pub row_of_plan : RowIsOfPlan limits r s
   pub cut_row_of_plan : CutRowIsOfPlan r s
+  pub reach_latest : ReachIsLatest limits r s
+  pub reach_departures : ReachIsFirstDeparture limits r s
+  pub reach_later : LaterReachesMore r s
   pub sample : SampleIsPlan r s
   pub first_fault : FaultIsFirst limits r

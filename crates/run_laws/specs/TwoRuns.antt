@@ -3,7 +3,7 @@ use Rattle.std.specs.Prelude.{◌≡◌, ◌⊎◌, ℕ, ◌≤◌, List, ◌++�
 use Rattle.std.specs.Io.KnownBytes.{Appends}
 use Rattle.file_ports.specs.Ports.{FileMap, file_at}
 use Rattle.csv_rows.specs.declared.limits.Limits.{Limits}
-use Rattle.command_line.specs.Jobs.{JourneyModel, AskModel, Ask, Safe, Expand, Plan, Replay, Certify, CheckProof, CheckGraph, Punctual, Departures, Latest, job_of}
+use Rattle.command_line.specs.Jobs.{JourneyModel, AskModel, Ask, Safe, Expand, Plan, Replay, Certify, CheckProof, CheckGraph, Punctual, Departures, Latest, Reach, job_of}
 use Rattle.journey_problem.specs.Paths.{AgreeFor}
 use Rattle.run_laws.specs.Runs.{RunModel, IsUntroubled}
 
@@ -51,3 +51,4 @@ IsBySafety alpha (CheckProof certificate) = ⊥
 IsBySafety alpha (CheckGraph graph) = ⊥
 IsBySafety alpha (Departures until last) = ⊥
 IsBySafety alpha (Latest until) = ⊥
+IsBySafety alpha (Reach until) = ⊥

@@ -7,7 +7,9 @@ ghost use Rattle.run_laws.specs.Runs.{host_state, run_of};
 use csv_rows::Limits;
 use file_ports::{Files, Sink};
 use graph_text::read_fault_is_by_rows;
-use journey_problem::{files_have_one_problem, saving_elsewhere_keeps_own_files};
+use journey_problem::{
+    files_have_one_problem, journeys_to_a_stop_have_one_timetable, saving_elsewhere_keeps_own_files,
+};
 use journey_report::Report;
 use meat_engine::run_limited;
 use std::alloc::Global;
@@ -68,6 +70,7 @@ pub fn run_both<F: Files, O: Sink, E: Sink>(
 {
     files_have_one_problem();
     saving_elsewhere_keeps_own_files();
+    journeys_to_a_stop_have_one_timetable();
     read_fault_is_by_rows();
     let report = first.run(alloc, words, limits);
     let other = second.run(alloc, others, limits);

@@ -15,5 +15,5 @@ returns c =
     record {
       reach = same_reach m q c.places.result q.start.0 rows c.in_ok-rows.ensures.reach;
       by_rules = by_gates m q rows c.in_ok-extended.extended c.places.result c.in_ok-scanned.scanned c.in_ok-extended.ensures.parts c.places.ensures.count c.in_ok-scanned.ensures.ruled
-          c.in_ok-rows.ensures.found;
+          c.in_ok-rows.ensures.found c.in_ok-extended.ensures.room;
     }
