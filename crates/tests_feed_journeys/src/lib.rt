@@ -6,6 +6,8 @@ mod delays;
 #[cfg(test)]
 mod feeds;
 #[cfg(test)]
+mod order;
+#[cfg(test)]
 mod reach;
 #[cfg(test)]
 mod repeats;
