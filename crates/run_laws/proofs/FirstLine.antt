@@ -1,6 +1,6 @@
 -- What `punctual` wrote up to its first end of a line is the row of its chance.
-use Rattle.run_laws.proofs.Common.{◌≡◌, ◌≢◌, ℕ, suc, zero, ◌+◌, List, [], ◌∷◌, ◌++◌, arith, inl, inr, refl, sym, ap, ap₂, subst, ◌∙◌, cases_Bool, false, ne_eqb, Contains, Contains-head}
-use Rattle.run_laws.proofs.Common.{Contains-tail, Some, Limits, Punctual, Interval}
+use Rattle.run_laws.proofs.Common.{◌≡◌, ℕ, suc, zero, ◌+◌, List, [], ◌∷◌, ◌++◌, arith, inl, inr, refl, sym, ap, ap₂, subst, ◌∙◌, cases_Bool, false, ne_eqb, Contains, Contains-head}
+use Rattle.run_laws.proofs.Common.{Contains-tail, Limits, Punctual, Interval}
 use Rattle.run_laws.proofs.Common.{findings_of, RunModel, IsRunWithin}
 use Rattle.journey_report.specs.AnswerTexts.{punctual_row}
 use Rattle.std.proofs.Common.{Bool, true, ◌==◌, ◌||◌, ◌/◌, ◌%◌, append_assoc, codes}
@@ -14,7 +14,7 @@ use Rattle.clock_text.specs.Times.{Parts, text_of_parts}
 use Rattle.late_chance.specs.ChanceTexts.{chance_text}
 use Rattle.plan_model.specs.Bounds.{certainty}
 use Rattle.printed_rows.specs.Writers.{row_of_fields}
-use Rattle.run_laws.specs.Saved.{IsOneLine, FirstLineIsItsRow}
+use Rattle.run_laws.specs.Saved.{FirstLineIsItsRow}
 use Rattle.run_laws.proofs.Agreeing.{answered, one_some, one_text}
 use Rattle.run_laws.proofs.Printed.{of_punctual}
 

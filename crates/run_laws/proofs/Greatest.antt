@@ -1,5 +1,5 @@
 -- Where the certificate of `certify` has a value, one that `check` accepts has one that is no greater.
-use Rattle.run_laws.proofs.Common.{◌≡◌, sym, ap, subst, ◌∙◌, List, Option, Some, Limits, Query, Certify, CheckProof, Findings, HasOneProblem, RunModel, IsRunWithin, LowerBounds, IsAccepted}
+use Rattle.run_laws.proofs.Common.{sym, ap, subst, ◌∙◌, Limits, Query, Certify, CheckProof, Findings, HasOneProblem, RunModel, IsRunWithin, IsAccepted}
 use Rattle.run_laws.specs.Greatest.{CertificateIsGreatest}
 use Rattle.run_laws.proofs.Agreeing.{of_first, of_second, second_over, one_some}
 

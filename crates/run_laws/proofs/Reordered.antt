@@ -1,9 +1,9 @@
 -- Over feeds of the same rows, in whatever order, two runs find one least worst arrival and one upper bound.
-use Rattle.run_laws.proofs.Common.{◌≡◌, ℕ, ◌≤◌, arith, inl, inr, refl, sym, ap, ◌∙◌, Option, None, Some, FileMap, Limits, Moment, JourneyModel, AskModel, Plan, HasOneProblem, Interval}
+use Rattle.run_laws.proofs.Common.{◌≡◌, ℕ, ◌≤◌, arith, inl, inr, refl, sym, ap, ◌∙◌, Option, None, Some, FileMap, Limits, Moment, JourneyModel, AskModel, Plan, HasOneProblem}
 use Rattle.run_laws.proofs.Common.{findings_of, RunModel, IsRunWithin, status_of, deadline_of}
 use Rattle.run_laws.specs.MoreService.{AskWithMore, FindsNoLater}
 use Rattle.run_laws.specs.Reordered.{AskReordered, OrderKeepsWorst, OrderKeepsPlans}
-use Rattle.run_laws.specs.TwoRuns.{OrStatus9, IsBySafety}
+use Rattle.run_laws.specs.TwoRuns.{OrStatus9}
 use Rattle.run_laws.proofs.Agreeing.{answered, one_some}
 use Rattle.run_laws.proofs.BySafety.{asked_by}
 use Rattle.run_laws.proofs.MoreService.{more, more_plans}

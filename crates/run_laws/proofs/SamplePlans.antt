@@ -1,9 +1,9 @@
 -- `sample` ends as `plan` does over the made files.
-use Rattle.run_laws.proofs.Common.{◌≡◌, ◌≢◌, ◌⊎◌, ℕ, refl, sym, ap, ap₂, subst, ◌∙◌, inl, inr, List, [], Option, None, Some, Ok, Appends, FileMap, file_at, Limits, Query, Moment}
+use Rattle.run_laws.proofs.Common.{◌≡◌, ◌⊎◌, ℕ, refl, sym, ap, ap₂, subst, ◌∙◌, inl, inr, List, [], Option, None, Some, Ok, Appends, FileMap, file_at, Limits}
 use Rattle.run_laws.proofs.Common.{PlanGraph, Interval, Ask, Sample}
-use Rattle.run_laws.proofs.Common.{count, Plan, job_of, JobModel, Fault, NoMemory, Problem, status_of, NamedParts, HasOneProblem, AgreeFor, own_problem, none_unread, Findings}
+use Rattle.run_laws.proofs.Common.{count, Plan, job_of, JobModel, Fault, Problem, status_of, NamedParts, HasOneProblem, AgreeFor, own_problem, none_unread, Findings}
 use Rattle.run_laws.proofs.Common.{findings_of, FailsJourney, AnswersJob, FailsJob, AnswersWords}
-use Rattle.run_laws.proofs.Common.{IsExplained, AnswersPlan, InQuery, sample_journey, sample_alpha, RunModel, IsRunWithin, IsUntroubled, agree_sym}
+use Rattle.run_laws.proofs.Common.{IsExplained, AnswersPlan, InQuery, sample_journey, sample_alpha, RunModel, IsRunWithin, agree_sym}
 use Rattle.std.proofs.Common.{IfSome}
 use Rattle.feed_maker.specs.Made.{made, SameFolder}
 use Rattle.journey_model.specs.FaultLines.{line_of}

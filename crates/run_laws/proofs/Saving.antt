@@ -1,5 +1,5 @@
 -- A text that is saved beside the files of its journey is in the file, and keeps these.
-use Rattle.run_laws.proofs.Common.{◌≡◌, refl, ◌∙◌, ℕ, List, Option, Some, FileMap, file_at, Limits, RunModel}
+use Rattle.run_laws.proofs.Common.{◌≡◌, refl, ◌∙◌, ℕ, List, Option, Some, file_at, Limits, RunModel}
 use Rattle.std.specs.Prelude.{bytes_eq, if◌then◌else◌}
 use Rattle.std.proofs.Common.{true}
 use Rattle.std.specs.Cmp.Lexicographic.{bytes_decides}
