@@ -2,7 +2,7 @@
 # scripts/preview. The program refuses such a word in any case.
 # shellcheck shell=sh
 
-commands='safe expand plan replay certify check punctual departures latest sample'
+commands='safe expand plan replay certify check punctual departures latest reach sample'
 
 # Prints the commands, and where the manual page is. The words: the first one of the call, and how to read the page.
 hint() {

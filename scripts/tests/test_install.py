@@ -131,7 +131,7 @@ class Install(Case):
             told = shown_on(terminal).splitlines()
             self.assertEqual((ran.returncode, ran.stdout, len(told)), (2, b"", lines), told)
             self.assertTrue(told[-1].startswith("meat: "), told)
-            self.assertEqual("departures latest sample; the manual page: man meat" in told[0], lines == 2, told)
+            self.assertEqual("latest reach sample; the manual page: man meat" in told[0], lines == 2, told)
 
     def test_a_folder_before_the_prefix(self) -> None:
         self.assertEqual(self.make("install", f"DESTDIR={self.room}/image", "PREFIX=/usr").returncode, 0)
