@@ -1,7 +1,7 @@
 # Installs the planner with its scripts, manual page and completions: make install PREFIX=/usr/local
 # The installed program runs without this repository. `make test` runs the gate.
 PREFIX ?= /usr/local
-SCRIPTS = ask card compare delays look odds slice trial walks
+SCRIPTS = ask card compare delays look map odds slice trial walks
 MODULES = $(notdir $(wildcard scripts/desk/*.py))
 # The folder of the installation, for the shell. Its text is taken as it is: it may have spaces, quotes and dollar signs.
 export PREFIX_TEXT := $(value PREFIX)
