@@ -29,12 +29,19 @@ install: prefix
 	scripts/manual bash >"$$ROOT/share/bash-completion/completions/meat"
 	scripts/manual zsh >"$$ROOT/share/zsh/site-functions/_meat"
 	scripts/manual fish >"$$ROOT/share/fish/vendor_completions.d/meat.fish"
+	scripts/manual scripts "$$ROOT/share" $(SCRIPTS)
+	install -d "$$ROOT/share/doc/meat"
+	install -m 644 docs/GUIDE.md docs/FORMATS.md "$$ROOT/share/doc/meat"
 
 # Removes what `install` has made and nothing else; the folder of the planner only if it is then empty.
 uninstall: prefix
 	rm -f "$$ROOT/bin/meat" "$$ROOT/share/man/man1/meat.1" "$$ROOT/share/bash-completion/completions/meat" \
 	    "$$ROOT/share/zsh/site-functions/_meat" "$$ROOT/share/fish/vendor_completions.d/meat.fish"
-	for name in $(SCRIPTS); do rm -f "$$ROOT/bin/meat-$$name" || exit; done
+	for name in $(SCRIPTS); do rm -f "$$ROOT/bin/meat-$$name" "$$ROOT/share/man/man1/meat-$$name.1" \
+	    "$$ROOT/share/bash-completion/completions/meat-$$name" "$$ROOT/share/zsh/site-functions/_meat-$$name" \
+	    "$$ROOT/share/fish/vendor_completions.d/meat-$$name.fish" || exit; done
+	rm -f "$$ROOT/share/doc/meat/GUIDE.md" "$$ROOT/share/doc/meat/FORMATS.md"
+	@[ ! -d "$$ROOT/share/doc/meat" ] || rmdir "$$ROOT/share/doc/meat" 2>/dev/null || true
 	for name in meat hint.sh meat.py $(SCRIPTS) $(addprefix desk/,$(MODULES)); do rm -f "$$ROOT/lib/meat/$$name" || exit; done
 	@[ ! -d "$$ROOT/lib/meat/desk" ] || rmdir "$$ROOT/lib/meat/desk" 2>/dev/null || true
 	@[ ! -d "$$ROOT/lib/meat" ] || rmdir "$$ROOT/lib/meat" 2>/dev/null || echo "$$ROOT/lib/meat has other files, and stays"

@@ -61,6 +61,8 @@ class Install(Case):
         card = subprocess.run([os.path.join(prefix, "bin", "meat-ask"), *words], capture_output=True, env=environment, timeout=60)
         self.assertTrue(card.stdout.startswith(b"Mill to Airport\n"), card.stderr)
         self.assertIn(".TH MEAT 1", content(f"{prefix}/share/man/man1/meat.1"))
+        self.assertIn(".TH MEAT\\-ASK 1", content(f"{prefix}/share/man/man1/meat-ask.1"))
+        self.assertIn("--next", content(f"{prefix}/share/bash-completion/completions/meat-ask"))
         for shell in ("bash-completion/completions/meat", "zsh/site-functions/_meat", "fish/vendor_completions.d/meat.fish"):
             self.assertIn("departures", content(f"{prefix}/share/{shell}"))
         self.assertEqual(self.make("uninstall", f"PREFIX={prefix}").returncode, 0)
