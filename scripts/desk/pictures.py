@@ -88,7 +88,7 @@ def place_lines(frame: Frame, card: PlanCard) -> Iterator[str]:
         y = frame.down(place)
         yield f'<path class="place" d="M{LEFT} {y}H{WIDTH - RIGHT}"/>'
         name = card.names.place(place)
-        short = name if len(name) <= 19 else f"{name[:18]}…"
+        short = name if len(name) <= 17 else f"{name[:16]}…"
         yield f'<text class="name" x="{LEFT - 8}" y="{y + 4}"><title>{escaped(name)}</title>{escaped(short)}</text>'
 
 

@@ -27,9 +27,9 @@ class Map(Case):
         self.assertEqual((ran.status, ran.errors), (0, "map: 1 places have a row and no coordinates, and are left out\n"))
         xml.dom.minidom.parseString(ran.printed)
         for text in ("<title>Anfang &amp; Ende: 114.7 min</title>", "<title>Mitte: 111.5 min</title>", "<title>Nirgends: none</title>",
-                     "to Ziel: expected arrival, minutes after 07:00", "grey: no row (1)"):
+                     "to Ziel: expected arrival, minutes after 07:00", "grey: no row (1); the cross is the target"):
             self.assertIn(text, ran.printed)
-        self.assertEqual(ran.printed.count("<circle"), 4)
+        self.assertEqual((ran.printed.count("<circle"), ran.printed.count("the target</title>")), (3, 1))
         self.assertIn("<title>Anfang &amp; Ende: 60.0 min</title>", call("map", ROWS, self.town, "--by", "latest").printed)
 
     def test_the_middle_of_platforms(self) -> None:
