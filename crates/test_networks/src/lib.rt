@@ -8,7 +8,7 @@ ghost use Rattle.std.specs.Prelude.{◌≡◌, ◌+◌, ◌<◌, ◌≤◌, leng
 ghost use Rattle.plan_model.specs.NameLists.{NamesFit};
 ghost use Rattle.decision_graph.specs.Expanded.{IsExpanded};
 ghost use Rattle.decision_graph.specs.Planned.{IsPlanned};
-ghost use Rattle.interval_fixed.specs.Interval.{end_of_nanos};
+ghost use Rattle.plan_model.specs.Bounds.{end_of_time};
 
 use csv_rows::{Limits, Rows};
 use cut_file::{CutTable, read_cut};
@@ -197,7 +197,7 @@ pub fn expanded(
 ) -> Result<Found<ExpandedGraph, Span>, Fail>
     requires source { query.now.source.0 < length network.now.change }
     requires target { query.now.target.0 < length network.now.change }
-    requires start { query.now.start.0 < end_of_nanos }
+    requires start { query.now.start.0 < end_of_time }
     requires deadline { query.now.start.0 ≤ query.now.deadline.0 }
     ensures { IfOk result (λ found. IsExpanded network.now query.now found.graph found.value) }
 {
@@ -216,7 +216,7 @@ pub fn planned(
 ) -> Result<Found<PlanGraph, Span>, Fail>
     requires source { query.now.source.0 < length network.now.change }
     requires target { query.now.target.0 < length network.now.change }
-    requires start { query.now.start.0 < end_of_nanos }
+    requires start { query.now.start.0 < end_of_time }
     requires deadline { query.now.start.0 ≤ query.now.deadline.0 }
     ensures { IfOk result (λ found. IsPlanned network.now query.now found.graph found.value) }
 {

@@ -1,7 +1,7 @@
 //! Scores of graphs over three buses, and of one whose trips are many more than its legs.
 ghost use Rattle.std.specs.Prelude.{◌≡◌, ◌≢◌, ◌<◌, ◌≤◌, Some, None, IfOk, IfSome, length};
 ghost use Rattle.plan_graph.specs.PickedRows.{HasRisingTables};
-ghost use Rattle.interval_fixed.specs.Interval.{end_of_nanos};
+ghost use Rattle.plan_model.specs.Bounds.{end_of_time};
 
 use graph_score::{ScoreFault, fit_is_scored, score};
 use plan_graph::{GraphRow, PlaceTable, PlanGraph};
@@ -26,11 +26,11 @@ const FIVE_MINUTES: u64 = 300;
 /// The mean of the usual delays, in seconds.
 const MEAN_DELAY: u64 = 90;
 
-/// A moment that fits in nanoseconds, or the first one in the place of one that does not.
+/// A moment before the end of all time, or the first one in the place of one that is not.
 fn early(moment: Moment) -> Moment
-    ensures { result.0 < end_of_nanos }
+    ensures { result.0 < end_of_time }
 {
-    if moment.0 < 18_446_744_073 {
+    if moment.0 < 13_601_174_401 {
         moment
     } else {
         Moment(0)
@@ -39,7 +39,7 @@ fn early(moment: Moment) -> Moment
 
 /// Eight o'clock.
 pub(crate) fn eight() -> Moment
-    ensures { result.0 < end_of_nanos }
+    ensures { result.0 < end_of_time }
 {
     early(Moment(EIGHT))
 }

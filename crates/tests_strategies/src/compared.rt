@@ -1,6 +1,5 @@
 //! The plain values against those of the scans and the plans.
 ghost use Rattle.std.specs.Prelude.{◌<◌, ◌≤◌, ◌+◌, length};
-ghost use Rattle.interval_fixed.specs.Interval.{end_of_nanos};
 ghost use Rattle.late_chance.specs.Chances.{seconds_per_week};
 ghost use Rattle.plan_model.specs.Bounds.{end_of_time};
 
@@ -69,7 +68,7 @@ fn encloses_chance(chance: LateChance, exact: u128, rides: u32) -> bool {
 
 /// The bounds of the plan of a query, by the sorted order.
 fn sorted_plan(alloc: Global, network: &Network, query: &Query) -> Result<Option<Span>, Fail>
-    requires start { query.now.start.0 < end_of_nanos }
+    requires start { query.now.start.0 < end_of_time }
 {
     let mut order = SortedOrder::new(alloc, network)?;
     match plan(alloc, &mut order, network, query)? {
@@ -80,7 +79,7 @@ fn sorted_plan(alloc: Global, network: &Network, query: &Query) -> Result<Option
 
 /// The bounds of the plan of a query, by the merged order, as the program makes it.
 fn merged_plan(alloc: Global, network: &Network, query: &Query) -> Result<Option<Span>, Fail>
-    requires start { query.now.start.0 < end_of_nanos }
+    requires start { query.now.start.0 < end_of_time }
 {
     let mut order = MergedRuns::new(alloc, network)?;
     match plan(alloc, &mut order, network, query)? {
@@ -91,7 +90,7 @@ fn merged_plan(alloc: Global, network: &Network, query: &Query) -> Result<Option
 
 /// The bounds of the plan ride by ride.
 fn expanded_plan(alloc: Global, network: &Network, query: &Query) -> Result<Option<Span>, Fail>
-    requires start { query.now.start.0 < end_of_nanos }
+    requires start { query.now.start.0 < end_of_time }
 {
     let mut order = MergedRuns::new(alloc, network)?;
     match expand(alloc, &mut order, network, query)? {
@@ -119,7 +118,7 @@ fn are_alike(one: Option<Span>, other: Option<Span>) -> bool {
 
 /// Compares the plans of a query with the plain value and with each other, and returns whether a strategy is safe.
 fn compare_plan(alloc: Global, network: &Network, query: &Query) -> Result<bool, Fail>
-    requires start { query.now.start.0 < end_of_nanos }
+    requires start { query.now.start.0 < end_of_time }
 {
     let found = merged_plan(alloc, network, query)?;
     if !are_alike(found, sorted_plan(alloc, network, query)?) {
