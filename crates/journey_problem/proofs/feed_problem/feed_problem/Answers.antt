@@ -36,5 +36,5 @@ returns-in-Err-clause-problem g c = if_some_any (g.F.Files.state c.args.files.no
 pub returns-in-Err-clause-fault : goal.returns-in-Err-clause-fault
 returns-in-Err-clause-fault g c =
     let is = c.fault_of.ensures.fault in
-    IfSome_then (g.F.Files.state c.args.files.now).files c.in-Err.ensures.reads.fault (λ m why other.
+    IfSome_then (g.F.Files.state c.args.files.now).files c.in-Err.ensures.reads.found (λ m why other.
     inl (c.in-Err.fault, is, why (λ same. other (is ∙ ap (feed_as c.args.limits.now) same))))
