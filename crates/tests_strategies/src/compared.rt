@@ -184,6 +184,25 @@ fn compare_worst(
     Ok(found)
 }
 
+/// A query with a promise half-way between its start and its deadline.
+fn promised<'a>(network: &'a Network, query: &Query) -> PromisedQuery<'a>
+    requires source { query.now.source.0 < length network.now.change }
+    requires target { query.now.target.0 < length network.now.change }
+    requires week { seconds_per_week ≤ query.now.start.0 }
+    requires start { query.now.start.0 < end_of_time }
+    requires order { query.now.start.0 ≤ query.now.deadline.0 }
+{
+    // The network is valid.
+    let _rides = network.count();
+    let half = (query.deadline.0 - query.start.0).min(SECONDS_PER_WEEK) / 2;
+    let moment = Moment(query.start.0 + half);
+    PromisedQuery {
+        network,
+        query: *query,
+        moment,
+    }
+}
+
 /// Compares a journey by several deadlines, of which one is too early for all.
 fn compare(
     alloc: Global,
@@ -211,16 +230,7 @@ fn compare(
     }
     query.deadline = Moment(worst.saturating_add(600));
     compare_plan(alloc, network, &query)?;
-    let half = (query.deadline.0 - start.0).min(SECONDS_PER_WEEK) / 2;
-    let moment = Moment(start.0 + half);
-    compare_chance(
-        alloc,
-        &PromisedQuery {
-            network,
-            query,
-            moment,
-        },
-    )?;
+    compare_chance(alloc, &promised(network, &query))?;
     query.deadline = Moment(worst.saturating_sub(1).max(start.0));
     let early = compare_plan(alloc, network, &query)?;
     if early && worst > start.0 {
