@@ -1,9 +1,10 @@
 -- From where one can reach a target follows from the problem, and agrees with the latest moment and the departures of each place.
-use Rattle.run_laws.proofs.Common.{◌≡◌, ◌≢◌, ℕ, ◌+◌, ◌-◌, ◌<◌, ◌≤◌, List, [], ◌∷◌, length, All, MatchOption, Option, Some, None, sym, subst, refl, ap, ◌∙◌, inl, inr, arith, zero, cases_eq, cases_lt, cases_order, Moment, Query}
+use Rattle.run_laws.proofs.Common.{◌≡◌, ◌≢◌, ℕ, ◌+◌, ◌-◌, ◌<◌, ◌≤◌, List, [], ◌∷◌, length, All, MatchOption, Option, Some, None, sym, subst, refl, ap, ◌∙◌, inl, inr, arith, zero, suc, cases_eq, cases_lt, cases_order, Moment, Query}
 use Rattle.std.proofs.Common.{slice_index_or}
 use Rattle.run_laws.proofs.Common.{NetworkModel, mean_scoring, Tree, one_found, Problem, Findings, query_until, IsOneAnswer, EndsByLatest, HasLater, HasSafeFor, AreDepartures, IsScanOrder, ConnectionId, IsSafeFromStart, reaches_from_safe}
 use Rattle.plan_model.specs.declared.model.PlaceId.{PlaceId}
 use Rattle.plan_model.specs.Gates.{FitGates, extended_by}
+unfoldable use Rattle.plan_model.specs.Network.{connection}
 use Rattle.plan_model.proofs.Laws.{safe_from_reaches}
 use Rattle.plan_model.specs.declared.Timetable.{Timetable}
 use Rattle.value_laws.specs.declared.MeanSpan.{MeanSpan}
@@ -104,6 +105,11 @@ over_timetable p other start until rows timetable target reached =
     let asked : PlaceId → Query = λ t. record { source = p.source; target = t; start = record { 0 = start }; deadline = record { 0 = until } } in
     subst (λ (t : PlaceId). AreReached other.timetable.network (asked t) rows) target (subst (λ (t : Timetable). AreReached t.network (asked p.target) rows) timetable reached)
 
+-- the connections are scanned in one order, whatever gates there are
+same_order : (m : NetworkModel) (xs ys : List PlaceId) (ids : List ConnectionId) → IsScanOrder (extended_by m xs) ids → IsScanOrder (extended_by m ys) ids
+unfolding connection
+same_order m xs ys ids order = record { permutes = order.permutes; rising = order.rising }
+
 module _ (p : Problem) (start until x : ℕ) (rows : List ReachRow) (reached : AreReached p.timetable.network (asked_at (query_until p start until) x) rows) (away : p.source.0 ≢ p.target.0) where
   abbrev q : Query
   q = query_until p start until
@@ -146,14 +152,14 @@ module _ (p : Problem) (start until x : ℕ) (rows : List ReachRow) (reached : A
       where
         one_there : All (λ (source : PlaceId). source.0 < length m.change) (p.source ∷ [])
         one_there zero d within = p.source_in
-        one_there k d within = absurd (omega (arith, within))
+        one_there (suc k) d within = absurd (omega (arith, within))
 
     begins : (row : ReachRow) → row_of_place p.source.0 rows ≡ Some row → BeginsWithBounds row departures
     begins row at =
         let f = reached.by_rules in
         let A = extended_by m (places_of m) in
         let B = extended_by m (p.source ∷ []) in
-        let order : IsScanOrder A ruled.ruled.order = record { permutes = ruled.ruled.is_order.permutes; rising = ruled.ruled.is_order.rising } in
+        let order = same_order m (p.source ∷ []) (places_of m) ruled.ruled.order ruled.ruled.is_order in
         let same = one_order A f.ruled.order ruled.ruled.order f.ruled.is_order order in
         let rules = subst (λ (ids : List ConnectionId). FollowsRules mean_scoring A (asked_at q (length m.change)) ids f.found) same f.ruled.rules in
         let at_gate = of_place (IsFoundAtGate A m q f.found) p.source.0 rows f.looked row at in
