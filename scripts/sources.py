@@ -4,6 +4,10 @@ from __future__ import annotations
 
 import os
 import re
+import sys
+
+if sys.version_info < (3, 9):
+    sys.exit("This needs Python 3.9 or later, and is run by Python " + sys.version.split()[0] + ".")
 
 TOP = os.path.dirname(os.path.dirname(os.path.realpath(__file__)))
 PROGRAM = "meat_cli"
