@@ -149,7 +149,7 @@ class Install(Case):
         commands = {name for name in os.listdir(SCRIPTS) if os.access(os.path.join(SCRIPTS, name), os.X_OK) and "." not in name
                     and os.path.isfile(os.path.join(SCRIPTS, name))}
         listed = next(line for line in content(os.path.join(TOP, "Makefile")).split("\n") if line.startswith("SCRIPTS"))
-        self.assertEqual(commands - {"build", "installed", "manual", "preview", "weights"}, set(listed.split("=")[1].split()))
+        self.assertEqual(commands - {"build", "installed", "manual", "preview", "reading", "weights"}, set(listed.split("=")[1].split()))
 
 
 class Manual(Case):
