@@ -12,14 +12,14 @@ use Rattle.command_line.specs.Uses.{is_useless, is_missing}
 use Rattle.command_line.specs.Values.{default_alpha, default_horizon, least_size, start_of, promise_at, later_at, alpha_at, horizon_at, size_at, late_at, is_bad}
 
 -- where the connections come from: a cut file, or the folder of a feed, with the hours of departures that are looked at
-pub data TimetableModel : Type 0 where
-  CutFile : (path : List ℕ) → TimetableModel
-  FeedFolder : (folder : List ℕ) (horizon : ℕ) → TimetableModel
+pub data SourceModel : Type 0 where
+  CutFile : (path : List ℕ) → SourceModel
+  FeedFolder : (folder : List ℕ) (horizon : ℕ) → SourceModel
 
 -- a journey over a timetable: the path of the delays, the stop where it begins, unless what is asked is about each of them, the
 -- stop where it ends, and its start
 pub record JourneyModel : Type 0 where
-  pub timetable : TimetableModel
+  pub timetable : SourceModel
   pub delays : List ℕ
   pub from : Option (List ℕ)
   pub to : List ℕ
@@ -71,16 +71,16 @@ size_of settings = unwrap_or (option_and_then size_at (value_of settings Size)) 
 abbrev pub late_in : List ℕ → List ℕ
 late_in text = unwrap_or (late_at text) []
 
-abbrev pub timetable_by : Option (List ℕ) → ℕ → List ℕ → TimetableModel
-timetable_by None horizon cut = CutFile cut
-timetable_by (Some folder) horizon cut = FeedFolder folder horizon
+abbrev pub source_by : Option (List ℕ) → ℕ → List ℕ → SourceModel
+source_by None horizon cut = CutFile cut
+source_by (Some folder) horizon cut = FeedFolder folder horizon
 
-abbrev pub timetable_of : List (List ℕ) → TimetableModel
-timetable_of settings = timetable_by (value_of settings Feed) (horizon_of settings) (text_of settings Cut)
+abbrev pub source_of : List (List ℕ) → SourceModel
+source_of settings = source_by (value_of settings Feed) (horizon_of settings) (text_of settings Cut)
 
 abbrev pub journey_of : List (List ℕ) → JourneyModel
 journey_of settings = record {
-  timetable = timetable_of settings;
+  timetable = source_of settings;
   delays = text_of settings Delays;
   from = value_of settings From;
   to = text_of settings To;

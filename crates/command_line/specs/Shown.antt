@@ -1,39 +1,39 @@
 -- A job by what it says.
 use Rattle.std.specs.Prelude.{Result, Ok, Err, option_map}
 use Rattle.command_line.specs.declared.job.WordsFault.{WordsFault}
-use Rattle.command_line.specs.declared.job.Timetable.{Timetable}
-use Rattle.command_line.specs.declared.job.Timetable.TheVariants as timetable
+use Rattle.command_line.specs.declared.job.Source.{Source}
+use Rattle.command_line.specs.declared.job.Source.TheVariants as source
 use Rattle.command_line.specs.declared.job.Journey.{Journey}
 use Rattle.command_line.specs.declared.job.Ask.{Ask}
 use Rattle.command_line.specs.declared.job.Ask.TheVariants as ask
 use Rattle.command_line.specs.declared.job.Job.{Job}
 use Rattle.command_line.specs.declared.job.Job.TheVariants as job
-use Rattle.command_line.specs.Jobs.{TimetableModel, CutFile, FeedFolder, JourneyModel, AskModel, Safe, Expand, Plan, Replay, Certify, CheckProof, CheckGraph}
+use Rattle.command_line.specs.Jobs.{SourceModel, CutFile, FeedFolder, JourneyModel, AskModel, Safe, Expand, Plan, Replay, Certify, CheckProof, CheckGraph}
 use Rattle.command_line.specs.Jobs.{Punctual, Departures, Latest, Reach, JobModel, Ask as Asks, Sample, late_in}
 
-abbrev pub timetable_shown : Timetable → TimetableModel
-timetable_shown (timetable.Cut path) = CutFile path.now
-timetable_shown (timetable.Feed folder horizon) = FeedFolder folder.now horizon
+abbrev pub source_shown : Source → SourceModel
+source_shown (source.Cut path) = CutFile path.now
+source_shown (source.Feed folder horizon) = FeedFolder folder.now horizon.value
 
 abbrev pub journey_shown : Journey → JourneyModel
-journey_shown j = record { timetable = timetable_shown j.timetable; delays = j.delays.now; from = option_map (λ name. name.now) j.from; to = j.to.now; start = j.start.0 }
+journey_shown j = record { timetable = source_shown j.timetable; delays = j.delays.now; from = option_map (λ name. name.now) j.from; to = j.to.now; start = j.start.moment.0 }
 
 abbrev pub ask_shown : Ask → AskModel
-ask_shown (ask.Safe alpha) = Safe alpha
-ask_shown (ask.Expand alpha) = Expand alpha
-ask_shown (ask.Plan alpha) = Plan alpha
+ask_shown (ask.Safe alpha) = Safe alpha.value
+ask_shown (ask.Expand alpha) = Expand alpha.value
+ask_shown (ask.Plan alpha) = Plan alpha.value
 ask_shown (ask.Replay graph late) = Replay graph.now (late_in late.now)
-ask_shown (ask.Certify alpha) = Certify alpha
+ask_shown (ask.Certify alpha) = Certify alpha.value
 ask_shown (ask.CheckProof proof) = CheckProof proof.now
 ask_shown (ask.CheckGraph graph) = CheckGraph graph.now
-ask_shown (ask.Punctual alpha promise) = Punctual alpha promise.0
+ask_shown (ask.Punctual alpha promise) = Punctual alpha.value promise.0
 ask_shown (ask.Departures until last) = Departures until.0 last.0
 ask_shown (ask.Latest until) = Latest until.0
 ask_shown (ask.Reach until) = Reach until.0
 
 abbrev pub wanted_job : Job → JobModel
 wanted_job (job.Journey j a) = Asks (journey_shown j) (ask_shown a)
-wanted_job (job.Sample size) = Sample size
+wanted_job (job.Sample size) = Sample size.value
 
 -- an answer by what it says
 abbrev pub answer_shown : Result Job WordsFault → Result JobModel WordsFault

@@ -2,20 +2,21 @@
 use Rattle.std.specs.Prelude.{ℕ, ◌+◌, List, [], ◌∷◌, Option, Some, None, Bool, true, false, not, ◌&&◌, is_some, if◌then◌else◌, nat_le, ◌==◌, map, length, codes, option_and_then, unwrap_or}
 use Rattle.std.specs.List.{slice_split, list_all}
 use Rattle.std.specs.Str.{bytes_eq}
-use Rattle.plan_model.specs.Bounds.{first_start, last_start}
+use Rattle.plan_model.specs.Bounds.{first_start, last_start, seconds_per_day}
 use Rattle.clock_text.specs.Digits.{whole_of}
 use Rattle.clock_text.specs.Times.{moment_at}
 use Rattle.command_line.specs.Settings.{is_given, text_of}
+use Rattle.command_line.specs.declared.values.TheConstants.{LAST_UNTIL, LONGEST_PROMISE, MOST_DELAYS}
 use Rattle.command_line.specs.declared.options.OptionName.{OptionName}
 use Rattle.command_line.specs.declared.options.OptionName.TheVariants.{Cut, Feed, Delays, From, To, At, Alpha, Horizon, Graph, Late, Size, Proof, By, Until, Last}
 
 -- the last moment of a deadline, and at which departures are looked for: 2400-12-31T23:59:59
 abbrev pub last_until : ℕ
-last_until = 13601087999
+last_until = LAST_UNTIL
 
 -- how long after the start one may promise to be there, in seconds: a week
 abbrev pub longest_promise : ℕ
-longest_promise = 604800
+longest_promise = LONGEST_PROMISE
 
 -- the percentages of a deadline, and the one that is taken where none is given
 abbrev pub least_alpha : ℕ
@@ -46,11 +47,11 @@ most_size = 400
 
 -- the longest delay that was met, in seconds: a day
 abbrev pub longest_delay : ℕ
-longest_delay = 86400
+longest_delay = seconds_per_day
 
 -- how many delays are taken at most
 abbrev pub most_delays : ℕ
-most_delays = 4096
+most_delays = MOST_DELAYS
 
 -- at least so much
 abbrev pub from_on : ℕ → ℕ → Option ℕ

@@ -1,12 +1,13 @@
 //! What a line of words asks for.
 ghost use Rattle.std.specs.Prelude.{◌≡◌, ◌≤◌, ◌+◌, map, string_bytes, option_map, option_and_then, unwrap_or, Some, IfOk, IfSome};
-ghost use Rattle.command_line.specs.Jobs.{promise_of, later_of, alpha_of, horizon_of, size_of, timetable_of, journey_of, check_of, source_or_target, ask_of, wanted_of, job_of};
-ghost use Rattle.command_line.specs.Ranges.{HasHorizon, IsJourney, IsAsk, IsJob};
+ghost use Rattle.command_line.specs.Jobs.{promise_of, later_of, alpha_of, horizon_of, size_of, source_of, journey_of, check_of, source_or_target, ask_of, wanted_of, job_of};
+ghost use Rattle.command_line.specs.Ranges.{IsInTime, IsJobInTime};
 ghost use Rattle.command_line.specs.Settings.{value_of};
-ghost use Rattle.command_line.specs.Shown.{timetable_shown, journey_shown, ask_shown, wanted_job, answer_shown};
-ghost use Rattle.command_line.specs.Values.{start_of, number_at, last_until, longest_promise, least_alpha, most_alpha, least_horizon, most_horizon, least_size, most_size};
+ghost use Rattle.command_line.specs.Shown.{source_shown, journey_shown, ask_shown, wanted_job, answer_shown};
+ghost use Rattle.command_line.specs.Values.{start_of, number_at, last_until, longest_promise};
 
 use crate::options::{Command, OptionName, option_word};
+use crate::ranges::{FeedSize, Hours, Percent, Start};
 use crate::refusals::{first_bad, first_missing, first_useless};
 use crate::settings::{are_settings, text_of, value_of};
 use crate::values::{
@@ -63,18 +64,18 @@ impl fmt::Display for WordsFault {
 
 /// Where the connections come from.
 #[derive(Clone, Copy, Debug)]
-pub enum Timetable<'a> {
+pub enum Source<'a> {
     /// The path of a cut file.
     Cut(&'a str),
     /// The path of an unpacked GTFS folder, and how many hours of departures are looked at.
-    Feed(&'a str, u32),
+    Feed(&'a str, Hours),
 }
 
 /// A journey over a timetable.
 #[derive(Clone, Copy, Debug)]
 pub struct Journey<'a> {
     /// Where the connections come from.
-    pub timetable: Timetable<'a>,
+    pub timetable: Source<'a>,
     /// The path of the delay file.
     pub delays: &'a str,
     /// The stop at which the journey begins; `None` if each place is asked about.
@@ -82,7 +83,7 @@ pub struct Journey<'a> {
     /// The stop at which it ends.
     pub to: &'a str,
     /// The moment at which it begins.
-    pub start: Moment,
+    pub start: Start,
 }
 
 impl<'a> Journey<'a> {
@@ -102,22 +103,22 @@ impl<'a> Journey<'a> {
 #[derive(Clone, Copy, Debug, PartialEq, Eq)]
 pub enum Ask<'a> {
     /// The least worst arrival and the deadline.
-    Safe { alpha: u32 },
+    Safe { alpha: Percent },
     /// The decision graph, ride by ride.
-    Expand { alpha: u32 },
+    Expand { alpha: Percent },
     /// The decision graph, with one table for each place.
-    Plan { alpha: u32 },
+    Plan { alpha: Percent },
     /// The trip by the decision graph of a file, with the delays that were met: `none`, or seconds that
     /// are joined by commas.
     Replay { graph: &'a str, late: &'a str },
     /// Lower bounds on the expected arrival of every safe strategy.
-    Certify { alpha: u32 },
+    Certify { alpha: Percent },
     /// Whether the lower bounds of a file hold.
     CheckProof { proof: &'a str },
     /// Bounds on the expected arrival of the decision graph of a file.
     CheckGraph { graph: &'a str },
     /// The decision graph with the least chance of an arrival after the promised moment.
-    Punctual { alpha: u32, promise: Moment },
+    Punctual { alpha: Percent, promise: Moment },
     /// What each departure up to the last moment promises, if one has to arrive by the deadline.
     Departures { until: Moment, last: Moment },
     /// The latest moment at which one can leave and be sure to arrive by the deadline.
@@ -132,7 +133,7 @@ pub enum Job<'a> {
     /// Something about a journey.
     Journey(Journey<'a>, Ask<'a>),
     /// The plan of a journey over the timetable of this size that is made by rule.
-    Sample(u32),
+    Sample(FeedSize),
 }
 
 /// The number of an option, or another if it is not given.
@@ -151,47 +152,45 @@ fn number_of(settings: &[String], option: OptionName, range: NumberRange, other:
 }
 
 /// The percentage of the deadline.
-fn alpha_of(settings: &[String]) -> u32
-    ensures alpha { result ≡ alpha_of (map string_bytes settings.now) }
-    ensures in_range { (least_alpha ≤ result) × (result ≤ most_alpha) }
+fn alpha_of(settings: &[String]) -> Percent
+    ensures { result.value ≡ alpha_of (map string_bytes settings.now) }
 {
-    number_of(settings, OptionName::Alpha, ALPHA, DEFAULT_ALPHA)
+    let value = number_of(settings, OptionName::Alpha, ALPHA, DEFAULT_ALPHA);
+    Percent { value }
 }
 
 /// The hours of the window.
-fn horizon_of(settings: &[String]) -> u32
-    ensures horizon { result ≡ horizon_of (map string_bytes settings.now) }
-    ensures in_range { (least_horizon ≤ result) × (result ≤ most_horizon) }
+fn horizon_of(settings: &[String]) -> Hours
+    ensures { result.value ≡ horizon_of (map string_bytes settings.now) }
 {
-    number_of(settings, OptionName::Horizon, HORIZON, DEFAULT_HORIZON)
+    let value = number_of(settings, OptionName::Horizon, HORIZON, DEFAULT_HORIZON);
+    Hours { value }
 }
 
 /// The size of a feed that is made.
-fn size_of(settings: &[String]) -> u32
-    ensures size { result ≡ size_of (map string_bytes settings.now) }
-    ensures in_range { (least_size ≤ result) × (result ≤ most_size) }
+fn size_of(settings: &[String]) -> FeedSize
+    ensures { result.value ≡ size_of (map string_bytes settings.now) }
 {
-    number_of(settings, OptionName::Size, SIZE, SIZE.least)
+    let value = number_of(settings, OptionName::Size, SIZE, SIZE.least);
+    FeedSize { value }
 }
 
 /// Where the connections come from.
-fn timetable_of(settings: &[String]) -> Timetable<'_>
-    ensures shown { timetable_shown result ≡ timetable_of (map string_bytes settings.now) }
-    ensures horizon { HasHorizon (timetable_shown result) }
+fn source_of(settings: &[String]) -> Source<'_>
+    ensures { source_shown result ≡ source_of (map string_bytes settings.now) }
 {
     match value_of(settings, OptionName::Feed) {
-        None => Timetable::Cut(text_of(settings, OptionName::Cut)),
-        Some(folder) => Timetable::Feed(folder, horizon_of(settings)),
+        None => Source::Cut(text_of(settings, OptionName::Cut)),
+        Some(folder) => Source::Feed(folder, horizon_of(settings)),
     }
 }
 
 /// The journey of a command.
 fn journey_of(settings: &[String]) -> Journey<'_>
-    ensures shown { journey_shown result ≡ journey_of (map string_bytes settings.now) }
-    ensures in_range { IsJourney (journey_shown result) }
+    ensures { journey_shown result ≡ journey_of (map string_bytes settings.now) }
 {
     Journey {
-        timetable: timetable_of(settings),
+        timetable: source_of(settings),
         delays: text_of(settings, OptionName::Delays),
         from: value_of(settings, OptionName::From),
         to: text_of(settings, OptionName::To),
@@ -206,7 +205,7 @@ fn promise_of(settings: &[String]) -> Moment
         × (result.0 ≤ start_of (map string_bytes settings.now) + longest_promise) }
 {
     match read_promise(settings) {
-        None => start_of(settings),
+        None => start_of(settings).moment,
         Some(promise) => promise,
     }
 }
@@ -217,7 +216,7 @@ fn later_of(settings: &[String], option: OptionName) -> Moment
     ensures in_range { (start_of (map string_bytes settings.now) ≤ result.0) × (result.0 ≤ last_until) }
 {
     match read_later(settings, option) {
-        None => start_of(settings),
+        None => start_of(settings).moment,
         Some(moment) => moment,
     }
 }
@@ -237,7 +236,7 @@ fn check_of(settings: &[String]) -> Ask<'_>
 /// What a command with these settings asks about a journey, if it is about one.
 fn ask_of(command: Command, settings: &[String]) -> Option<Ask<'_>>
     ensures asked { option_map ask_shown result ≡ ask_of command (map string_bytes settings.now) }
-    ensures in_range { IfSome result (λ ask. IsAsk (start_of (map string_bytes settings.now)) (ask_shown ask)) }
+    ensures in_time { IfSome result (λ ask. IsInTime (start_of (map string_bytes settings.now)) (ask_shown ask)) }
 {
     match command {
         Command::Safe => Some(Ask::Safe {
@@ -278,7 +277,7 @@ fn ask_of(command: Command, settings: &[String]) -> Option<Ask<'_>>
 /// What a command with these settings asks for.
 fn job_of(command: Command, settings: &[String]) -> Job<'_>
     ensures wanted { wanted_job result ≡ wanted_of command (map string_bytes settings.now) }
-    ensures in_range { IsJob (wanted_job result) }
+    ensures in_time { IsJobInTime (wanted_job result) }
 {
     match ask_of(command, settings) {
         None => Job::Sample(size_of(settings)),
@@ -290,7 +289,7 @@ fn job_of(command: Command, settings: &[String]) -> Job<'_>
 /// with the least number.
 pub fn read_job(words: &[String]) -> Result<Job<'_>, WordsFault>
     ensures job { answer_shown result ≡ job_of (map string_bytes words.now) }
-    ensures in_range { IfOk result (λ job. IsJob (wanted_job job)) }
+    ensures in_time { IfOk result (λ job. IsJobInTime (wanted_job job)) }
 {
     let [name, settings @ ..] = words else {
         return Err(WordsFault::Line);

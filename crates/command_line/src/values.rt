@@ -1,10 +1,10 @@
 //! The forms of the values.
 ghost use Rattle.std.specs.Prelude.{◌≡◌, ◌≤◌, ◌+◌, option_map, map, string_bytes, is_some, IfSome, IfOk};
-ghost use Rattle.command_line.specs.Values.{last_until, longest_promise, moment_of, start_of, promise_at, later_at, number_at, late_at, pieces, is_delay, delay_in, are_delays, has_form};
-ghost use Rattle.plan_model.specs.Bounds.{first_start, last_start};
+ghost use Rattle.command_line.specs.Values.{last_until, longest_promise, most_delays, moment_of, start_of, promise_at, later_at, number_at, late_at, pieces, is_delay, delay_in, are_delays, has_form};
 ghost use Rattle.command_line.specs.Jobs.{late_in};
 
 use crate::options::OptionName;
+use crate::ranges::Start;
 use crate::settings::text_of;
 use clock_text::{read_moment, read_whole};
 use plan_model::{Moment, SECONDS_PER_DAY};
@@ -50,6 +50,14 @@ const LONGEST_DELAY: u32 = SECONDS_PER_DAY;
 /// How many delays are taken at most.
 const MOST_DELAYS: usize = 4_096;
 
+/// A law, with no code: the last moment of a deadline, the seconds of a week, within which a promise is, and how many delays
+/// are taken at most.
+pub fn numbers_of_words()
+    ensures until { last_until ≡ 13601087999 }
+    ensures promise { longest_promise ≡ 604800 }
+    ensures delays { most_delays ≡ 4096 }
+{}
+
 /// The moment of a text, if it is of this range.
 fn read_moment_of(text: &[u8], first: u64, last: u64) -> Option<Moment>
     ensures moment { option_map (λ moment. moment.0) result ≡ moment_of first last text.now }
@@ -67,14 +75,15 @@ fn read_moment_of(text: &[u8], first: u64, last: u64) -> Option<Moment>
 }
 
 /// The moment that the journey begins at.
-pub(crate) fn start_of(settings: &[String]) -> Moment
-    ensures start { result.0 ≡ start_of (map string_bytes settings.now) }
-    ensures in_range { (first_start ≤ result.0) × (result.0 ≤ last_start) }
+pub(crate) fn start_of(settings: &[String]) -> Start
+    ensures { result.moment.0 ≡ start_of (map string_bytes settings.now) }
 {
     let text = text_of(settings, OptionName::At);
     match read_moment_of(text.as_bytes(), FIRST_START, LAST_START) {
-        None => Moment(FIRST_START),
-        Some(start) => start,
+        None => Start {
+            moment: Moment(FIRST_START),
+        },
+        Some(moment) => Start { moment },
     }
 }
 
@@ -84,7 +93,7 @@ pub(crate) fn read_promise(settings: &[String]) -> Option<Moment>
     ensures in_range { IfSome result (λ moment. (start_of (map string_bytes settings.now) ≤ moment.0)
         × (moment.0 ≤ start_of (map string_bytes settings.now) + longest_promise)) }
 {
-    let start = start_of(settings);
+    let start = start_of(settings).moment;
     let text = text_of(settings, OptionName::By);
     read_moment_of(text.as_bytes(), start.0, start.0 + LONGEST_PROMISE)
 }
@@ -95,7 +104,7 @@ pub(crate) fn read_later(settings: &[String], option: OptionName) -> Option<Mome
     ensures in_range { IfSome result (λ moment. (start_of (map string_bytes settings.now) ≤ moment.0)
         × (moment.0 ≤ last_until)) }
 {
-    let start = start_of(settings);
+    let start = start_of(settings).moment;
     let text = text_of(settings, option);
     read_moment_of(text.as_bytes(), start.0, LAST_UNTIL)
 }

@@ -8,10 +8,8 @@
 mod faults;
 mod lines;
 mod problem;
-mod ranges;
 mod texts;
 
 pub use faults::{Fault, Input, LimitKind, Site, Which};
 pub use lines::{fault_line, known_line};
 pub use problem::{Ends, Problem};
-pub use ranges::{Percent, Start};

@@ -8,8 +8,8 @@ pub use Rattle.std.proofs.lemmas.Result.{IfErr-weaker, IfOk-weaker}
 pub use mathlib.Core.Path.{fun_ext}
 pub use Rattle.change_times.specs.Changes.{AreCollectedChanges, ChangeParts, links_of, place_seconds}
 pub use Rattle.change_times.specs.Transfers.{place_of_stop}
-pub use Rattle.command_line.specs.Jobs.{CutFile, FeedFolder, JourneyModel, TimetableModel, source_or_target}
-pub use Rattle.command_line.specs.Shown.{journey_shown, timetable_shown}
+pub use Rattle.command_line.specs.Jobs.{CutFile, FeedFolder, JourneyModel, SourceModel, source_or_target}
+pub use Rattle.command_line.specs.Shown.{journey_shown, source_shown}
 pub use Rattle.connections.specs.Cut.{IsNetworkFrom, connection_count, entry_count}
 pub use Rattle.csv_rows.proofs.FaultLemmas.{if_raised}
 pub use Rattle.csv_rows.specs.FeedTables.{path_of, rank_of, unread_table}

@@ -1,6 +1,6 @@
 -- Files of which a problem is made have no fault.
 use Rattle.journey_problem.proofs.Common.{arith, unwrap_or, ◌≡◌, ℕ, refl, inl, inr, List, Option, Some, None, Result, Ok, Err, ◌≢◌, IsOkAnd, FileMap, file_at, Limits, FeedFault, unread_table, FeedParts, Tables}
-use Rattle.journey_problem.proofs.Common.{tables_in, IsFeedOf, place_of_stop, TimetableModel, CutFile, FeedFolder, JourneyModel, source_or_target, Input, Fault, Read, NoMemory, unread_input, cut_problem_fault}
+use Rattle.journey_problem.proofs.Common.{tables_in, IsFeedOf, place_of_stop, SourceModel, CutFile, FeedFolder, JourneyModel, source_or_target, Input, Fault, Read, NoMemory, unread_input, cut_problem_fault}
 use Rattle.journey_problem.proofs.Common.{delay_fault, feed_as, GtfsFolder, IsFolder, IsFolderFault, IsLaterTableFault, IsFaultAfterFolder, IsWindowFault, IsFeedProblem, IsFeedProblemFault}
 use Rattle.journey_problem.proofs.Common.{feed_stop_fault, window_fault_of, IsProblem, IsProblemOver, IsProblemFault, IsProblemFaultOver}
 use Rattle.csv_rows.specs.declared.feed_tables.FeedFault.TheVariants as feed
@@ -62,7 +62,7 @@ no_feed_fault : (limits : Limits) (files : FileMap) (folder : List ℕ) (horizon
 no_feed_fault limits files folder horizon j p fault a n (inl (g, is, why)) = grind (arith, no_folder_fault, table_read)
 no_feed_fault limits files folder horizon j p fault a n (inr (h, is, why)) = grind (arith, one_folder, one_window_fault, no_after)
 
-no_fault_over : (limits : Limits) (files : FileMap) (timetable : TimetableModel) (j : JourneyModel) (p : _) (fault : Fault) → IsProblemOver limits files timetable j p → NotRead fault
+no_fault_over : (limits : Limits) (files : FileMap) (timetable : SourceModel) (j : JourneyModel) (p : _) (fault : Fault) → IsProblemOver limits files timetable j p → NotRead fault
     → IsProblemFaultOver limits files timetable j fault → ⊥
 no_fault_over limits files (CutFile path) j p fault a n why = no_cut_fault limits files path j fault a.no_fault n why
 no_fault_over limits files (FeedFolder folder horizon) j p fault a n why = no_feed_fault limits files folder horizon j p fault a n why

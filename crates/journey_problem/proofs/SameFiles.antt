@@ -1,7 +1,7 @@
 -- Files that agree at the paths of a journey, or have the same records there, have the same problems and the same faults.
 use Rattle.journey_problem.proofs.Common.{◌≡◌, ℕ, ◌≤◌, refl, ap, sym, subst, ◌∙◌, List, length, Bool, true, false, if◌then◌else◌, Option, None, Some, Result, Err, IfSome, IsOk, IsOkAnd, option_map, inl, inr, fun_ext}
 use Rattle.journey_problem.proofs.Common.{FileMap, file_at, Limits, path_of, unread_table, FeedFault, FeedParts, tables_in, tables_from, IsFeedOf, calendars_in, RunsBy, runs, AreCollectedChanges, table_of}
-use Rattle.journey_problem.proofs.Common.{TimetableModel, CutFile, FeedFolder, JourneyModel, Problem, Fault, Read, Delays, Input, unread_input, is_unread_input, DelayLists, AreDelaysOf, delay_fault}
+use Rattle.journey_problem.proofs.Common.{SourceModel, CutFile, FeedFolder, JourneyModel, Problem, Fault, Read, Delays, Input, unread_input, is_unread_input, DelayLists, AreDelaysOf, delay_fault}
 use Rattle.journey_problem.proofs.Common.{first_cut_fault, first_delay_fault, fault_in, cut_as, stop_fault, cut_records, delay_records, cut_problem_fault, Records, bytes_present, path_by, arith}
 use Rattle.journey_problem.proofs.Common.{GtfsFolder, IsFolder, IsFeedProblem, IsCutProblem, IsFolderFault, IsLaterTableFault, IsFaultAfterFolder, IsFeedProblemFault, IsProblem, IsProblemOver, IsProblemFault, IsProblemFaultOver}
 use Rattle.std.proofs.Common.{ap₂, nat_lt}
@@ -173,21 +173,21 @@ module _ (limits : Limits) (files other : FileMap) where
     }
 
   -- whatever the timetable
-  abbrev LoadAlike : TimetableModel → JourneyModel → Type 0
+  abbrev LoadAlike : SourceModel → JourneyModel → Type 0
   LoadAlike (CutFile path) j = LoadsCut path × LoadsDelays j
   LoadAlike (FeedFolder folder horizon) j = LoadsTables folder × LoadsDelays j
 
-  over : (timetable : TimetableModel) (j : JourneyModel) (p : Problem) → LoadAlike timetable j → IsProblemOver limits files timetable j p → IsProblemOver limits other timetable j p
+  over : (timetable : SourceModel) (j : JourneyModel) (p : Problem) → LoadAlike timetable j → IsProblemOver limits files timetable j p → IsProblemOver limits other timetable j p
   over (CutFile path) j p same a = same_cut_problem path j same.0 same.1 p a
   over (FeedFolder folder horizon) j p same a = same_feed_problem folder same.0 horizon j same.1 p a
 
-  fault_over : (timetable : TimetableModel) (j : JourneyModel) (fault : Fault) → LoadAlike timetable j → IsProblemFaultOver limits files timetable j fault
+  fault_over : (timetable : SourceModel) (j : JourneyModel) (fault : Fault) → LoadAlike timetable j → IsProblemFaultOver limits files timetable j fault
       → IsProblemFaultOver limits other timetable j fault
   fault_over (CutFile path) j fault same is = sym (same_cut_fault path j same.0 same.1 (unread_input fault)) ∙ is
   fault_over (FeedFolder folder horizon) j fault same is = same_feed_fault folder same.0 horizon j same.1 fault is
 
   -- by the bytes
-  by_bytes : (timetable : TimetableModel) (j : JourneyModel) → AgreeAt (path_by timetable j no_path) files other → LoadAlike timetable j
+  by_bytes : (timetable : SourceModel) (j : JourneyModel) → AgreeAt (path_by timetable j no_path) files other → LoadAlike timetable j
   by_bytes (CutFile path) j same =
       (λ unread. ap (λ (f : Option (List ℕ)). cut_records limits unread f) (same input.Cut), λ unread. ap (λ (f : Option (List ℕ)). delay_records limits unread f) (same input.Delays))
   by_bytes (FeedFolder folder horizon) j same = (
@@ -202,7 +202,7 @@ module _ (limits : Limits) (files other : FileMap) where
   own_fault j fault same is = λ some. fault_over j.timetable j fault (by_bytes j.timetable j same) (is some)
 
   -- by the records
-  by_records : (timetable : TimetableModel) (j : JourneyModel) → ReadAlikeAt limits.bytes (path_by timetable j no_path) files other → LoadAlike timetable j
+  by_records : (timetable : SourceModel) (j : JourneyModel) → ReadAlikeAt limits.bytes (path_by timetable j no_path) files other → LoadAlike timetable j
   by_records (CutFile path) j same = (
     λ unread. records_alike limits input.Cut _ unread (file_at files path) (file_at other path) (same input.Cut),
     λ unread. records_alike limits input.Delays _ unread (file_at files j.delays) (file_at other j.delays) (same input.Delays),

@@ -6,7 +6,7 @@ use Rattle.file_ports.specs.Ports.{FileMap, FilesState, file_at}
 use Rattle.csv_rows.specs.FeedTables.{path_of as table_path}
 use Rattle.csv_rows.specs.Tables.{table_of}
 use Rattle.csv_rows.specs.declared.feed_tables.Table.{Table}
-use Rattle.command_line.specs.Jobs.{TimetableModel, CutFile, FeedFolder, JourneyModel}
+use Rattle.command_line.specs.Jobs.{SourceModel, CutFile, FeedFolder, JourneyModel}
 use Rattle.journey_model.specs.declared.faults.Input.{Input}
 use Rattle.journey_model.specs.declared.faults.Input.TheVariants as input
 use Rattle.journey_model.specs.declared.faults.LimitKind.TheVariants.{Bytes}
@@ -18,11 +18,11 @@ use Rattle.journey_model.specs.Faults.{unread_input, is_unread_input}
 abbrev pub Records : Type 0
 Records = List (List (List ℕ))
 
-abbrev pub cut_path : TimetableModel → Option (List ℕ)
+abbrev pub cut_path : SourceModel → Option (List ℕ)
 cut_path (CutFile path) = Some path
 cut_path (FeedFolder folder horizon) = None
 
-abbrev pub feed_path : TimetableModel → Table → Option (List ℕ)
+abbrev pub feed_path : SourceModel → Table → Option (List ℕ)
 feed_path (CutFile path) table = None
 feed_path (FeedFolder folder horizon) table = Some (table_path folder table)
 
@@ -31,7 +31,7 @@ abbrev pub OwnPaths : Type 0
 OwnPaths = Input → Option (List ℕ)
 
 -- the path of an input: of a journey's files over a timetable, or of another file that is read beside them, by its own
-abbrev pub path_by : TimetableModel → JourneyModel → OwnPaths → Input → Option (List ℕ)
+abbrev pub path_by : SourceModel → JourneyModel → OwnPaths → Input → Option (List ℕ)
 path_by timetable j own (input.Feed table) = feed_path timetable table
 path_by timetable j own input.Cut = cut_path timetable
 path_by timetable j own input.Delays = Some j.delays

@@ -2,7 +2,7 @@
 use Rattle.std.specs.Prelude.{◌≡◌, ◌≢◌, Option, Some, IfSome}
 use Rattle.file_ports.specs.Ports.{FileMap}
 use Rattle.csv_rows.specs.declared.limits.Limits.{Limits}
-use Rattle.command_line.specs.Jobs.{TimetableModel, CutFile, FeedFolder, JourneyModel}
+use Rattle.command_line.specs.Jobs.{SourceModel, CutFile, FeedFolder, JourneyModel}
 use Rattle.journey_model.specs.declared.faults.Fault.{Fault}
 use Rattle.journey_model.specs.declared.faults.Fault.TheVariants.{NoMemory}
 use Rattle.journey_model.specs.declared.problem.Problem.{Problem}
@@ -12,7 +12,7 @@ use Rattle.journey_problem.specs.CutProblems.{cut_problem_fault, IsCutProblem, H
 use Rattle.journey_problem.specs.FeedProblems.{IsFeedProblem, IsFeedProblemFault, HasFeedTimetable}
 
 -- this is the problem of the journey, and its files have no fault
-abbrev pub IsProblemOver : Limits → FileMap → TimetableModel → JourneyModel → Problem → Type 0
+abbrev pub IsProblemOver : Limits → FileMap → SourceModel → JourneyModel → Problem → Type 0
 IsProblemOver limits files (CutFile path) j p = IsCutProblem limits files path j p
 IsProblemOver limits files (FeedFolder folder horizon) j p = IsFeedProblem limits files folder horizon j p
 
@@ -20,7 +20,7 @@ abbrev pub IsProblem : Limits → FileMap → JourneyModel → Problem → Type 
 IsProblem limits files j p = IsProblemOver limits files j.timetable j p
 
 -- this is the first fault of the journey's files, if no file but that of the fault is unread
-abbrev pub IsProblemFaultOver : Limits → FileMap → TimetableModel → JourneyModel → Fault → Type 0
+abbrev pub IsProblemFaultOver : Limits → FileMap → SourceModel → JourneyModel → Fault → Type 0
 IsProblemFaultOver limits files (CutFile path) j fault = cut_problem_fault limits files path j (unread_input fault) ≡ Some fault
 IsProblemFaultOver limits files (FeedFolder folder horizon) j fault = IsFeedProblemFault limits files folder horizon j fault
 
@@ -37,7 +37,7 @@ abbrev pub FailsBeforeSearch : Option FileMap → Limits → JourneyModel → Fa
 FailsBeforeSearch contents limits j fault = IsBeforeSearch j.timetable fault × IfSome contents (λ files. IsProblemFault limits files j fault)
 
 -- the problem is that of the journey over some timetable with some delays
-abbrev pub HasTimetable : TimetableModel → JourneyModel → Problem → Type 0
+abbrev pub HasTimetable : SourceModel → JourneyModel → Problem → Type 0
 HasTimetable (CutFile path) j p = HasCutTimetable j p
 HasTimetable (FeedFolder folder horizon) j p = HasFeedTimetable horizon j p
 

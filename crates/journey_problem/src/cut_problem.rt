@@ -4,7 +4,7 @@ ghost use Rattle.cut_file.specs.CutNetwork.{IsCutNetwork};
 ghost use Rattle.cut_file.specs.Read.{IsCutRead};
 ghost use Rattle.file_ports.specs.Ports.{file_at};
 ghost use Rattle.command_line.specs.Shown.{journey_shown};
-ghost use Rattle.command_line.specs.Jobs.{TimetableModel, CutFile, source_or_target};
+ghost use Rattle.command_line.specs.Jobs.{SourceModel, CutFile, source_or_target};
 ghost use Rattle.journey_model.specs.Faults.{IsFirst, MayBeUnread, unread_input};
 ghost use Rattle.journey_problem.specs.Files.{Records, OwnPaths, path_by, HasCauses};
 ghost use Rattle.journey_problem.specs.FaultsBeforeSearch.{IsBeforeSearch};
@@ -31,7 +31,7 @@ fn ends_of(names: &Names, journey: &Journey) -> Result<Ends, Fault>
         (journey_shown journey.now).from journey.now.to.now ≡ None) }
     ensures fault { IfErr result (λ fault. stop_fault names.now.places
         (journey_shown journey.now).from journey.now.to.now ≡ Some fault) }
-    ensures early { (timetable : TimetableModel) → IfErr result (IsBeforeSearch timetable) }
+    ensures early { (timetable : SourceModel) → IfErr result (IsBeforeSearch timetable) }
     ensures read { IfErr result (λ fault. unread_input fault ≡ None) }
 {
     let Some(source) = names.place(journey.source_or_target()) else {
@@ -61,7 +61,7 @@ fn problem_in(
         (stop_fault cut.now.places (journey_shown journey.now).from journey.now.to.now ≡ None) }
     ensures fault { IfErr result (λ fault. fault ≢ Fault.NoMemory
         → stop_fault cut.now.places (journey_shown journey.now).from journey.now.to.now ≡ Some fault) }
-    ensures early { (timetable : TimetableModel) → IfErr result (IsBeforeSearch timetable) }
+    ensures early { (timetable : SourceModel) → IfErr result (IsBeforeSearch timetable) }
     ensures read { IfErr result (λ fault. unread_input fault ≡ None) }
 {
     let (network, names) = cut.network(alloc, delays)?;
@@ -85,7 +85,7 @@ fn problem_after<F: Files>(
     ensures fault { IfSome (F.state files.old).files (λ m. IfErr result (λ fault. (path : Bytes ℕ)
         → HasCut limits.now (file_at m path) cut.now
         → IsFirst (cut_problem_fault limits.now m path (journey_shown journey.now)) fault)) }
-    ensures early { (timetable : TimetableModel) → IfErr result (IsBeforeSearch timetable) }
+    ensures early { (timetable : SourceModel) → IfErr result (IsBeforeSearch timetable) }
     ensures own { IfErr result (MayBeUnread Input.Delays) }
     ensures timetable { IfOk result (HasCutTimetable (journey_shown journey.now)) }
     ensures causes { HasCauses (λ other. Some journey.now.delays.now)

@@ -7,9 +7,7 @@ ghost use Rattle.connections.specs.Cut.{IsNetworkFrom};
 ghost use Rattle.service_days.specs.Services.{runs};
 ghost use Rattle.service_days.specs.Calendars.{RunsBySome};
 ghost use Rattle.command_line.specs.Shown.{journey_shown};
-ghost use Rattle.command_line.specs.Jobs.{TimetableModel, FeedFolder, source_or_target};
-ghost use Rattle.command_line.specs.Ranges.{IsJourney};
-ghost use Rattle.command_line.specs.Values.{most_horizon};
+ghost use Rattle.command_line.specs.Jobs.{SourceModel, FeedFolder, source_or_target};
 ghost use Rattle.journey_model.specs.Faults.{MayBeUnread, unread_input};
 ghost use Rattle.journey_problem.specs.Files.{OwnPaths, path_by, HasCauses};
 ghost use Rattle.journey_problem.specs.FaultsBeforeSearch.{IsBeforeSearch};
@@ -20,7 +18,7 @@ use crate::feed_tables::{FeedRules, FeedTables};
 use crate::inputs::read_delay_file;
 use crate::stops::first_which;
 use change_times::Changes;
-use command_line::Journey;
+use command_line::{Hours, Journey};
 use connections::{WindowFault, cut};
 use csv_rows::{FeedFault, Limits};
 use delay_table::DelayTable;
@@ -111,7 +109,7 @@ fn ends_of(feed: &Feed, journey: &Journey) -> Result<Ends, Fault>
         (journey_shown journey.now).from journey.now.to.now ≡ None) }
     ensures fault { IfErr result (λ fault. feed_stop_fault feed.now
         (journey_shown journey.now).from journey.now.to.now ≡ Some fault) }
-    ensures early { (timetable : TimetableModel) → IfErr result (IsBeforeSearch timetable) }
+    ensures early { (timetable : SourceModel) → IfErr result (IsBeforeSearch timetable) }
 {
     let Some(source) = feed.place_of(journey.source_or_target()) else {
         return Err(Fault::UnknownStop(first_which(journey)));
@@ -127,23 +125,22 @@ fn window_problem(
     alloc: Global,
     tables: &FeedTables,
     delays: &DelayTable,
-    horizon: u32,
+    horizon: Hours,
     journey: &Journey,
     limits: &Limits,
 ) -> Result<Problem, Fault>
-    requires journey { IsJourney (journey_shown journey.now) }
-    requires horizon { horizon ≤ most_horizon }
     ensures network { IfOk result (λ p. IsNetworkFrom tables.now.feed tables.now.rules.services
-        tables.now.rules.changes delays.now journey.now.start.0 horizon p.timetable.network p.timetable.names) }
-    ensures no_window_fault { OnOk result (window_fault_of limits.now horizon
+        tables.now.rules.changes delays.now journey.now.start.moment.0 horizon.value
+        p.timetable.network p.timetable.names) }
+    ensures no_window_fault { OnOk result (window_fault_of limits.now horizon.value
         (journey_shown journey.now) (gtfs_folder_of tables.now) ≡ None) }
     ensures source { IfOk result (λ p.
         place_of_stop tables.now.feed (source_or_target (journey_shown journey.now)) ≡ Some p.source.0) }
     ensures target { IfOk result (λ p.
         place_of_stop tables.now.feed journey.now.to.now ≡ Some p.target.0) }
     ensures fault { IfErr result (λ fault. fault ≢ Fault.NoMemory → IsWindowFault limits.now
-        horizon (journey_shown journey.now) (gtfs_folder_of tables.now) fault) }
-    ensures early { (folder : Bytes ℕ) → IfErr result (IsBeforeSearch (FeedFolder folder horizon)) }
+        horizon.value (journey_shown journey.now) (gtfs_folder_of tables.now) fault) }
+    ensures early { (folder : Bytes ℕ) → IfErr result (IsBeforeSearch (FeedFolder folder horizon.value)) }
     ensures read { IfErr result (λ fault. unread_input fault ≡ None) }
 {
     let ends = ends_of(&tables.feed, journey)?;
@@ -153,8 +150,8 @@ fn window_problem(
         &tables.rules.services,
         &tables.rules.changes,
         delays,
-        journey.start,
-        horizon,
+        journey.start.moment,
+        horizon.value,
         limits,
     ) {
         Err(WindowFault::TooMany(count)) => Err(Fault::Limit(LimitKind::Connections, count)),
@@ -169,22 +166,20 @@ fn problem_in<F: Files>(
     alloc: Global,
     files: &mut F,
     tables: &FeedTables,
-    horizon: u32,
+    horizon: Hours,
     journey: &Journey,
     limits: &Limits,
 ) -> Result<Problem, Fault>
-    requires journey { IsJourney (journey_shown journey.now) }
-    requires horizon { horizon ≤ most_horizon }
     requires sound { IsSoundFolder (gtfs_folder_of tables.now) }
     ensures problem { IfSome (F.state files.old).files (λ m. IfOk result (λ p. (folder : Bytes ℕ)
         → IsFolder limits.now m folder (gtfs_folder_of tables.now)
-        → IsFeedProblem limits.now m folder horizon (journey_shown journey.now) p)) }
+        → IsFeedProblem limits.now m folder horizon.value (journey_shown journey.now) p)) }
     ensures fault { IfSome (F.state files.old).files (λ m. IfErr result (λ fault. fault ≢ Fault.NoMemory
-        → IsFaultAfterFolder limits.now m horizon (journey_shown journey.now)
+        → IsFaultAfterFolder limits.now m horizon.value (journey_shown journey.now)
         (gtfs_folder_of tables.now) fault)) }
-    ensures early { (folder : Bytes ℕ) → IfErr result (IsBeforeSearch (FeedFolder folder horizon)) }
+    ensures early { (folder : Bytes ℕ) → IfErr result (IsBeforeSearch (FeedFolder folder horizon.value)) }
     ensures own { IfErr result (MayBeUnread Input.Delays) }
-    ensures timetable { IfOk result (HasFeedTimetable horizon (journey_shown journey.now)) }
+    ensures timetable { IfOk result (HasFeedTimetable horizon.value (journey_shown journey.now)) }
     ensures causes { HasCauses (λ other. Some journey.now.delays.now)
         (F.state files.old) (F.state files.new) result }
 {
@@ -200,20 +195,18 @@ pub(crate) fn feed_problem<F: Files>(
     alloc: Global,
     files: &mut F,
     folder: &str,
-    horizon: u32,
+    horizon: Hours,
     journey: &Journey,
     limits: &Limits,
 ) -> Result<Problem, Fault>
-    requires journey { IsJourney (journey_shown journey.now) }
-    requires horizon { horizon ≤ most_horizon }
     ensures problem { IfSome (F.state files.old).files (λ m. IfOk result
-        (IsFeedProblem limits.now m folder.now horizon (journey_shown journey.now))) }
+        (IsFeedProblem limits.now m folder.now horizon.value (journey_shown journey.now))) }
     ensures fault { IfSome (F.state files.old).files (λ m. IfErr result (λ fault. fault ≢ Fault.NoMemory
-        → IsFeedProblemFault limits.now m folder.now horizon (journey_shown journey.now) fault)) }
-    ensures early { IfErr result (IsBeforeSearch (FeedFolder folder.now horizon)) }
-    ensures timetable { IfOk result (HasFeedTimetable horizon (journey_shown journey.now)) }
+        → IsFeedProblemFault limits.now m folder.now horizon.value (journey_shown journey.now) fault)) }
+    ensures early { IfErr result (IsBeforeSearch (FeedFolder folder.now horizon.value)) }
+    ensures timetable { IfOk result (HasFeedTimetable horizon.value (journey_shown journey.now)) }
     ensures causes { (own : OwnPaths) → HasCauses
-        (path_by (FeedFolder folder.now horizon) (journey_shown journey.now) own)
+        (path_by (FeedFolder folder.now horizon.value) (journey_shown journey.now) own)
         (F.state files.old) (F.state files.new) result }
 {
     match read_folder(alloc, files, folder, limits) {

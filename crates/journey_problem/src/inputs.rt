@@ -5,7 +5,7 @@ ghost use Rattle.delay_table.specs.Slots.{AreDelays};
 ghost use Rattle.file_ports.specs.Ports.{file_at};
 ghost use Rattle.journey_model.specs.Faults.{MayBeUnread, unread_input};
 ghost use Rattle.journey_problem.specs.Files.{bytes_of, records_of, Finds, HasCauses};
-ghost use Rattle.command_line.specs.Jobs.{TimetableModel, CutFile};
+ghost use Rattle.command_line.specs.Jobs.{SourceModel, CutFile};
 ghost use Rattle.journey_problem.specs.FaultsBeforeSearch.{IsBeforeSearch, IsInputOf};
 ghost use Rattle.journey_model.specs.Stages.{IsOfInput};
 ghost use Rattle.journey_problem.specs.InputTables.{cut_as, CutAgrees, DelayAgrees, IsCutOfSome};
@@ -29,7 +29,7 @@ pub(crate) fn load_bytes<F: Files>(
     ensures bytes { IfSome (F.state files.old).files (λ m. Finds (λ bytes. bytes.items)
         (λ unread. bytes_of limits.now.bytes input unread (file_at m path.now)) result) }
     ensures own { IfErr result (MayBeUnread input) }
-    ensures early { (timetable : TimetableModel) → IsInputOf timetable input
+    ensures early { (timetable : SourceModel) → IsInputOf timetable input
         → IfErr result (IsBeforeSearch timetable) }
     ensures stage { IfErr result (λ fault. fault ≢ Fault.NoMemory → IsOfInput input fault) }
     ensures causes { HasCauses (λ other. Some path.now) (F.state files.old) (F.state files.new) result }
@@ -53,13 +53,13 @@ fn load_rows<F: Files>(
     limits: &Limits,
 ) -> Result<Rows, Fault>
     requires headless { unread_input headless ≡ None }
-    requires early { (timetable : TimetableModel) → IsInputOf timetable input
+    requires early { (timetable : SourceModel) → IsInputOf timetable input
         → IsBeforeSearch timetable headless }
     ensures text { IfOk result (λ rows. (text : Bytes ℕ) × (rows ≡ table_of text)) }
     ensures table { IfSome (F.state files.old).files (λ m. Finds (λ rows. rows)
         (λ unread. records_of limits.now.bytes input headless unread (file_at m path.now)) result) }
     ensures own { IfErr result (MayBeUnread input) }
-    ensures early { (timetable : TimetableModel) → IsInputOf timetable input
+    ensures early { (timetable : SourceModel) → IsInputOf timetable input
         → IfErr result (IsBeforeSearch timetable) }
     ensures causes { HasCauses (λ other. Some path.now) (F.state files.old) (F.state files.new) result }
 {
@@ -111,7 +111,7 @@ pub(crate) fn read_cut_file<F: Files>(
 fn fault_of_delays(fault: DelayFault) -> Fault
     ensures fault { fault ≢ DelayFault.NoMemory → result ≡ Fault.Delays fault }
     ensures memory { fault ≡ DelayFault.NoMemory → result ≡ Fault.NoMemory }
-    ensures early { (timetable : TimetableModel) → IsBeforeSearch timetable result }
+    ensures early { (timetable : SourceModel) → IsBeforeSearch timetable result }
     ensures read { unread_input result ≡ None }
 {
     match fault {
@@ -132,7 +132,7 @@ pub(crate) fn read_delay_file<F: Files>(
         DelayAgrees limits.now (file_at m path.now) result) }
     ensures sound { IfOk result AreDelays }
     ensures own { IfErr result (MayBeUnread Input.Delays) }
-    ensures early { (timetable : TimetableModel) → IfErr result (IsBeforeSearch timetable) }
+    ensures early { (timetable : SourceModel) → IfErr result (IsBeforeSearch timetable) }
     ensures causes { HasCauses (λ other. Some path.now) (F.state files.old) (F.state files.new) result }
 {
     let headless = Fault::Delays(DelayFault::MissingColumn(Column::Class));

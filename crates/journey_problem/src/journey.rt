@@ -1,14 +1,13 @@
 //! The problem of a journey over its files.
 ghost use Rattle.std.specs.Prelude.{IfSome, IfOk, IfErr};
 ghost use Rattle.command_line.specs.Shown.{journey_shown};
-ghost use Rattle.command_line.specs.Ranges.{IsJourney};
 ghost use Rattle.journey_problem.specs.FaultsBeforeSearch.{IsBeforeSearch};
 ghost use Rattle.journey_problem.specs.Files.{OwnPaths, path_of, HasCauses};
 ghost use Rattle.journey_problem.specs.Problems.{HasTimetable, IsProblem, IsProblemFault};
 
 use crate::cut_problem::cut_problem;
 use crate::feed_problem::feed_problem;
-use command_line::{Journey, Timetable};
+use command_line::{Journey, Source};
 use csv_rows::Limits;
 use file_ports::Files;
 use journey_model::{Fault, Problem};
@@ -24,7 +23,6 @@ pub fn problem_of<F: Files>(
     journey: &Journey,
     limits: &Limits,
 ) -> Result<Problem, Fault>
-    requires journey { IsJourney (journey_shown journey.now) }
     ensures problem { IfSome (F.state files.old).files (λ m. IfOk result
         (IsProblem limits.now m (journey_shown journey.now))) }
     ensures fault { IfSome (F.state files.old).files (λ m. IfErr result
@@ -37,8 +35,8 @@ pub fn problem_of<F: Files>(
         (F.state files.old) (F.state files.new) result }
 {
     match journey.timetable {
-        Timetable::Cut(path) => cut_problem(alloc, files, path, journey, limits),
-        Timetable::Feed(folder, horizon) => {
+        Source::Cut(path) => cut_problem(alloc, files, path, journey, limits),
+        Source::Feed(folder, horizon) => {
             feed_problem(alloc, files, folder, horizon, journey, limits)
         }
     }

@@ -1,5 +1,5 @@
 -- Answers and faults, one from another.
-use Rattle.meat_engine.proofs.Common.{arith, ◌≡◌, ℕ, List, Option, None, Result, inl, inr, refl, subst, ◌≢◌, RoseAt, FilesState, TimetableModel, JourneyModel, AskModel, Safe, Expand, Plan, Replay}
+use Rattle.meat_engine.proofs.Common.{arith, ◌≡◌, ℕ, List, Option, None, Result, inl, inr, refl, subst, ◌≢◌, RoseAt, FilesState, SourceModel, JourneyModel, AskModel, Safe, Expand, Plan, Replay}
 use Rattle.meat_engine.proofs.Common.{Certify, CheckProof, CheckGraph, Punctual, Departures, Latest, Reach, Input, Fault, Read, NoSafe, NoMemory, unread_input, NamedParts, HasSite, IsStageBeforeSearch}
 use Rattle.meat_engine.proofs.Common.{path_of, HasCauses, OrNoMemory, own_paths, IsRefusalBy}
 use Rattle.journey_model.specs.declared.faults.Input.TheVariants as input
@@ -9,7 +9,7 @@ use Rattle.meat_engine.specs.declared.refusal.Refusal.{Refusal}
 use Rattle.journey_problem.specs.Paths.{graph_path, certificate_path}
 
 -- an early fault is at no site
-pub early_has_site : (known : Option NamedParts) (timetable : TimetableModel) (fault : Fault) → IsBeforeSearch timetable fault → HasSite known fault
+pub early_has_site : (known : Option NamedParts) (timetable : SourceModel) (fault : Fault) → IsBeforeSearch timetable fault → HasSite known fault
 early_has_site known timetable fault early = has_site known fault (λ at. subst IsStageBeforeSearch at early.stage)
 
 -- nor is that there are no strategies: what holds where it fails only as no strategy is safe, or there was no memory

@@ -1,6 +1,6 @@
 //! The answers to what the words ask about a journey, over its files.
 ghost use Rattle.std.specs.Prelude.{◌≡◌, ◌≢◌, Some, IfOk, IfErr};
-ghost use Rattle.command_line.specs.Ranges.{IsJourney, IsAsk};
+ghost use Rattle.command_line.specs.Ranges.{IsInTime};
 ghost use Rattle.command_line.specs.Shown.{journey_shown, ask_shown};
 ghost use Rattle.journey_model.specs.Sites.{HasSite};
 ghost use Rattle.journey_problem.specs.Files.{path_of, HasCauses};
@@ -18,14 +18,14 @@ ghost use Rattle.journey_report.specs.Findings.{findings_of};
 ghost use Rattle.meat_engine.specs.Refusals.{IsRefusalBy, by_fault};
 
 use crate::refusal::Refusal;
-use command_line::{Ask, Journey};
+use command_line::{Ask, Journey, Start};
 use csv_rows::Limits;
 use file_ports::Files;
 use journey_answers::{
     ReadCertificate, ReadGraph, certify_over, check_over, departures_over, expand_over,
     latest_over, plan_over, punctual_over, reach_over, safe_over, score_over, trip_over,
 };
-use journey_model::{Fault, Percent, Problem, Start};
+use journey_model::{Fault, Problem};
 use journey_problem::{problem_of, read_certificate_file, read_graph_file};
 use journey_report::Answer;
 use std::alloc::Global;
@@ -127,7 +127,7 @@ fn ask_over<F: Files>(
     ask: &Ask,
     limits: &Limits,
 ) -> Result<Answer, Fault>
-    requires { IsAsk start.moment.0 (ask_shown ask.now) }
+    requires { IsInTime start.moment.0 (ask_shown ask.now) }
     ensures answer { IfOk result (λ a. AnswersAsk (F.state files.old).files limits.now start.moment.0
         problem.now (ask_shown ask.now) (findings_of a.report) a.text.items) }
     ensures fault { IfErr result (λ fault. fault ≢ Fault.NoMemory
@@ -137,20 +137,18 @@ fn ask_over<F: Files>(
         (F.state files.old) (F.state files.new) result }
 {
     match *ask {
-        Ask::Safe { alpha } => safe_over(alloc, problem, start, Percent { value: alpha }),
-        Ask::Expand { alpha } => expand_over(alloc, problem, start, Percent { value: alpha }),
-        Ask::Plan { alpha } => plan_over(alloc, problem, start, Percent { value: alpha }),
+        Ask::Safe { alpha } => safe_over(alloc, problem, start, alpha),
+        Ask::Expand { alpha } => expand_over(alloc, problem, start, alpha),
+        Ask::Plan { alpha } => plan_over(alloc, problem, start, alpha),
         Ask::Replay { graph, late } => {
             replay_over(alloc, files, problem, start, graph, late, limits)
         }
-        Ask::Certify { alpha } => certify_over(alloc, problem, start, Percent { value: alpha }),
+        Ask::Certify { alpha } => certify_over(alloc, problem, start, alpha),
         Ask::CheckProof { proof } => check_certificate_over(
             alloc, files, problem, start, proof, limits,
         ),
         Ask::CheckGraph { graph } => check_graph_over(alloc, files, problem, start, graph, limits),
-        Ask::Punctual { alpha, promise } => {
-            punctual_over(alloc, problem, start, Percent { value: alpha }, promise)
-        }
+        Ask::Punctual { alpha, promise } => punctual_over(alloc, problem, start, alpha, promise),
         Ask::Departures { until, last } => departures_over(alloc, problem, start, until, last),
         Ask::Latest { until } => latest_over(alloc, problem, start, until),
         Ask::Reach { until } => reach_over(alloc, problem, start, until),
@@ -165,11 +163,10 @@ pub(crate) fn journey_over<F: Files>(
     ask: &Ask,
     limits: &Limits,
 ) -> Result<Answer, Refusal>
-    requires journey { IsJourney (journey_shown journey.now) }
-    requires ask { IsAsk journey.now.start.0 (ask_shown ask.now) }
+    requires { IsInTime journey.now.start.moment.0 (ask_shown ask.now) }
     ensures answer { IfOk result (λ a. InProblem (F.state files.old).files limits.now
         (journey_shown journey.now) (λ p. AnswersAsk (F.state files.old).files limits.now
-        journey.now.start.0 p (ask_shown ask.now) (findings_of a.report) a.text.items)) }
+        journey.now.start.moment.0 p (ask_shown ask.now) (findings_of a.report) a.text.items)) }
     ensures fault { IfErr result (IsRefusalBy (FailsJourney (F.state files.old).files limits.now
         (journey_shown journey.now) (ask_shown ask.now))) }
     ensures causes { HasCauses
@@ -180,10 +177,7 @@ pub(crate) fn journey_over<F: Files>(
         Err(fault) => return Err(Refusal::plain(fault)),
         Ok(problem) => problem,
     };
-    let start = Start {
-        moment: journey.start,
-    };
-    match ask_over(alloc, files, &problem, start, ask, limits) {
+    match ask_over(alloc, files, &problem, journey.start, ask, limits) {
         Err(fault) => Err(Refusal {
             fault,
             problem: Some(problem),

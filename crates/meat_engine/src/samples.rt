@@ -1,7 +1,6 @@
 //! A plan over a timetable that is made.
-ghost use Rattle.std.specs.Prelude.{◌≡◌, ◌≢◌, ◌≤◌, None, IfOk, IfErr};
+ghost use Rattle.std.specs.Prelude.{◌≡◌, ◌≢◌, None, IfOk, IfErr};
 ghost use Rattle.command_line.specs.Shown.{journey_shown};
-ghost use Rattle.command_line.specs.Values.{least_size, most_size};
 ghost use Rattle.decision_graph.specs.Planned.{IsPlanned};
 ghost use Rattle.journey_model.specs.Faults.{unread_input};
 ghost use Rattle.journey_model.specs.declared.faults.Fault.{Fault};
@@ -13,13 +12,13 @@ ghost use Rattle.meat_engine.specs.Refusals.{IsRefusalBy};
 ghost use Rattle.meat_engine.specs.Samples.{sample_journey, AnswersSampled, IsSampled, OverMade, AnswersSample, FailsSample};
 
 use crate::refusal::Refusal;
-use command_line::{Journey, Timetable};
+use command_line::{FeedSize, Hours, Journey, Percent, Source, Start};
 use csv_rows::Limits;
 use decision_graph::Found;
 use feed_maker::MadeFiles;
 use interval_fixed::Span;
 use journey_answers::{Asked, asked_of, planned_of};
-use journey_model::{Fault, Percent, Problem, Start};
+use journey_model::{Fault, Problem};
 use journey_problem::problem_of;
 use journey_report::{Answer, Report, sample_text};
 use plan_graph::PlanGraph;
@@ -35,26 +34,20 @@ fn sample_journey() -> Journey<'static>
     ensures { journey_shown result ≡ sample_journey }
 {
     Journey {
-        timetable: Timetable::Feed("feed", 24),
+        timetable: Source::Feed("feed", Hours { value: 24 }),
         delays: "delays.csv",
         from: Some("H0"),
         to: "H5",
-        start: Moment(1_717_401_601),
+        start: Start {
+            moment: Moment(1_717_401_601),
+        },
     }
-}
-
-/// The size of a timetable that is made, from 10 to 400.
-#[derive(Clone, Copy)]
-pub(crate) struct SampleSize {
-    pub value: u32,
-    pub ghost low: { least_size ≤ value },
-    pub ghost high: { value ≤ most_size },
 }
 
 /// The answer of `sample` with a decision graph.
 fn sampled_answer(
     alloc: Global,
-    size: SampleSize,
+    size: FeedSize,
     asked: &Asked,
     found: Found<PlanGraph, Span>,
 ) -> Result<Answer, NoMemory>
@@ -75,18 +68,12 @@ fn sampled_answer(
 
 /// The answer of `sample` in the problem of a made timetable of this size. `NoSafe` if no strategy always reaches the
 /// target.
-fn sample_in(
-    alloc: Global,
-    size: SampleSize,
-    problem: &Problem,
-    start: Moment,
-) -> Result<Answer, Fault>
-    requires { start.0 ≡ sample_journey.start }
+fn sample_in(alloc: Global, size: FeedSize, problem: &Problem) -> Result<Answer, Fault>
     ensures sampled { IfOk result (λ a.
         IsSampled size.value problem.now (findings_of a.report) a.text.items) }
     ensures fault { IfErr result (IsNoAnswer problem.now sample_journey.start) }
 {
-    let start = Start { moment: start };
+    let start = sample_journey().start;
     let alpha = Percent {
         value: SAMPLE_ALPHA,
     };
@@ -97,7 +84,7 @@ fn sample_in(
 }
 
 /// The problem of `sample` in the made timetable of this size, which goes then.
-fn sample_problem(alloc: Global, size: SampleSize, limits: &Limits) -> Result<Problem, Fault>
+fn sample_problem(alloc: Global, size: FeedSize, limits: &Limits) -> Result<Problem, Fault>
     ensures problem { IfOk result (λ p. OverMade size.value (λ files.
         HasTimetable sample_journey.timetable sample_journey p
         × IsProblem limits.now files sample_journey p)) }
@@ -111,7 +98,7 @@ fn sample_problem(alloc: Global, size: SampleSize, limits: &Limits) -> Result<Pr
 }
 
 /// Plans a journey over the timetable of this size.
-pub(crate) fn sample(alloc: Global, size: SampleSize, limits: &Limits) -> Result<Answer, Refusal>
+pub(crate) fn sample(alloc: Global, size: FeedSize, limits: &Limits) -> Result<Answer, Refusal>
     ensures sampled { IfOk result (λ a.
         AnswersSample limits.now size.value (findings_of a.report) a.text.items) }
     ensures fault { IfErr result (IsRefusalBy (FailsSample limits.now size.value)) }
@@ -121,7 +108,7 @@ pub(crate) fn sample(alloc: Global, size: SampleSize, limits: &Limits) -> Result
         Err(fault) => return Err(Refusal::plain(fault)),
         Ok(problem) => problem,
     };
-    match sample_in(alloc, size, &problem, sample_journey().start) {
+    match sample_in(alloc, size, &problem) {
         Err(fault) => Err(Refusal {
             fault,
             problem: Some(problem),

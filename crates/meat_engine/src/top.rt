@@ -3,7 +3,7 @@ ghost use Rattle.std.specs.Prelude.{◌≡◌, ◌<◌, map, string_bytes, optio
 ghost use Rattle.std.specs.Io.KnownBytes.{Keeps};
 ghost use Rattle.csv_rows.specs.Limits.{standard};
 ghost use Rattle.file_ports.specs.Counts.{Rose};
-ghost use Rattle.command_line.specs.Ranges.{IsJob};
+ghost use Rattle.command_line.specs.Ranges.{IsJobInTime};
 ghost use Rattle.command_line.specs.Shown.{wanted_job};
 ghost use Rattle.journey_model.specs.Faults.{status_of};
 ghost use Rattle.journey_model.specs.FaultLines.{line_of};
@@ -17,7 +17,7 @@ ghost use Rattle.meat_engine.specs.RunPromises.{IsRun, sink_state};
 
 use crate::asks::journey_over;
 use crate::refusal::Refusal;
-use crate::samples::{SampleSize, sample};
+use crate::samples::sample;
 use command_line::{Job, read_job};
 use csv_rows::Limits;
 use file_ports::{Failed, Files, Sink, put_all};
@@ -33,7 +33,7 @@ fn answer_of<F: Files>(
     job: &Job,
     limits: &Limits,
 ) -> Result<Answer, Refusal>
-    requires job { IsJob (wanted_job job.now) }
+    requires { IsJobInTime (wanted_job job.now) }
     ensures answer { IfOk result (λ a. AnswersJob (F.state files.old).files limits.now (wanted_job job.now)
         (findings_of a.report) a.text.items) }
     ensures fault { IfErr result (IsRefusalBy
@@ -43,7 +43,7 @@ fn answer_of<F: Files>(
 {
     match *job {
         Job::Journey(journey, ask) => journey_over(alloc, files, &journey, &ask, limits),
-        Job::Sample(size) => sample(alloc, SampleSize { value: size }, limits),
+        Job::Sample(size) => sample(alloc, size, limits),
     }
 }
 

@@ -7,7 +7,7 @@ pub use Rattle.std.proofs.lemmas.List.Elements.{All-contains, All-head, All-nil}
 pub use Rattle.std.specs.Io.KnownBytes.{Appends, Keeps}
 pub use Rattle.change_times.specs.Changes.{transfers_from, transfers_in}
 pub use Rattle.command_line.specs.Jobs.{Ask, AskModel, Certify, CheckGraph, CheckProof, CutFile, Departures, Expand, FeedFolder, JobModel, JourneyModel, Latest, Plan, Punctual, Reach, Replay as Replays}
-pub use Rattle.command_line.specs.Jobs.{Safe, Sample, TimetableModel, job_of}
+pub use Rattle.command_line.specs.Jobs.{Safe, Sample, SourceModel, job_of}
 pub use Rattle.csv_rows.specs.FeedTables.{path_of, unread_table}
 pub use Rattle.csv_rows.specs.Tables.{table_of}
 pub use Rattle.csv_rows.specs.declared.feed_tables.FeedFault.{FeedFault}

@@ -1,6 +1,6 @@
 -- The files of a journey have one first fault.
 use Rattle.run_laws.proofs.Common.{arith, ◌≡◌, ◌≢◌, ℕ, List, Option, None, Some, Result, Ok, Err, IsOk, inl, inr, sym, subst, ap, ◌∙◌, FileMap, Limits, Table, FeedFault, unread_table, FeedParts}
-use Rattle.run_laws.proofs.Common.{tables_in, calendars_in, TimetableModel, CutFile, FeedFolder, JourneyModel, Input, Fault, Read, NoMemory, unread_input, GtfsFolder, feed_as, feed_stop_fault}
+use Rattle.run_laws.proofs.Common.{tables_in, calendars_in, SourceModel, CutFile, FeedFolder, JourneyModel, Input, Fault, Read, NoMemory, unread_input, GtfsFolder, feed_as, feed_stop_fault}
 use Rattle.run_laws.proofs.Common.{IsFolderFault, IsLaterTableFault, IsWindowFault, IsFaultAfterFolder, IsFeedProblemFault, IsProblemFault, IsProblemFaultOver, none_unread, table_read, not_feed}
 use Rattle.run_laws.proofs.Common.{no_folder_fault}
 use Rattle.journey_problem.proofs.OneFeed.{one_feed_of}
@@ -64,7 +64,7 @@ module _ (limits : Limits) (files : FileMap) where
       one_feed_fault a b m n (inr (h, folder_is, after)) (inl (g, also, whys)) = absurd (no_folder_fault limits files folder h folder_is g (table_read limits g (λ i e. n i (also ∙ e))) whys)
       one_feed_fault a b m n (inr (h, folder_is, after)) (inr (g, other_is, afters)) = one_after h g a b (one_folder limits files folder h g folder_is other_is) m n after afters
 
-  one_over : (timetable : TimetableModel) (j : JourneyModel) (a b : Fault) → NotRead a → NotRead b → IsProblemFaultOver limits files timetable j a → IsProblemFaultOver limits files timetable j b → a ≡ b
+  one_over : (timetable : SourceModel) (j : JourneyModel) (a b : Fault) → NotRead a → NotRead b → IsProblemFaultOver limits files timetable j a → IsProblemFaultOver limits files timetable j b → a ≡ b
   one_over (CutFile path) j a b m n is also = grind (arith, one_some, quiet)
   one_over (FeedFolder folder horizon) j a b m n is also = one_feed_fault folder horizon j a b m n is also
 

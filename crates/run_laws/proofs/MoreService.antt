@@ -1,6 +1,6 @@
 -- What a run over more service finds, beside one over less.
 use Rattle.run_laws.proofs.Common.{◌≡◌, ℕ, ◌<◌, ◌≤◌, arith, inl, inr, refl, sym, ap, subst, ◌∙◌, cases_lt, List, Option, None, Some, NetworkModel, FileMap, Limits, Moment, Query, Tree}
-use Rattle.run_laws.proofs.Common.{IsLeastWorst, IsSafeFromStart, JourneyModel, TimetableModel}
+use Rattle.run_laws.proofs.Common.{IsLeastWorst, IsSafeFromStart, JourneyModel, SourceModel}
 use Rattle.run_laws.proofs.Common.{AskModel, Plan, Latest, Problem, HasOneProblem, Findings, findings_of, AnswersAsk, EndsAsk, EndsByLatest, query_until, unfold_plan, RunModel, IsRunWithin}
 use Rattle.journey_problem.specs.Problems.{IsProblemOver}
 use Rattle.meat_engine.specs.Ends.{EndsBySafety, HasSafe}
@@ -38,8 +38,8 @@ module _ (limits : Limits) (r s : RunModel) (first : IsRunWithin limits r) (seco
       hours = asks.more.hours;
       valid = less.p.timetable.valid;
       more_valid = asks.problem.timetable.valid;
-      less = subst (λ (t : TimetableModel). IsProblemOver limits files t j less.p) asks.more.is_feed less.is_problem;
-      more = subst (λ (t : TimetableModel). IsProblemOver limits others t i asks.problem) asks.more.is_more asks.is_problem;
+      less = subst (λ (t : SourceModel). IsProblemOver limits files t j less.p) asks.more.is_feed less.is_problem;
+      more = subst (λ (t : SourceModel). IsProblemOver limits others t i asks.problem) asks.more.is_more asks.is_problem;
     }
 
     -- what the second answers, over its problem

@@ -1,7 +1,7 @@
 -- Over one network the first row of `departures` by a moment has the upper bound of the plan of who sets out then.
 use Rattle.run_laws.proofs.Common.{◌≡◌, ◌≢◌, ℕ, refl, sym, ap, subst, ◌∙◌, List, [], Option, None, Some, MatchOption, Limits, NetworkModel, Query, Departures, Plan, Problem}
 use Rattle.run_laws.proofs.Common.{HasOneProblem, Findings, findings_of}
-use Rattle.run_laws.proofs.Common.{FileMap, JourneyModel, TimetableModel, own_problem, AnswersAsk, query_until, unfold_plan, Interval, RunModel, IsRunWithin}
+use Rattle.run_laws.proofs.Common.{FileMap, JourneyModel, SourceModel, own_problem, AnswersAsk, query_until, unfold_plan, Interval, RunModel, IsRunWithin}
 use Rattle.decision_graph.specs.GraphValues.{IsBest}
 use Rattle.departure_table.specs.Departures.{IsBestFrom, IsNoneSafeFrom, SafeFrom, first_row_by}
 use Rattle.departure_table.specs.declared.DepartureRow.{DepartureRow}
@@ -55,7 +55,7 @@ module _ (limits : Limits) (r s : RunModel) (first : IsRunWithin limits r) (seco
   cut_row_of_plan files others j cut start until last alpha query rows row bounds over calm also agree asks asks_too well early late rows_are row_is query_is deadline bounds_are =
       let w = answered limits files r first calm j (Departures until last) asks well.first in
       let there = own_problem limits files others j w.p agree w.is_problem in
-      let is_cut = subst (λ (t : TimetableModel). IsProblemOver limits others t j w.p) over there in
-      let later = subst (λ (t : TimetableModel). IsProblemOver limits others t (starting j start) w.p) (sym over) (from_start others j cut start w.p is_cut) in
+      let is_cut = subst (λ (t : SourceModel). IsProblemOver limits others t j w.p) over there in
+      let later = subst (λ (t : SourceModel). IsProblemOver limits others t (starting j start) w.p) (sym over) (from_start others j cut start w.p is_cut) in
       row_of_plan files others j (starting j start) until last alpha w.p w.p query rows row bounds calm also asks asks_too well w.is_problem later
       (record { network = refl; source = refl; target = refl }) early late rows_are row_is query_is deadline bounds_are

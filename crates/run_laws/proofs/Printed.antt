@@ -2,6 +2,7 @@
 use Rattle.run_laws.proofs.Common.{◌≡◌, ℕ, ◌≤◌, false, refl, ap, sym, ◌∙◌, subst, arith, inl, inr, List, [], ◌++◌, None, Some, Result, Ok, Err, length, nat_lt, nat_tests, FileMap, file_at, Limits}
 use Rattle.run_laws.proofs.Common.{Interval, Query, IsSafeFor, PlanGraph, unfold_plan, Head, IsReadAs, Fault, Problem, Findings, graph_in, InGraphFile, IsEnclosed, InQuery, AnswersPlan, head_of}
 use Rattle.run_laws.proofs.Common.{EndsByScore, EndsByGraphFile, trip_by, ReplayFault, plan_text, punctual_row}
+use Rattle.graph_text.proofs.Accepted.{text_read}
 use Rattle.graph_score.specs.Spans.{span_of}
 use Rattle.journey_answers.specs.Punctual.{AnswersPunctual}
 use Rattle.journey_answers.proofs.Bounds.{bounds_of_graph}
@@ -53,7 +54,7 @@ module _ (start alpha : ℕ) (p : Problem) (found : Findings) (text : List ℕ) 
     source = asked.source;
     target = asked.target;
     start_is = asked.start_is;
-    reads = reads;
+    reads = text_read p.timetable.network p.timetable.names p.timetable.valid (head_of q bounds) graph text reads;
     safe = planned.best.safe;
   }
 
@@ -80,7 +81,7 @@ module _ (start alpha : ℕ) (p : Problem) (found : Findings) (text : List ℕ) 
       source = asked.source;
       target = asked.target;
       start_is = asked.start_is;
-      reads = own.reads_back;
+      reads = text_read p.timetable.network p.timetable.names p.timetable.valid (head_of q bounds) graph (plan_text p.timetable.network p.timetable.names (head_of q bounds) graph) own.reads_back;
       safe = punctual.safe;
     };
     bounds_is = ap (λ (f : Findings). f.bounds) is;

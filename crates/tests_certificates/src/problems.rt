@@ -1,5 +1,5 @@
 //! The problem of a small cut file, and its fault if the delay file is missing.
-use command_line::{Journey, Timetable};
+use command_line::{Journey, Start};
 use csv_rows::Limits;
 use journey_model::{Fault, Input};
 use journey_problem::problem_of;
@@ -9,11 +9,13 @@ use std::test::Fail;
 use test_runs::{Source, files_of};
 
 const JOURNEY: Journey<'static> = Journey {
-    timetable: Timetable::Cut("c"),
+    timetable: command_line::Source::Cut("c"),
     delays: "d",
     from: Some("A"),
     to: "T",
-    start: Moment(1_717_401_600),
+    start: Start {
+        moment: Moment(1_717_401_600),
+    },
 };
 
 const CUT: Source<'static> = (

@@ -1,7 +1,7 @@
 //! Words with the jobs that they ask for, or with the reason why they are refused.
 use command_line::{
-    Ask, Command, Job, Journey, OptionName, Timetable, Use, WordsFault, option_word, read_job,
-    read_late,
+    Ask, Command, Hours, Job, Journey, OptionName, Percent, Source, Use, WordsFault, option_word,
+    read_job, read_late,
 };
 use plan_model::Moment;
 use std::alloc::Global;
@@ -29,25 +29,25 @@ fn is_journey(journey: &Journey) -> bool {
     journey.delays == "d"
         && journey.from == Some("A")
         && journey.to == "T"
-        && journey.start == Moment(1_717_401_600)
+        && journey.start.moment == Moment(1_717_401_600)
 }
 
 /// Whether two timetables are the same.
-fn are_same(found: Timetable, wanted: Timetable) -> bool {
+fn are_same(found: Source, wanted: Source) -> bool {
     match found {
-        Timetable::Cut(path) => match wanted {
-            Timetable::Cut(other) => path == other,
-            Timetable::Feed(..) => false,
+        Source::Cut(path) => match wanted {
+            Source::Cut(other) => path == other,
+            Source::Feed(..) => false,
         },
-        Timetable::Feed(folder, hours) => match wanted {
-            Timetable::Cut(_) => false,
-            Timetable::Feed(other, horizon) => folder == other && hours == horizon,
+        Source::Feed(folder, hours) => match wanted {
+            Source::Cut(_) => false,
+            Source::Feed(other, horizon) => folder == other && hours == horizon,
         },
     }
 }
 
 /// Whether a line and `JOURNEY` ask this of that journey over this timetable.
-fn asks(alloc: Global, line: &str, timetable: Timetable, asked: Ask) -> Result<bool, Fail> {
+fn asks(alloc: Global, line: &str, timetable: Source, asked: Ask) -> Result<bool, Fail> {
     let words = words_of(alloc, &[line, JOURNEY])?;
     match read_job(words.as_slice()) {
         Ok(Job::Journey(journey, ask)) => {
@@ -76,7 +76,7 @@ fn reach_deadline_of(alloc: Global, line: &str) -> Result<Option<Moment>, Fail> 
 fn start_of(alloc: Global, line: &str) -> Result<Option<Moment>, Fail> {
     let words = words_of(alloc, &["safe", TO_T, line])?;
     match read_job(words.as_slice()) {
-        Ok(Job::Journey(journey, _)) => Ok(Some(journey.start)),
+        Ok(Job::Journey(journey, _)) => Ok(Some(journey.start.moment)),
         _ => Ok(None),
     }
 }
@@ -85,7 +85,7 @@ fn start_of(alloc: Global, line: &str) -> Result<Option<Moment>, Fail> {
 fn size_of(alloc: Global, line: &str) -> Result<Option<u32>, Fail> {
     let words = words_of(alloc, &[line])?;
     match read_job(words.as_slice()) {
-        Ok(Job::Sample(size)) => Ok(Some(size)),
+        Ok(Job::Sample(size)) => Ok(Some(size.value)),
         _ => Ok(None),
     }
 }
@@ -96,26 +96,43 @@ fn fault_of(alloc: Global, lines: &[&str]) -> Result<Option<WordsFault>, Fail> {
     Ok(read_job(words.as_slice()).err())
 }
 
-const CUT: Timetable<'static> = Timetable::Cut("c");
+/// The percentage of a deadline if none is given.
+const TWICE: Percent = Percent { value: 200 };
 
-const FEED: Timetable<'static> = Timetable::Feed("f", 24);
+const CUT: Source<'static> = Source::Cut("c");
+
+const FEED: Source<'static> = Source::Feed("f", Hours { value: 24 });
 
 /// Lines of a journey, with the timetable and what is asked.
-const JOURNEYS: [(&str, Timetable<'static>, Ask<'static>); 17] = [
-    ("safe --cut c", CUT, Ask::Safe { alpha: 200 }),
-    ("safe --alpha 100 --cut c", CUT, Ask::Safe { alpha: 100 }),
+const JOURNEYS: [(&str, Source<'static>, Ask<'static>); 17] = [
+    ("safe --cut c", CUT, Ask::Safe { alpha: TWICE }),
+    (
+        "safe --alpha 100 --cut c",
+        CUT,
+        Ask::Safe {
+            alpha: Percent { value: 100 },
+        },
+    ),
     (
         "expand --cut c --alpha 0150",
         CUT,
-        Ask::Expand { alpha: 150 },
+        Ask::Expand {
+            alpha: Percent { value: 150 },
+        },
     ),
-    ("plan --cut c --alpha 1000", CUT, Ask::Plan { alpha: 1_000 }),
-    ("certify --cut c", CUT, Ask::Certify { alpha: 200 }),
+    (
+        "plan --cut c --alpha 1000",
+        CUT,
+        Ask::Plan {
+            alpha: Percent { value: 1_000 },
+        },
+    ),
+    ("certify --cut c", CUT, Ask::Certify { alpha: TWICE }),
     (
         "punctual --cut c --by 2024-06-03T09:00:00",
         CUT,
         Ask::Punctual {
-            alpha: 200,
+            alpha: TWICE,
             promise: Moment(1_717_405_200),
         },
     ),
@@ -147,17 +164,25 @@ const JOURNEYS: [(&str, Timetable<'static>, Ask<'static>); 17] = [
         CUT,
         Ask::CheckGraph { graph: "g" },
     ),
-    ("safe --feed f", FEED, Ask::Safe { alpha: 200 }),
+    ("safe --feed f", FEED, Ask::Safe { alpha: TWICE }),
     (
         "expand --feed f --horizon 1",
-        Timetable::Feed("f", 1),
-        Ask::Expand { alpha: 200 },
+        Source::Feed("f", Hours { value: 1 }),
+        Ask::Expand { alpha: TWICE },
     ),
-    ("plan --alpha 150 --feed f", FEED, Ask::Plan { alpha: 150 }),
+    (
+        "plan --alpha 150 --feed f",
+        FEED,
+        Ask::Plan {
+            alpha: Percent { value: 150 },
+        },
+    ),
     (
         "plan --horizon 72 --alpha 300 --feed f",
-        Timetable::Feed("f", 72),
-        Ask::Plan { alpha: 300 },
+        Source::Feed("f", Hours { value: 72 }),
+        Ask::Plan {
+            alpha: Percent { value: 300 },
+        },
     ),
     (
         "replay --feed f --graph g --late none",
@@ -169,7 +194,7 @@ const JOURNEYS: [(&str, Timetable<'static>, Ask<'static>); 17] = [
     ),
     (
         "replay --late none --graph g --horizon 6 --feed f",
-        Timetable::Feed("f", 6),
+        Source::Feed("f", Hours { value: 6 }),
         Ask::Replay {
             graph: "g",
             late: "none",
@@ -177,7 +202,7 @@ const JOURNEYS: [(&str, Timetable<'static>, Ask<'static>); 17] = [
     ),
     (
         "check --proof p --horizon 6 --feed f",
-        Timetable::Feed("f", 6),
+        Source::Feed("f", Hours { value: 6 }),
         Ask::CheckProof { proof: "p" },
     ),
 ];

@@ -4,5 +4,5 @@ use Rattle.command_line.proofs.values.read_promise.Goals as goal
 pub returns-clause-promise : goal.returns-clause-promise
 returns-clause-promise c =
     c.read_moment_of.ensures.moment
-    ∙ ap (λ (text : List ℕ). moment_of c.start_of-start.result.0 (c.start_of-start.result.0 + longest_promise) text) (c.as_bytes.ensures.value ∙ c.text_of-text.ensures)
-    ∙ ap (λ (first : ℕ). moment_of first (first + longest_promise) (text_of (map string_bytes c.args.settings.now) By)) c.start_of-start.ensures.start
+    ∙ ap (λ (text : List ℕ). moment_of c.start_of.result.moment.0 (c.start_of.result.moment.0 + longest_promise) text) (c.as_bytes.ensures.value ∙ c.text_of-text.ensures)
+    ∙ ap (λ (first : ℕ). moment_of first (first + longest_promise) (text_of (map string_bytes c.args.settings.now) By)) c.start_of.ensures

@@ -17,7 +17,7 @@ returns-in-Ok-clause-fault g c =
 
 pub returns-in-Ok-clause-causes : goal.returns-in-Ok-clause-causes
 returns-in-Ok-clause-causes g c = λ own.
-    causes-then {path = path_by (FeedFolder c.args.folder.now c.args.horizon) (journey_shown c.args.journey.now) own}
+    causes-then {path = path_by (FeedFolder c.args.folder.now c.args.horizon.value) (journey_shown c.args.journey.now) own}
     input.Delays c.problem_in.result (λ table is. is)
     c.in-Ok.ensures.reads.causes c.problem_in.ensures.causes c.problem_in.ensures.own
 
@@ -28,7 +28,7 @@ pub returns-in-Ok-clause-timetable : goal.returns-in-Ok-clause-timetable
 returns-in-Ok-clause-timetable g c = c.problem_in.ensures.timetable
 
 pub returns-in-Err-clause-early : goal.returns-in-Err-clause-early
-returns-in-Err-clause-early g c = c.fault_of.ensures.early c.args.folder.now c.args.horizon
+returns-in-Err-clause-early g c = c.fault_of.ensures.early c.args.folder.now c.args.horizon.value
 
 pub returns-in-Err-clause-problem : goal.returns-in-Err-clause-problem
 returns-in-Err-clause-problem g c = if_some_any (g.F.Files.state c.args.files.now).files _ (λ m. tt)

@@ -8,24 +8,24 @@ pub returns-in-Err-clause-fault : goal.returns-in-Err-clause-fault
 returns-in-Err-clause-fault g c = IfSome_then (g.F.Files.state c.args.files.now).files c.in-Err.ensures.table (λ m first other. inl (first other))
 
 pub returns-in-Err-clause-early : goal.returns-in-Err-clause-early
-returns-in-Err-clause-early g c = λ folder. c.in-Err.ensures.early (FeedFolder folder c.args.horizon)
+returns-in-Err-clause-early g c = λ folder. c.in-Err.ensures.early (FeedFolder folder c.args.horizon.value)
 
 pub returns-in-Ok-clause-problem : goal.returns-in-Ok-clause-problem
 returns-in-Ok-clause-problem g c =
     let is = c.window_problem.ensures in
     IfSome_then (g.F.Files.state c.args.files.now).files c.in-Ok.ensures.table (λ m delays.
-    window_problem c.args.limits.now m c.args.horizon (journey_shown c.args.journey.now) (gtfs_folder_of c.args.tables.now) c.in-Ok.delays delays.0 delays.1 c.window_problem.result
+    window_problem c.args.limits.now m c.args.horizon.value (journey_shown c.args.journey.now) (gtfs_folder_of c.args.tables.now) c.in-Ok.delays delays.0 delays.1 c.window_problem.result
     is.network is.no_window_fault is.source is.target)
 
 pub returns-in-Ok-clause-fault : goal.returns-in-Ok-clause-fault
 returns-in-Ok-clause-fault g c =
     IfSome_then (g.F.Files.state c.args.files.now).files c.in-Ok.ensures.table (λ m delays.
-    window_fault c.args.limits.now m c.args.horizon (journey_shown c.args.journey.now) (gtfs_folder_of c.args.tables.now) c.in-Ok.delays delays.0 delays.1 c.window_problem.result
+    window_fault c.args.limits.now m c.args.horizon.value (journey_shown c.args.journey.now) (gtfs_folder_of c.args.tables.now) c.in-Ok.delays delays.0 delays.1 c.window_problem.result
     c.window_problem.ensures.fault)
 
 pub returns-in-Ok-clause-timetable : goal.returns-in-Ok-clause-timetable
 returns-in-Ok-clause-timetable g c =
-    feed_timetable c.args.horizon (journey_shown c.args.journey.now) (gtfs_folder_of c.args.tables.now) c.in-Ok.delays
+    feed_timetable c.args.horizon.value (journey_shown c.args.journey.now) (gtfs_folder_of c.args.tables.now) c.in-Ok.delays
     c.window_problem.result c.requires.sound c.in-Ok.ensures.sound
     c.window_problem.ensures.network c.window_problem.ensures.source c.window_problem.ensures.target
 

@@ -23,7 +23,7 @@ pub returns-in-Err-ask_over-clause-fault : goal.returns-in-Err-ask_over-clause-f
 returns-in-Err-ask_over-clause-fault g c =
     let ask = ask_shown c.args.ask.now in
     let same = (c.in-Ok.ensures.causes (own_paths ask)).same in
-    let P : Option FileMap → Type 0 = λ reported. FailsAsk reported c.args.limits.now c.args.journey.now.start.0 c.in-Ok.problem ask c.in-Err-ask_over.fault in
+    let P : Option FileMap → Type 0 = λ reported. FailsAsk reported c.args.limits.now c.args.journey.now.start.moment.0 c.in-Ok.problem ask c.in-Err-ask_over.fault in
     record {
       has_site = c.in-Err-ask_over.ensures.has_site;
       holds = λ other. inl (c.in-Ok.problem, c.in-Ok.ensures.sound, c.in-Ok.ensures.problem, (refl, subst P same (c.in-Err-ask_over.ensures.fault other)));
@@ -34,5 +34,5 @@ returns-in-Ok-ask_over-clause-answer g c =
     let ask = ask_shown c.args.ask.now in
     let reported = c.in-Ok-ask_over.answer in
     let same = (c.in-Ok.ensures.causes (own_paths ask)).same in
-    let P : Option FileMap → Type 0 = λ files. AnswersAsk files c.args.limits.now c.args.journey.now.start.0 c.in-Ok.problem ask (findings_of reported.report) reported.text.items in
+    let P : Option FileMap → Type 0 = λ files. AnswersAsk files c.args.limits.now c.args.journey.now.start.moment.0 c.in-Ok.problem ask (findings_of reported.report) reported.text.items in
     (c.in-Ok.problem, c.in-Ok.ensures.sound, c.in-Ok.ensures.problem, subst P same c.in-Ok-ask_over.ensures.answer)

@@ -1,4 +1,4 @@
-use Rattle.meat_engine.proofs.Common.{ℕ, subst, IsQueryOf, findings_of, sample_alpha, AnswersSampled}
+use Rattle.meat_engine.proofs.Common.{ℕ, ap, subst, JourneyModel, IsQueryOf, findings_of, sample_alpha, AnswersSampled}
 use Rattle.journey_answers.proofs.Sought.{in_query}
 use Rattle.meat_engine.proofs.samples.sample_in.Goals as goal
 
@@ -8,4 +8,4 @@ returns-clause-sampled c =
     let q = c.in_ok-asked.asked in
     let a = c.in_ok-answer.answer in
     in_query (λ p. AnswersSampled c.args.size.value p (findings_of a.report) a.text.items) e.problem
-    (subst (λ (start : ℕ). IsQueryOf c.args.problem.now start sample_alpha q.query q.worst) c.requires e.asked) c.in_ok-answer.ensures
+    (subst (λ (start : ℕ). IsQueryOf c.args.problem.now start sample_alpha q.query q.worst) (ap (λ (j : JourneyModel). j.start) c.sample_journey.ensures) e.asked) c.in_ok-answer.ensures
