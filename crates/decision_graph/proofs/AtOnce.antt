@@ -1,7 +1,8 @@
 -- A journey that is at its target when it begins.
-use Rattle.decision_graph.proofs.Common.{◌≡◌, ℕ, ◌<◌, ◌≤◌, [], Option, None, true, refl, sym, subst, arith, ◌==◌, nat_tests, Scoring, ScoreLaws, Leg, Query, NetworkModel, Tree, Done, Ride, Stuck}
+use Rattle.decision_graph.proofs.Common.{◌≡◌, ℕ, ◌<◌, ◌≤◌, [], Option, Some, None, MatchOption, MatchOption-at_some, true, refl, sym, subst, arith, ◌==◌, nat_tests, Scoring, ScoreLaws, Leg, Query, NetworkModel, Tree, Done, Ride, Stuck}
 use Rattle.decision_graph.proofs.Common.{IsSafeFor, ExpandedGraph, RideTable, IsBestBy, IsNoneSafe, IsExpandedBy, HasSteadyChoice}
 use Rattle.std.proofs.lemmas.List.Elements.{All-nil}
+use Rattle.decision_graph.specs.Expanded.{no_rides}
 use Rattle.plan_model.specs.Unfold.{unfolding_of}
 use Rattle.plan_graph.specs.PickedRows.{Precedes, pick_after}
 use Rattle.plan_graph.specs.Ready.{Stands}
@@ -11,9 +12,6 @@ unfolds : (n : NetworkModel) (q : Query) (choice : Leg → ℕ → Option Leg) �
 unfolds n q choice same =
     let test : (q.source.0 == q.target.0) ≡ true = grind (arith, nat_tests) in
     rw test refl
-
-abbrev no_rides : ExpandedGraph
-no_rides = record { start = None; rides = [] }
 
 -- to have arrived is the one safe strategy
 module _ {V : Type 0} (scoring : Scoring V) (laws : ScoreLaws scoring) where
@@ -60,3 +58,8 @@ steady_at_once n q graph is =
       follows = λ r there. absurd (Contains-nil r there);
     } in
     rw is none
+
+-- what is known of the graph of a journey that is at its target when it begins
+pub in_time : (q : Query) (found : Option ExpandedGraph) (graph : ExpandedGraph) → found ≡ Some graph
+    → MatchOption found (q.deadline.0 < q.start.0) (λ g. (q.start.0 ≤ q.deadline.0) × (g ≡ no_rides)) → (q.start.0 ≤ q.deadline.0) × (graph ≡ no_rides)
+in_time q found graph is known = MatchOption-at_some (q.deadline.0 < q.start.0) (λ g. (q.start.0 ≤ q.deadline.0) × (g ≡ no_rides)) graph is known

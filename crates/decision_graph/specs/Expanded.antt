@@ -1,5 +1,5 @@
 -- The decision graph ride by ride.
-use Rattle.std.specs.Prelude.{◌≢◌, ℕ, All, Option}
+use Rattle.std.specs.Prelude.{◌≢◌, ℕ, All, Option, None, []}
 use Rattle.interval_fixed.specs.Interval.{Interval}
 use Rattle.plan_model.specs.declared.model.Leg.{Leg}
 use Rattle.plan_model.specs.declared.model.Query.{Query}
@@ -15,6 +15,10 @@ use Rattle.value_laws.specs.ScoreLaws.{Scoring}
 use Rattle.meat_scan.specs.Rules.{IsByRules}
 use Rattle.leg_extract.specs.Extracted.{HasArrivals, HasEachRide}
 use Rattle.decision_graph.specs.GraphValues.{IsBestBy, IsBest}
+
+-- the graph in which nothing is ridden
+abbrev pub no_rides : ExpandedGraph
+no_rides = record { start = None; rides = [] }
 
 -- no strategy is safe for the query
 abbrev pub IsNoneSafe : NetworkModel → Query → Type 0

@@ -1,8 +1,10 @@
 //! The decision graph ride by ride.
-ghost use Rattle.std.specs.Prelude.{◌<◌, IfOk, IfSome, MatchOption};
+ghost use Rattle.std.specs.Prelude.{◌≡◌, ◌<◌, ◌≤◌, IfOk, IfSome, MatchOption};
+ghost use Rattle.interval_fixed.specs.Interval.{end_of_nanos};
 ghost use Rattle.plan_model.specs.Bounds.{end_of_time};
 ghost use Rattle.plan_model.specs.Order.{IsScanOrder};
-ghost use Rattle.decision_graph.specs.Expanded.{IsNoneSafe, IsExpanded, IsExpandedBy, HasSteadyChoice};
+ghost use Rattle.value_laws.specs.Means.{mean_scoring};
+ghost use Rattle.decision_graph.specs.Expanded.{no_rides, IsNoneSafe, IsExpanded, IsExpandedBy, HasSteadyChoice};
 
 use crate::found::Found;
 use interval_fixed::Span;
@@ -13,6 +15,20 @@ use plan_model::{BackwardOrder, List, Network, NoMemory, Query};
 use std::alloc::Global;
 use value_laws::{MeanSpan, Score};
 
+/// The graph of a journey that is at its target when it begins; `None` if its deadline is before its start.
+fn at_once(alloc: Global, query: &Query) -> Option<ExpandedGraph>
+    ensures { MatchOption result (query.now.deadline.0 < query.now.start.0)
+        (λ graph. (query.now.start.0 ≤ query.now.deadline.0) × (graph ≡ no_rides)) }
+{
+    if query.deadline.0 < query.start.0 {
+        return None;
+    }
+    Some(ExpandedGraph {
+        start: None,
+        rides: List::new(alloc),
+    })
+}
+
 /// The decision graph of a query ride by ride, with a value that covers its own strategy and is below every safe one.
 pub(crate) fn expand_by<V: Score, B: BackwardOrder>(
     alloc: Global,
@@ -22,21 +38,18 @@ pub(crate) fn expand_by<V: Score, B: BackwardOrder>(
 ) -> Result<Option<Found<ExpandedGraph, V>>, NoMemory>
     requires fits { B.fits order.old network.now }
     requires whole { IsScanOrder network.now (B.rest order.old network.now) }
-    requires start { query.now.start.0 < end_of_time }
+    requires start { query.now.source.0 ≡ query.now.target.0 → query.now.start.0 < end_of_time }
     ensures plan { IfOk result (λ found. MatchOption found (IsNoneSafe network.now query.now)
         (λ p. IsExpandedBy V.scoring network.now query.now p.graph p.value)) }
     ensures steady { IfOk result (λ found. IfSome found (λ p. HasSteadyChoice network.now query.now p.graph)) }
     ensures fits { B.fits order.new network.now }
 {
     if query.source.0 == query.target.0 {
-        if query.deadline.0 < query.start.0 {
+        let Some(graph) = at_once(alloc, query) else {
             return Ok(None);
-        }
+        };
         return Ok(Some(Found {
-            graph: ExpandedGraph {
-                start: None,
-                rides: List::new(alloc),
-            },
+            graph,
             value: V::arrive(query.start),
         }));
     }
@@ -49,6 +62,34 @@ pub(crate) fn expand_by<V: Score, B: BackwardOrder>(
         None => Ok(None),
         Some(graph) => Ok(Some(Found { graph, value })),
     }
+}
+
+/// The decision graph of a query ride by ride, by the mean. If source and target are one place, the start may also be
+/// after the last moment at which other scores know what it is to have arrived.
+pub(crate) fn expand_means<B: BackwardOrder>(
+    alloc: Global,
+    order: &mut B,
+    network: &Network,
+    query: &Query,
+) -> Result<Option<Found<ExpandedGraph, MeanSpan>>, NoMemory>
+    requires fits { B.fits order.old network.now }
+    requires whole { IsScanOrder network.now (B.rest order.old network.now) }
+    requires start { query.now.source.0 ≡ query.now.target.0 → query.now.start.0 < end_of_nanos }
+    ensures plan { IfOk result (λ found. MatchOption found (IsNoneSafe network.now query.now)
+        (λ p. IsExpandedBy mean_scoring network.now query.now p.graph p.value)) }
+    ensures steady { IfOk result (λ found. IfSome found (λ p. HasSteadyChoice network.now query.now p.graph)) }
+    ensures fits { B.fits order.new network.now }
+{
+    if query.source.0 == query.target.0 {
+        let Some(graph) = at_once(alloc, query) else {
+            return Ok(None);
+        };
+        return Ok(Some(Found {
+            graph,
+            value: MeanSpan(Span::exact(query.start)),
+        }));
+    }
+    expand_by(alloc, order, network, query)
 }
 
 /// The decision graph of a query ride by ride, by a scan in this order of the network's connections,
@@ -64,13 +105,12 @@ pub fn expand<B: BackwardOrder>(
 ) -> Result<Option<Found<ExpandedGraph, Span>>, NoMemory>
     requires fits { B.fits order.old network.now }
     requires whole { IsScanOrder network.now (B.rest order.old network.now) }
-    requires start { query.now.start.0 < end_of_time }
+    requires start { query.now.source.0 ≡ query.now.target.0 → query.now.start.0 < end_of_nanos }
     ensures plan { IfOk result (λ found. MatchOption found (IsNoneSafe network.now query.now)
         (λ p. IsExpanded network.now query.now p.graph p.value)) }
     ensures fits { B.fits order.new network.now }
 {
-    let found: Option<Found<ExpandedGraph, MeanSpan>> = expand_by(alloc, order, network, query)?;
-    match found {
+    match expand_means(alloc, order, network, query)? {
         None => Ok(None),
         Some(scored) => {
             let bounds = scored.value.0;

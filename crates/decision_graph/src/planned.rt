@@ -1,19 +1,40 @@
 //! The decision graph with one table for each place.
-ghost use Rattle.std.specs.Prelude.{◌<◌, IfOk, MatchOption};
+ghost use Rattle.std.specs.Prelude.{◌≡◌, ◌<◌, IfOk, MatchOption};
+ghost use Rattle.interval_fixed.specs.Interval.{end_of_nanos};
 ghost use Rattle.plan_model.specs.Bounds.{end_of_time};
 ghost use Rattle.plan_model.specs.Order.{IsScanOrder};
-ghost use Rattle.decision_graph.specs.Expanded.{IsNoneSafe};
+ghost use Rattle.decision_graph.specs.Expanded.{IsNoneSafe, IsExpandedBy, HasSteadyChoice};
 ghost use Rattle.decision_graph.specs.Planned.{IsPlanned, IsPlannedBy};
 
-use crate::expanded::expand_by;
+use crate::expanded::{expand_by, expand_means};
 use crate::found::Found;
 use graph_compact::compact;
 use graph_prune::{prune, steady_is_coherent};
 use interval_fixed::Span;
-use plan_graph::PlanGraph;
+use plan_graph::{ExpandedGraph, PlanGraph};
 use plan_model::{BackwardOrder, Network, NoMemory, Query};
 use std::alloc::Global;
-use value_laws::{MeanSpan, Score};
+use value_laws::Score;
+
+/// The graph with one table for each place that unfolds to the same strategy.
+fn compacted<V: Score>(
+    alloc: Global,
+    network: &Network,
+    query: &Query,
+    expanded: Found<ExpandedGraph, V>,
+) -> Result<Found<PlanGraph, V>, NoMemory>
+    requires expanded { IsExpandedBy V.scoring network.now query.now expanded.graph expanded.value }
+    requires steady { HasSteadyChoice network.now query.now expanded.graph }
+    ensures { IfOk result (λ p. IsPlannedBy V.scoring network.now query.now p.graph p.value) }
+{
+    let pruned = prune(alloc, &expanded.graph, network, query)?;
+    steady_is_coherent();
+    let graph = compact(alloc, &pruned, network, query)?;
+    Ok(Found {
+        graph,
+        value: expanded.value,
+    })
+}
 
 /// The decision graph of a query with one table for each place, by a scan in this order of the
 /// network's connections, with a value that covers its own strategy and is below every safe one.
@@ -26,7 +47,7 @@ pub fn plan_by<V: Score, B: BackwardOrder>(
 ) -> Result<Option<Found<PlanGraph, V>>, NoMemory>
     requires fits { B.fits order.old network.now }
     requires whole { IsScanOrder network.now (B.rest order.old network.now) }
-    requires start { query.now.start.0 < end_of_time }
+    requires start { query.now.source.0 ≡ query.now.target.0 → query.now.start.0 < end_of_time }
     ensures plan { IfOk result (λ found. MatchOption found (IsNoneSafe network.now query.now)
         (λ p. IsPlannedBy V.scoring network.now query.now p.graph p.value)) }
     ensures fits { B.fits order.new network.now }
@@ -34,13 +55,8 @@ pub fn plan_by<V: Score, B: BackwardOrder>(
     let Some(expanded) = expand_by(alloc, order, network, query)? else {
         return Ok(None);
     };
-    let pruned = prune(alloc, &expanded.graph, network, query)?;
-    steady_is_coherent();
-    let graph = compact(alloc, &pruned, network, query)?;
-    Ok(Some(Found {
-        graph,
-        value: expanded.value,
-    }))
+    let planned = compacted(alloc, network, query, expanded)?;
+    Ok(Some(planned))
 }
 
 /// The decision graph of a query with one table for each place, by a scan in this order of the
@@ -56,21 +72,19 @@ pub fn plan<B: BackwardOrder>(
 ) -> Result<Option<Found<PlanGraph, Span>>, NoMemory>
     requires fits { B.fits order.old network.now }
     requires whole { IsScanOrder network.now (B.rest order.old network.now) }
-    requires start { query.now.start.0 < end_of_time }
+    requires start { query.now.source.0 ≡ query.now.target.0 → query.now.start.0 < end_of_nanos }
     ensures plan { IfOk result (λ found. MatchOption found (IsNoneSafe network.now query.now)
         (λ p. IsPlanned network.now query.now p.graph p.value)) }
     ensures fits { B.fits order.new network.now }
 {
-    let found: Option<Found<PlanGraph, MeanSpan>> = plan_by(alloc, order, network, query)?;
-    match found {
-        None => Ok(None),
-        Some(scored) => {
-            let bounds = scored.value.0;
-            let graph = scored.graph;
-            Ok(Some(Found {
-                graph,
-                value: bounds,
-            }))
-        }
-    }
+    let Some(expanded) = expand_means(alloc, order, network, query)? else {
+        return Ok(None);
+    };
+    let planned = compacted(alloc, network, query, expanded)?;
+    let bounds = planned.value.0;
+    let graph = planned.graph;
+    Ok(Some(Found {
+        graph,
+        value: bounds,
+    }))
 }

@@ -92,8 +92,7 @@ fn score_by_legs(
     // What comes of each connection has its number.
     let are_numbered = network.count() < u32::MAX;
     prove!(are_numbered);
-    let outlook = outlook_by_legs(alloc, rising, network, query)?;
-    Ok(outlook)
+    outlook_by_legs(alloc, rising, network, query)
 }
 
 /// Bounds on the expected arrival of a graph that fits, or its first failure if it is not safe for the

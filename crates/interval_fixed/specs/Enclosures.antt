@@ -1,6 +1,7 @@
 -- What the mean of spans is to the values within them.
 use Rattle.std.specs.Prelude.{ℕ, ◌*◌, ◌≤◌, List, [], ◌∷◌}
 use Rattle.plan_model.specs.declared.model.Outcome.{Outcome}
+use Rattle.plan_model.specs.declared.units.TheConstants.{WHOLE_WEIGHT}
 use Rattle.interval_fixed.specs.Interval.{Interval}
 use Rattle.interval_fixed.specs.Means.{weighted}
 
@@ -11,6 +12,6 @@ AreEnclosed (span ∷ spans) (x ∷ xs) = (span.lo ≤ x) × (x ≤ span.hi) × 
 AreEnclosed [] (x ∷ xs) = ⊥
 AreEnclosed (span ∷ spans) [] = ⊥
 
--- the mean of the values by weight is within the span; weights are of 10,000
+-- the mean of the values by weight is within the span; weights are of a whole
 abbrev pub EnclosesMean : Interval → List Outcome → List ℕ → Type 0
-EnclosesMean span row xs = (10000 * span.lo ≤ weighted row xs) × (weighted row xs ≤ 10000 * span.hi)
+EnclosesMean span row xs = (WHOLE_WEIGHT * span.lo ≤ weighted row xs) × (weighted row xs ≤ WHOLE_WEIGHT * span.hi)

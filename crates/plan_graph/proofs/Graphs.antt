@@ -26,9 +26,6 @@ module _ (n : NetworkModel) (valid : IsValid n) (q : Query) (choice : Leg → �
   table_of_ride r = All-contains (λ s. s.after ≡ table_after n target choice s.leg) rides r walked.tables
 
   module _ (r : Ride) (there : Contains rides r) where
-    own_table : List GraphRow
-    own_table = table_after n target choice r.leg
-
     delays : AllPairs Sooner (outcomes_of n r.leg)
     delays = delays_rise n valid r.leg (leg_of_ride r there)
 

@@ -182,6 +182,5 @@ pub fn walk<C: LegChoice>(
 {
     let _count = network.count();
     let seen = reach(alloc, choice, network, query, start)?;
-    let rides = rides_of(alloc, choice, network, query, &seen)?;
-    Ok(rides)
+    rides_of(alloc, choice, network, query, &seen)
 }

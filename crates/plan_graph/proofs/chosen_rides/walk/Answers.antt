@@ -1,4 +1,5 @@
 use Rattle.plan_graph.proofs.Common.{◌<◌, recursion_from_All, count, Leg, All-from_contains}
+use Rattle.std.proofs.lemmas.Result.{IfOk-weaker}
 use Rattle.plan_graph.proofs.Walks.{walked}
 use Rattle.plan_graph.proofs.chosen_rides.walk.Goals as goal
 
@@ -9,4 +10,5 @@ rides_of-requires g c =
 
 pub returns-clause-walked : goal.returns-clause-walked
 returns-clause-walked g c =
-    rw c.in_ok-rides.ensures (walked c.args.network.now c.count-count.ensures.valid c.args.query.now _ c.args.start c.in_ok-seen.seen.keys c.in_ok-seen.ensures)
+    IfOk-weaker c.rides_of.result _ _
+    (λ rides are. rw are (walked c.args.network.now c.count-count.ensures.valid c.args.query.now _ c.args.start c.in_ok-seen.seen.keys c.in_ok-seen.ensures)) c.rides_of.ensures
