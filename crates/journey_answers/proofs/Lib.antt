@@ -6,3 +6,4 @@ pub mod Ruled
 pub mod SameReach
 pub mod TripFaults
 pub mod Unsafe
+pub mod GraphFiles

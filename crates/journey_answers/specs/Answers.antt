@@ -10,7 +10,7 @@ use Rattle.plan_graph.specs.declared.PlanGraph.{PlanGraph}
 use Rattle.decision_graph.specs.Expanded.{IsExpanded}
 use Rattle.decision_graph.specs.Planned.{IsPlanned}
 use Rattle.graph_text.specs.declared.Head.{Head}
-use Rattle.graph_text.specs.Reading.{IsReadAs}
+use Rattle.graph_text.specs.GraphRows.{IsTextOf}
 use Rattle.graph_text.specs.GraphTexts.{expanded_text, plan_text}
 use Rattle.printed_rows.specs.Writers.{place_name}
 use Rattle.journey_model.specs.declared.faults.Fault.{Fault}
@@ -55,12 +55,12 @@ AnswersExpand p found text query worst =
     (graph : ExpandedGraph) × (bounds : Interval) × (found ≡ expand_findings query worst graph bounds)
     × IsExpanded p.timetable.network query graph bounds × (text ≡ expanded_text p.timetable.network p.timetable.names (head_of query bounds) graph)
 
--- the answer of `plan`: a decision graph by place, with its bounds; the text reads back
+-- the answer of `plan`: a decision graph by place, with its bounds; the text is that of a graph file, row by row
 abbrev pub AnswersPlan : Problem → Findings → List ℕ → Query → Moment → Type 0
 AnswersPlan p found text query worst =
     (graph : PlanGraph) × (bounds : Interval) × (found ≡ plan_findings query worst graph bounds)
     × IsPlanned p.timetable.network query graph bounds × (text ≡ plan_text p.timetable.network p.timetable.names (head_of query bounds) graph)
-    × IsReadAs p.timetable.network p.timetable.names (head_of query bounds) graph text
+    × IsTextOf p.timetable.network p.timetable.names (head_of query bounds) graph text
 
 -- no strategy always reaches the target
 abbrev pub HasNoSafe : Problem → ℕ → Type 0

@@ -6,7 +6,7 @@ use Rattle.interval_fixed.specs.Interval.{Interval}
 use Rattle.plan_graph.specs.declared.PlanGraph.{PlanGraph}
 use Rattle.plan_graph.specs.Unfold.{unfold_plan}
 use Rattle.graph_text.specs.GraphTexts.{plan_text}
-use Rattle.graph_text.specs.Reading.{IsReadAs}
+use Rattle.graph_text.specs.GraphRows.{IsTextOf}
 use Rattle.graph_score.specs.Scores.{IsScored}
 use Rattle.late_chance.specs.Punctual.{IsPunctual}
 use Rattle.decision_graph.specs.LeastChances.{IsSeenLater}
@@ -15,10 +15,10 @@ use Rattle.journey_answers.specs.Answers.{head_of}
 use Rattle.journey_report.specs.Findings.{Findings, punctual_findings}
 use Rattle.journey_report.specs.AnswerTexts.{punctual_row}
 
--- the text of a graph with its chance is the row of the promise and the text of the graph, which reads back
+-- the text of a graph with its chance is the row of the promise and the text of the graph, which is that of a graph file
 pub record IsPunctualText (p : Problem) (promise : ℕ) (query : Query) (graph : PlanGraph) (chance bounds : Interval) (text : List ℕ) : Type 0 where
   pub rows : text ≡ punctual_row promise chance ++ plan_text p.timetable.network p.timetable.names (head_of query bounds) graph
-  pub reads_back : IsReadAs p.timetable.network p.timetable.names (head_of query bounds) graph (plan_text p.timetable.network p.timetable.names (head_of query bounds) graph)
+  pub reads_back : IsTextOf p.timetable.network p.timetable.names (head_of query bounds) graph (plan_text p.timetable.network p.timetable.names (head_of query bounds) graph)
 
 -- the answer of `punctual`: a decision graph by place with bounds of its chance to arrive after the promised moment, which is the least, and of its
 -- expected arrival

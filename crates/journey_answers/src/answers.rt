@@ -8,10 +8,11 @@ ghost use Rattle.journey_answers.specs.Answers.{IsWorst, IsQueryOf, InQuery, IsP
 ghost use Rattle.journey_report.specs.Findings.{findings_of, safe_findings};
 ghost use Rattle.plan_model.specs.Bounds.{end_of_time};
 
+use command_line::{Percent, Start};
 use decision_graph::{Found, expand, plan};
 use graph_text::{Head, fit_is_printable, ready_is_printable, write, write_expanded};
 use interval_fixed::Span;
-use journey_model::{Fault, Percent, Problem, Start};
+use journey_model::{Fault, Problem};
 use journey_report::{Answer, NamedQuery, Report, safe_text};
 use merged_runs::MergedRuns;
 use plan_graph::{ExpandedGraph, PlanGraph};
@@ -48,34 +49,6 @@ impl<'a> Asked<'a> {
     }
 }
 
-/// The least worst arrival of a journey from a start on; `None` if no strategy always reaches the target.
-fn worst_of<B: BackwardOrder>(
-    alloc: Global,
-    order: &mut B,
-    problem: &Problem,
-    start: Start,
-) -> Result<Option<Moment>, NoMemory>
-    requires fits { B.fits order.old problem.now.timetable.network }
-    requires whole { IsScanOrder problem.now.timetable.network
-        (B.rest order.old problem.now.timetable.network) }
-    ensures least { IfOk result (IsLeastWorst problem.now.timetable.network
-        problem.now.source.0 problem.now.target.0 start.moment.0) }
-    ensures order { IfOk result (λ worst. IfSome worst (λ w. start.moment.0 ≤ w.0)) }
-    ensures early { IfOk result (λ worst. IfSome worst (λ w. w.0 < end_of_time)) }
-    ensures fits { IfOk result (λ worst. B.fits order.new problem.now.timetable.network) }
-{
-    let network = &problem.timetable.network;
-    let worst = reserved_worst(
-        alloc,
-        network,
-        order,
-        problem.source,
-        problem.target,
-        start.moment,
-    )?;
-    Ok(worst)
-}
-
 /// The query of a journey from a start on, by a percentage for the deadline, with its least worst
 /// arrival, and an order for the scan that finds its graph. The percentage is of the time from the start to the
 /// least worst arrival. `NoSafe` if no strategy always reaches the target.
@@ -92,8 +65,17 @@ pub fn asked_of<'a>(
         ⟦<MergedRuns as BackwardOrder>⟧.fits found.1 problem.now.timetable.network) }
     ensures fault { IfErr result (IsNoAnswer problem.now start.moment.0) }
 {
-    let mut order = MergedRuns::new(alloc, &problem.timetable.network)?;
-    let Some(worst) = worst_of(alloc, &mut order, problem, start)? else {
+    let network = &problem.timetable.network;
+    let mut order = MergedRuns::new(alloc, network)?;
+    let found = reserved_worst(
+        alloc,
+        network,
+        &mut order,
+        problem.source,
+        problem.target,
+        start.moment,
+    )?;
+    let Some(worst) = found else {
         return Err(Fault::NoSafe);
     };
     let query = Query {

@@ -5,7 +5,8 @@ ghost use Rattle.journey_answers.specs.Certified.{AnswersCertify};
 ghost use Rattle.journey_report.specs.Findings.{findings_of};
 
 use crate::answers::{Answered, asked_of};
-use journey_model::{Percent, Problem, Start};
+use command_line::{Percent, Start};
+use journey_model::Problem;
 use journey_report::{Answer, Report};
 use lower_proof::{write, write_text};
 use std::alloc::Global;

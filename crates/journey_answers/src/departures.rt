@@ -13,8 +13,9 @@ ghost use Rattle.journey_answers.specs.Departures.{query_until, SafeOf, AreDepar
 ghost use Rattle.journey_report.specs.Findings.{findings_of};
 
 use crate::answers::Answered;
+use command_line::Start;
 use departure_table::{DepartureRow, extended_by, greatest, says_of_source, table};
-use journey_model::{Fault, Problem, Start};
+use journey_model::{Fault, Problem};
 use journey_report::{Answer, NamedQuery, Report, departures_text, latest_text};
 use meat_scan::{ScanTables, Scanned, scan};
 use merged_runs::MergedRuns;
@@ -114,15 +115,14 @@ fn rows_of(alloc: Global, asked: &QueryUntil, last: Moment) -> Result<List<Depar
 {
     let found = scan_from_added(alloc, asked)?;
     says_of_source();
-    let rows = table(
+    table(
         alloc,
         &found.scanned,
         &found.network,
         &found.query,
         asked.query.start,
         last,
-    )?;
-    Ok(rows)
+    )
 }
 
 /// The departures of a query, up to a last moment; `None` if nobody who sets out at the start is safe.

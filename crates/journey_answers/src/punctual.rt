@@ -13,11 +13,12 @@ ghost use Rattle.journey_report.specs.Findings.{findings_of, punctual_findings};
 ghost use Rattle.journey_answers.specs.Punctual.{IsPunctualText, AnswersPunctual};
 
 use crate::answers::{Answered, Asked, asked_of};
+use command_line::{Percent, Start};
 use decision_graph::{Found, PromisedQuery, punctual_plan};
 use graph_score::{Outlook, score_fit};
 use graph_text::{Head, fit_is_printable, write};
 use interval_fixed::Span;
-use journey_model::{Percent, Problem, Start};
+use journey_model::Problem;
 use journey_report::{Answer, Report, punctual_row};
 use late_chance::LateChance;
 use plan_graph::PlanGraph;
@@ -70,6 +71,7 @@ fn bounds_of(alloc: Global, asked: &Asked, graph: &PlanGraph) -> Result<Span, No
 }
 
 /// The text of a decision graph with its chance: the row of the promise, and the text of the graph.
+#[tactic(auto, using(crate::proofs::GraphFiles::has_rows))]
 fn punctual_text(
     alloc: Global,
     promise: &Promise,

@@ -8,8 +8,9 @@ ghost use Rattle.journey_report.specs.Findings.{findings_of};
 
 use crate::answers::Answered;
 use crate::departures::{QueryUntil, query_until, scan_of};
+use command_line::Start;
 use departure_table::{ReachRow, reach, with_every_gate};
-use journey_model::{Problem, Start};
+use journey_model::Problem;
 use journey_report::{Answer, Report, reach_text};
 use plan_model::{List, Moment, Network, NoMemory, PlaceId, Query};
 use std::alloc::Global;
@@ -27,6 +28,7 @@ fn reach_of(alloc: Global, network: &Network, query: &Query) -> Result<List<Reac
         ..*query
     };
     let scanned = scan_of(alloc, &extended, &asked)?;
+    // The proof takes two promises of the rows together, so they have a name.
     let rows = reach(alloc, &scanned, &extended, network, &asked)?;
     Ok(rows)
 }

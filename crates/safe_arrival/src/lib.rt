@@ -141,6 +141,7 @@ pub fn reserved_worst<B: BackwardOrder>(
         start,
         deadline: LAST_MOMENT,
     };
+    // The proof takes two promises of the moment together, so it has a name.
     let worst = reserved_worst_by(alloc, network, order, &query)?;
     Ok(worst)
 }

@@ -223,5 +223,6 @@ pub fn replay(
         trace.arrival.0 ≡ arrival_after query.now.start.0 trace.rides) }
     ensures stuck { IfErr result (IsStuckAfter network.now query.now) }
 {
+    // That a safe graph is never stuck follows from the other promises of `follow`.
     follow(alloc, graph, network, query, delays)
 }

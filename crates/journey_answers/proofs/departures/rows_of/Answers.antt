@@ -1,3 +1,4 @@
+use Rattle.std.proofs.lemmas.Result.{IfOk-weaker}
 use Rattle.journey_answers.proofs.Departing.{same_table}
 use Rattle.journey_answers.proofs.Ruled.{by_rules}
 use Rattle.journey_answers.proofs.departures.rows_of.Goals as goal
@@ -7,11 +8,13 @@ returns-clause-table c =
     let q = c.args.asked.now.query in
     let found = c.in_ok-found.found in
     let says = c.says_of_source.ensures found.network found.query c.args.asked.now.problem.now.timetable.network q.source.0 c.in_ok-found.ensures.extended in
-    same_table c.args.asked.now.problem.now q found.query c.in_ok-found.ensures.target c.in_ok-found.ensures.deadline q.start.0 c.args.last.0 c.in_ok-rows.rows
-    (says.tables q.start.0 c.args.last.0 c.in_ok-rows.rows c.args.asked.now.until.first c.in_ok-rows.ensures.table)
+    IfOk-weaker c.table.result _ _
+    (λ rows is. same_table c.args.asked.now.problem.now q found.query c.in_ok-found.ensures.target c.in_ok-found.ensures.deadline q.start.0 c.args.last.0 rows
+    (says.tables q.start.0 c.args.last.0 rows c.args.asked.now.until.first is)) c.table.ensures.table
 
 pub returns-clause-by_rules : goal.returns-clause-by_rules
 returns-clause-by_rules c =
     let found = c.in_ok-found.found in
-    by_rules c.args.asked.now.problem.now c.args.asked.now.query c.args.last.0 c.in_ok-rows.rows found.network found.query found.scanned
-    c.in_ok-found.ensures.network c.in_ok-found.ensures.query c.in_ok-found.ensures.ruled c.in_ok-rows.ensures.looked
+    IfOk-weaker c.table.result _ _
+    (λ rows looked. by_rules c.args.asked.now.problem.now c.args.asked.now.query c.args.last.0 rows found.network found.query found.scanned
+    c.in_ok-found.ensures.network c.in_ok-found.ensures.query c.in_ok-found.ensures.ruled looked) c.table.ensures.looked
