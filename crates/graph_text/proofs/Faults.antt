@@ -1,5 +1,5 @@
 -- The first fault of a text is that of its first row that breaks a rule, or of the first row that is missing.
-use Rattle.graph_text.proofs.Common.{◌≡◌, ◌≢◌, ℕ, zero, suc, ◌+◌, ◌-◌, Bool, true, false, List, [], ◌∷◌, Option, Some, None, IsSome, is_some, Result, Ok, Err, arith, sym, subst, refl, ◌∙◌, ap, ◌==◌}
+use Rattle.graph_text.proofs.Common.{◌≡◌, ◌≢◌, ℕ, suc, ◌+◌, ◌-◌, Bool, true, false, List, [], ◌∷◌, Option, Some, None, IsSome, is_some, Result, Ok, Err, arith, sym, subst, refl, ◌∙◌, ap, ◌==◌}
 use Rattle.graph_text.proofs.Common.{if◌then◌else◌, codes, inl, inr, ◌⊎◌, option_map, eqb-true, eq-eqb, ne_eqb, leb-true, le-leb, nat_le, false≢true, and_parts, cases_eq, moment_at, nanos_at}
 use Rattle.graph_text.proofs.Common.{if_cases, and_then, require, require-ok, Leg, PlaceId, NetworkModel, NameLists, IsValid, change_of, dep_of, GraphRow, PlanGraph, field, is_kind, whole_at}
 use Rattle.graph_text.proofs.Common.{number_of, rises, is_query, Head, TextFault, LegRow, LegNames, PlaceRow, HeadRow, TableStart, Reading, Version, width_of, is_place, is_head, version_in, IsLegRow}
@@ -16,29 +16,24 @@ use Rattle.graph_text.proofs.Tables.{leg_step, place_row_is, leg_row_is, after_l
 
 require_err : {A B E : Type 0} (o : Option A) (e : E) (next : A → Result B E) (fault : E) → require o e next ≡ Err fault
     → ((o ≡ None) × (e ≡ fault)) ⊎ ((a : A) × (o ≡ Some a) × (next a ≡ Err fault))
-require_err None e next fault is = inl (refl, (cc))
-require_err (Some a) e next fault is = inr (a, refl, is)
+require_err o e next fault is = grind arith
 
 if_err : {A E : Type 0} (test : Bool) (r : Result A E) (e fault : E) → (if test then r else Err e) ≡ Err fault
     → ((test ≡ false) × (e ≡ fault)) ⊎ ((test ≡ true) × (r ≡ Err fault))
-if_err true r e fault is = inr (refl, is)
-if_err false r e fault is = inl (refl, (cc))
+if_err test r e fault is = grind arith
 
 else_err : {A E : Type 0} (test : Bool) (r : Result A E) (e fault : E) → (if test then Err e else r) ≡ Err fault
     → ((test ≡ true) × (e ≡ fault)) ⊎ ((test ≡ false) × (r ≡ Err fault))
-else_err true r e fault is = inl (refl, (cc))
-else_err false r e fault is = inr (refl, is)
+else_err test r e fault is = grind arith
 
 then_err : {A B E : Type 0} (r : Result A E) (next : A → Result B E) (fault : E) → and_then r next ≡ Err fault
     → (r ≡ Err fault) ⊎ ((a : A) × (r ≡ Ok a) × (next a ≡ Err fault))
-then_err (Ok a) next fault is = inr (a, refl, is)
-then_err (Err e) next fault is = inl (cc)
+then_err r next fault is = grind arith
 
 -- the fault of a first part is that of the whole
 first_err : {A B C E : Type 0} (o : Option A) (e : E) (h : A → Result B E) (next : A → B → Result C E) (fault : E) → require o e h ≡ Err fault
     → require o e (λ a. and_then (h a) (next a)) ≡ Err fault
-first_err None e h next fault is = let same : e ≡ fault = (cc) in ap (λ x. Err x) same
-first_err (Some a) e h next fault is = rw is refl
+first_err o e h next fault is = grind arith
 
 none_some : {A : Type 0} (o : Option A) (a : A) → o ≡ None → o ≡ Some a → ⊥
 none_some o a none some = cc
@@ -50,8 +45,7 @@ some_is : {A : Type 0} (o : Option A) (a : A) → o ≡ Some a → IsSome o
 some_is o a is = ap is_some is
 
 some_value : {A : Type 0} (o : Option A) → IsSome o → (a : A) × (o ≡ Some a)
-some_value None some = absurd (false≢true some)
-some_value (Some a) some = (a, refl)
+some_value o some = grind arith
 
 some_same : {A : Type 0} (o : Option A) (a b : A) → o ≡ Some a → o ≡ Some b → a ≡ b
 some_same o a b x y = (cc)
@@ -67,41 +61,10 @@ tail_err o test value e fault is = grind (arith, require_err, if_err)
 
 module _ (line : ℕ) (form known later agreed asked : Type 0) where
   breaks_one : (a b : TextFault) → Breaks line form known later agreed asked a → Breaks line form known later agreed asked b → a ≡ b
-  breaks_one (f.Row i) (f.Row j) x y = ap (λ k. f.Row k) (x.0 ∙ sym y.0)
-  breaks_one (f.Row i) (f.UnknownName j) x y = absurd (x.1 y.1)
-  breaks_one (f.Row i) (f.NotRising j) x y = absurd (x.1 y.1)
-  breaks_one (f.Row i) (f.NoLeg j) x y = absurd (x.1 y.1)
-  breaks_one (f.Row i) (f.OtherQuery j) x y = absurd (x.1 y.1)
-  breaks_one (f.UnknownName i) (f.Row j) x y = absurd (y.1 x.1)
-  breaks_one (f.UnknownName i) (f.UnknownName j) x y = ap (λ k. f.UnknownName k) (x.0 ∙ sym y.0)
-  breaks_one (f.UnknownName i) (f.NotRising j) x y = absurd (x.2 y.2)
-  breaks_one (f.UnknownName i) (f.NoLeg j) x y = absurd (x.2 y.2)
-  breaks_one (f.UnknownName i) (f.OtherQuery j) x y = absurd (x.2 y.2)
-  breaks_one (f.NotRising i) (f.Row j) x y = absurd (y.1 x.1)
-  breaks_one (f.NotRising i) (f.UnknownName j) x y = absurd (y.2 x.2)
-  breaks_one (f.NotRising i) (f.NotRising j) x y = ap (λ k. f.NotRising k) (x.0 ∙ sym y.0)
-  breaks_one (f.NotRising i) (f.NoLeg j) x y = absurd (x.3 y.3)
-  breaks_one (f.NotRising i) (f.OtherQuery j) x y = absurd (x.3 y.3)
-  breaks_one (f.NoLeg i) (f.Row j) x y = absurd (y.1 x.1)
-  breaks_one (f.NoLeg i) (f.UnknownName j) x y = absurd (y.2 x.2)
-  breaks_one (f.NoLeg i) (f.NotRising j) x y = absurd (y.3 x.3)
-  breaks_one (f.NoLeg i) (f.NoLeg j) x y = ap (λ k. f.NoLeg k) (x.0 ∙ sym y.0)
-  breaks_one (f.NoLeg i) (f.OtherQuery j) x y = absurd (x.4 y.4)
-  breaks_one (f.OtherQuery i) (f.Row j) x y = absurd (y.1 x.1)
-  breaks_one (f.OtherQuery i) (f.UnknownName j) x y = absurd (y.2 x.2)
-  breaks_one (f.OtherQuery i) (f.NotRising j) x y = absurd (y.3 x.3)
-  breaks_one (f.OtherQuery i) (f.NoLeg j) x y = absurd (y.4 x.4)
-  breaks_one (f.OtherQuery i) (f.OtherQuery j) x y = ap (λ k. f.OtherQuery k) (x.0 ∙ sym y.0)
-  breaks_one f.NoMemory b x y = absurd x
-  breaks_one a f.NoMemory x y = absurd y
+  breaks_one a b x y = grind arith
 
   keeps_all : form → known → later → agreed → asked → (a : TextFault) → Breaks line form known later agreed asked a → ⊥
-  keeps_all one two three four five (f.Row i) x = x.1 one
-  keeps_all one two three four five (f.UnknownName i) x = x.2 two
-  keeps_all one two three four five (f.NotRising i) x = x.3 three
-  keeps_all one two three four five (f.NoLeg i) x = x.4 four
-  keeps_all one two three four five (f.OtherQuery i) x = x.5 five
-  keeps_all one two three four five f.NoMemory x = x
+  keeps_all one two three four five a x = grind arith
 
   -- where a value keeps all rules and a fault breaks the one that it names, the fault that is named is the result's
   broken_back : {A : Type 0} (r : Result A TextFault) → ((a : A) → r ≡ Ok a → form × known × later × agreed × asked)
@@ -399,16 +362,14 @@ module _ (n : NetworkModel) (names : NameLists) (version : Version) (valid : IsV
       (s.remaining ≡ suc more) × (option_map (λ place. place.0) s.place ≡ Some place) × (option_map (λ moment. moment.0) s.by ≡ last)
 
   place_of : (own : Option PlaceId) (place : ℕ) → option_map (λ place. place.0) own ≡ Some place → own ≡ Some (record { 0 = place })
-  place_of None place is = absurd (cc)
-  place_of (Some own) place is = (let same : own.0 ≡ place = (cc) in ap (λ (k : ℕ). Some (record { 0 = k })) same)
+  place_of own place is = grind arith
 
   -- after a leg row
   abbrev with_row : Reading → GraphRow → Reading
   with_row s row = if s.remaining == 1 then after_last s row else after_row s row
 
   next_after : (s : Reading) (place more : ℕ) (last : Option ℕ) (row : GraphRow) → IsNext s (LegNext place more last) → IsNext (with_row s row) (after_leg place more row.by.0)
-  next_after s place zero last row next = rw (eq-eqb s.remaining 1 (omega (arith, next.0))) (refl, next.1)
-  next_after s place (suc more) last row next = grind (arith, ne_eqb)
+  next_after s place more last row next = grind (arith, eq-eqb, ne_eqb)
 
   -- the step of a row of a place, and of a leg
   place_step : (line : ℕ) (r : List (List ℕ)) (s : Reading) (last : Option ℕ) → IsNext s (PlaceNext last) → step n names version line r s ≡ after_place_row s (table_in n names version line last r)
@@ -422,12 +383,10 @@ module _ (n : NetworkModel) (names : NameLists) (version : Version) (valid : IsV
       ∙ ap (λ (by : Option ℕ). after_leg_row s (row_in n names version line place by r)) next.2
 
   place_step_err : (s : Reading) (reported : Result TableStart TextFault) (fault : TextFault) → after_place_row s reported ≡ Err fault → reported ≡ Err fault
-  place_step_err s (Ok t) fault is = absurd (cc)
-  place_step_err s (Err e) fault is = (let same : e ≡ fault = (cc) in ap (λ x. Err x) same)
+  place_step_err s reported fault is = grind arith
 
   leg_step_err : (s : Reading) (reported : Result GraphRow TextFault) (fault : TextFault) → after_leg_row s reported ≡ Err fault → reported ≡ Err fault
-  leg_step_err s (Ok row) fault is = grind (arith, cases_eq, eq-eqb, ne_eqb)
-  leg_step_err s (Err e) fault is = (let same : e ≡ fault = (cc) in ap (λ x. Err x) same)
+  leg_step_err s reported fault is = grind (arith, cases_eq, eq-eqb, ne_eqb)
 
   leg_step_ok : (s : Reading) (row : GraphRow) → after_leg_row s (Ok row) ≡ Ok (with_row s row)
   leg_step_ok s row = grind (arith, cases_eq, eq-eqb, ne_eqb)
@@ -513,12 +472,7 @@ module _ (n : NetworkModel) (names : NameLists) (version : Version) (valid : IsV
 
     -- where the two are one place no row may follow
     start_same : (r : List (List ℕ)) → source ≡ target → (fault : TextFault) → BreaksAtStart n names version source target start r fault → ◌≡◌ {A = Result PlanGraph TextFault} (Err (f.Row 2)) (Err fault)
-    start_same r same (f.Row at) broken = ap (λ k. Err (f.Row k)) (sym broken.0)
-    start_same r same (f.UnknownName at) broken = absurd (broken.1.0 same)
-    start_same r same (f.NotRising at) broken = absurd (broken.1.0 same)
-    start_same r same (f.NoLeg at) broken = absurd (broken.1.0 same)
-    start_same r same (f.OtherQuery at) broken = absurd (broken.1.0 same)
-    start_same r same f.NoMemory broken = absurd broken
+    start_same r same fault broken = grind arith
 
     after_head_back : (rs : List (List (List ℕ))) (fault : TextFault) → HaveFaultAfterHead n names version source target start rs fault
         → graph_after_first n names version source target start rs ≡ Err fault

@@ -1,12 +1,11 @@
 -- The fields of printed rows.
-use Rattle.graph_text.proofs.Common.{arith, ◌≡◌, ℕ, List, [], ◌∷◌, take, decimal, moment_text, Leg, Connection, NetworkModel, NameLists, connection, Version, First, Second, width_of, ninth}
+use Rattle.graph_text.proofs.Common.{arith, ◌≡◌, ℕ, List, [], ◌∷◌, take, decimal, moment_text, Leg, Connection, NetworkModel, NameLists, connection, Version, width_of, ninth}
 use Rattle.graph_text.proofs.Common.{leg_fields, place_name, run_name}
 
 -- the fields that a version has of nine
 pub take_nine : (version : Version) (a b c d e f g h last a' b' c' d' e' f' g' h' last' : List ℕ) → a ≡ a' → b ≡ b' → c ≡ c' → d ≡ d' → e ≡ e' → f ≡ f' → g ≡ g' → h ≡ h' → last ≡ last'
     → ◌≡◌ {A = List (List ℕ)} (take (width_of version) (a ∷ b ∷ c ∷ d ∷ e ∷ f ∷ g ∷ h ∷ last ∷ [])) (a' ∷ b' ∷ c' ∷ d' ∷ e' ∷ f' ∷ g' ∷ h' ∷ ninth version last')
-take_nine First a b c d e f g h last a' b' c' d' e' f' g' h' last' = λ one two three four five six seven eight nine. cc
-take_nine Second a b c d e f g h last a' b' c' d' e' f' g' h' last' = λ one two three four five six seven eight nine. cc
+take_nine version a b c d e f g h last a' b' c' d' e' f' g' h' last' = grind arith
 
 -- the fields of a leg's row, from its connections
 pub leg_row_fields : (n : NetworkModel) (names : NameLists) (version : Version) (leg : Leg) (enter exit : Connection) (kind second run entry_step dep exit_step place arr from : List ℕ)

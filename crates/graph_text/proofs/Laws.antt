@@ -1,5 +1,5 @@
 -- Which graphs can be printed.
-use Rattle.graph_text.proofs.Common.{◌≡◌, ℕ, ◌<◌, length, Option, Some, None, arith, [], MatchOption, IfSome, slice_index_or, Leg, Query, NetworkModel, IsValid, limit_of, GraphRow, PlanGraph}
+use Rattle.graph_text.proofs.Common.{◌≡◌, ℕ, ◌<◌, length, Option, Some, arith, [], MatchOption, IfSome, slice_index_or, Leg, Query, NetworkModel, IsValid, limit_of, GraphRow, PlanGraph}
 use Rattle.graph_text.proofs.Common.{IsLegOf, IsReady, IsFit, IsFitStart, IsPrintableExpanded, IsPrintablePlan, end_of_arrivals}
 use Rattle.plan_model.proofs.Boarding.{limit_of-some, way_takes}
 use Rattle.plan_graph.specs.declared.ExpandedGraph.{ExpandedGraph}
@@ -13,8 +13,7 @@ module _ (n : NetworkModel) (valid : IsValid n) where
   place_there place limit leg is_leg is = grind (arith, limit_of-some, way_takes)
 
   start_leg : (start : Option Leg) (P : Type 0) (Q : Leg → Type 0) → MatchOption start P Q → ((leg : Leg) → Q leg → IsLegOf n leg) → IfSome start (IsLegOf n)
-  start_leg None P Q is each = tt
-  start_leg (Some leg) P Q is each = each leg is
+  start_leg start P Q is each = grind arith
 
   pub ready_printable : (q : Query) (graph : ExpandedGraph) → IsReady n q graph → IsPrintableExpanded n graph
   ready_printable q graph ready = grind (arith, start_leg, limit_soon)

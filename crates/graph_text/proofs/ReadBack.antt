@@ -22,15 +22,13 @@ use Rattle.printed_rows.proofs.Printed.{IsKept, AreKept, kept-append, table_back
 
 -- what holds of either version holds of each
 by_version : (P : Version → Type 0) → P First → P Second → (version : Version) → P version
-by_version P first second First = first
-by_version P first second Second = second
+by_version P first second version = grind arith
 
 fields_kept : (version : Version) (a b c d e f g h last : List ℕ) → trimmed_text a ≡ a → trimmed_text b ≡ b → trimmed_text c ≡ c → trimmed_text d ≡ d
     → trimmed_text e ≡ e
     → trimmed_text f ≡ f → trimmed_text g ≡ g → trimmed_text h ≡ h → trimmed_text last ≡ last
     → IsKept (a ∷ b ∷ c ∷ d ∷ e ∷ f ∷ g ∷ h ∷ ninth version last)
-fields_kept First a b c d e f g h last one two three four five six seven eight nine = cc
-fields_kept Second a b c d e f g h last one two three four five six seven eight nine = cc
+fields_kept version a b c d e f g h last one two three four five six seven eight nine = grind arith
 
 rows-append : (rows more : List (List (List ℕ))) → text_of_records (rows ++ more) ≡ text_of_records rows ++ text_of_records more
 rows-append [] more = refl
@@ -180,8 +178,7 @@ module _ (n : NetworkModel) (names : NameLists) (version : Version) (valid : IsV
   -- a graph that fits, by the start leg and the tables
   graph_printed : (head : Head) (start : Option Leg) (tables : List PlaceTable) → IsFit n head.query (record { start = start; tables = tables })
       → plan_text_in n names version head (record { start = start; tables = tables }) ≡ text_of_records (head_record names version head ∷ graph_records n names version start tables)
-  graph_printed head None tables own_graph = grind (arith, head_record, eq-eqb)
-  graph_printed head (Some leg) tables own_graph = grind (arith, head_record, leg_record, codes, ne_eqb, tables_printed)
+  graph_printed head start tables own_graph = grind (arith, eq-eqb, ne_eqb, tables_printed)
 
   graph_back : (q : Query) (start : Option Leg) (tables : List PlaceTable) → IsFit n q (record { start = start; tables = tables })
       → All (IsReportedTable n version) tables

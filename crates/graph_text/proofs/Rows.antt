@@ -11,27 +11,22 @@ use Rattle.printed_rows.proofs.Found.{connection_back, connection_holds}
 
 pub numbers_reported : (a b c d e : Option ℕ) (x : LegRow) → leg_numbers a b c d e ≡ Some x
     → (a ≡ Some x.moment.0) × (b ≡ Some x.enter) × (c ≡ Some x.dep.0) × (d ≡ Some x.exit) × (e ≡ Some x.arr.0)
-numbers_reported (Some a) (Some b) (Some c) (Some d) (Some e) x is = grind arith
-numbers_reported _ _ _ _ _ x is = absurd (cc)
+numbers_reported a b c d e x is = grind arith
 
 pub names_reported : (a b c : Option ℕ) (known : LegNames) → option_and_then (λ run. option_and_then (λ exit. option_map (λ entry. leg_names run exit entry) c) b) a ≡ Some known
     → (a ≡ Some known.run.0) × (b ≡ Some known.exit.0) × (c ≡ Some known.entry.0)
-names_reported (Some a) (Some b) (Some c) known is = grind arith
-names_reported _ _ _ known is = absurd (cc)
+names_reported a b c known is = grind arith
 
 found_reported : (test : ℕ → ℕ → Bool) (a b : Option ℕ) (leg : Leg) → option_and_then (λ i. option_and_then (λ j. if test i j then Some (leg_between i j) else None) b) a ≡ Some leg
     → (a ≡ Some leg.enter.0) × (b ≡ Some leg.exit.0) × (test leg.enter.0 leg.exit.0 ≡ true)
-found_reported test (Some i) (Some j) leg is = grind (arith, some_cases)
-found_reported test _ _ leg is = absurd (cc)
+found_reported test a b leg is = grind (arith, some_cases)
 
 pub place_numbers_reported : (a b : Option ℕ) (x : PlaceRow) → place_numbers a b ≡ Some x → (a ≡ Some x.change) × (b ≡ Some x.count) × (1 ≤ x.count)
-place_numbers_reported (Some a) (Some b) x is = grind (arith, some_cases, leb-true)
-place_numbers_reported _ _ x is = absurd (cc)
+place_numbers_reported a b x is = grind (arith, some_cases, leb-true)
 
 pub head_numbers_reported : (a b c d : Option ℕ) (x : HeadRow) → head_numbers a b c d ≡ Some x
     → (a ≡ Some x.start.0) × (b ≡ Some x.deadline.0) × (c ≡ Some x.lo) × (d ≡ Some x.hi) × (are_in_order x.start.0 x.deadline.0 x.lo x.hi ≡ true)
-head_numbers_reported (Some a) (Some b) (Some c) (Some d) x is = grind (arith, some_cases)
-head_numbers_reported _ _ _ _ x is = absurd (cc)
+head_numbers_reported a b c d x is = grind (arith, some_cases)
 
 module _ (n : NetworkModel) (names : NameLists) (version : Version) (kind : List ℕ) (place : ℕ) (r : List (List ℕ)) where
   leg_reported : (x : LegRow) (known : LegNames) (leg : Leg) → leg_row_in version kind r ≡ Some x → names_in version names place r ≡ Some known → leg_found n x known ≡ Some leg

@@ -22,8 +22,7 @@ read_raised {A} fault (Err again) reported raised is = subst (λ (f : TextFault)
 
 pub fault_on : {A B : Type 0} (fault : TextFault) (reported : Result A TextFault) (next : A → Result B TextFault) → IsUnlessNoMemory {A = A} (Err fault) reported
     → IsUnlessNoMemory {A = B} (Err fault) (and_then reported next)
-fault_on f.NoMemory reported next is = tt
-fault_on _ reported next is = ap (λ r. and_then r next) is
+fault_on fault reported next is = grind arith
 
 -- the tables of the records from one on, after the step of this one
 pub tables_after : (n : NetworkModel) (names : NameLists) (version : Version) (rows : List (List (List ℕ))) (line i : ℕ) (s now : Reading) → i < length rows
@@ -41,8 +40,7 @@ pub reported_by : (n : NetworkModel) (names : NameLists) (version : Version) (so
     → Some version ≡ version_in (slice_index_or rows 0 []) → Ok head ≡ head_in names version source target start (slice_index_or rows 0 [])
     → IsUnlessNoMemory r (and_then (graph_after_first n names version source target start (drop 1 rows)) (λ graph. Ok (head, graph)))
     → IsUnlessNoMemory r (graph_of_records n names source target start rows)
-reported_by n names version source target start [] head r found is read = absurd (cc)
-reported_by n names version source target start (first ∷ rows) head r found is read = rw (← found, ← is) read
+reported_by n names version source target start rows head r found is read = grind arith
 
 -- ---- the rows of tables are read as the tables that they give, and as no others
 
@@ -56,9 +54,7 @@ RiseFrom number last (x ∷ xs) = (rises last (number x) ≡ true) × RiseFrom n
 module _ {X : Type 0} (number : X → ℕ) where
   all_above : (low : ℕ) (xs : List X) → RiseFrom number (Some low) xs → All (λ x. low < number x) xs
   all_above low [] rise = All-nil (λ x. low < number x)
-  all_above low (x ∷ xs) rise =
-      let first = ltb-true low (number x) rise.0 in
-      All-cons (λ y. low < number y) x xs first (λ k d within. let more = all_above (number x) xs rise.1 k d within in omega arith)
+  all_above low (x ∷ xs) rise = grind (arith, ltb-true, All-cons, all_above (number x) xs rise.1)
 
   pairs_from_rise : (last : Option ℕ) (xs : List X) → RiseFrom number last xs → AllPairs (λ a b. number a < number b) xs
   pairs_from_rise last [] rise = λ i j d less within. absurd (omega (arith, less, within))
@@ -85,8 +81,7 @@ place_number t = t.place.0
 
 pub place_row_is : (s now : Reading) (reported : Result TableStart TextFault) → after_place_row s reported ≡ Ok now
     → (t : TableStart) × (reported ≡ Ok t) × (record { done = s.done; place = Some t.place; rows = []; by = None; remaining = t.count } ≡ now)
-place_row_is s now (Ok t) is = (t, refl, (cc))
-place_row_is s now (Err e) is = absurd (cc)
+place_row_is s now reported is = grind arith
 
 module _ (s : Reading) (row : GraphRow) where
   abbrev pub after_last : Reading
@@ -97,8 +92,7 @@ module _ (s : Reading) (row : GraphRow) where
 
 pub leg_row_is : (s now : Reading) (reported : Result GraphRow TextFault) → after_leg_row s reported ≡ Ok now
     → (row : GraphRow) × (reported ≡ Ok row) × (◌≡◌ {A = Result Reading TextFault} (if s.remaining == 1 then Ok (after_last s row) else Ok (after_row s row)) (Ok now))
-leg_row_is s now (Ok row) is = (row, refl, is)
-leg_row_is s now (Err e) is = absurd (cc)
+leg_row_is s now reported is = grind arith
 
 module _ (n : NetworkModel) (names : NameLists) (version : Version) where
   -- these rows give the rows of a table that are to come

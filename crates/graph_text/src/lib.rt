@@ -22,6 +22,7 @@ ghost use Rattle.graph_text.specs.declared.reader.TextFault.{TextFault as Fault}
 ghost use Rattle.graph_text.specs.Asked.{IsHeadOf};
 ghost use Rattle.graph_text.specs.Printable.{IsPrintableQuery, IsPrintableExpanded, IsPrintablePlan};
 
+mod columns;
 mod printer;
 mod reader;
 mod version;

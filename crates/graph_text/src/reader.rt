@@ -11,8 +11,8 @@ ghost use Rattle.graph_text.specs.Reading.{graph_after_first, started_in, graph_
 ghost use Rattle.graph_text.specs.Versions.{width_of};
 ghost use Rattle.printed_rows.specs.Fields.{is_kind};
 
-use crate::Head;
 use crate::version::{Version, width};
+use crate::{Head, columns};
 use clock_text::{read_moment, read_nanos};
 use csv_rows::{Rows, RowsFault, at_line};
 use interval_fixed::Span;
@@ -243,11 +243,11 @@ impl<'a> Reader<'a> {
         if !self.is_kind(printed, kind) {
             return None;
         }
-        let moment = read_moment(printed.field(1))?;
-        let enter = whole(printed.field(3))?;
-        let dep = read_moment(printed.field(4))?;
-        let exit = whole(printed.field(5))?;
-        let arr = read_moment(printed.field(7))?;
+        let moment = read_moment(printed.field(columns::BY))?;
+        let enter = whole(printed.field(columns::ENTER))?;
+        let dep = read_moment(printed.field(columns::DEPARTURE))?;
+        let exit = whole(printed.field(columns::EXIT))?;
+        let arr = read_moment(printed.field(columns::ARRIVAL))?;
         Some(LegRow {
             moment,
             enter,
@@ -264,7 +264,7 @@ impl<'a> Reader<'a> {
     {
         match self.version {
             Version::First => Some(here),
-            Version::Second => self.names.place(printed.field(8)),
+            Version::Second => self.names.place(printed.field(columns::ENTRY_PLACE)),
         }
     }
 
@@ -273,8 +273,8 @@ impl<'a> Reader<'a> {
         ensures { result ≡ names_in self.now.version self.now.names here.0
             printed.now.fields }
     {
-        let run = self.names.run(printed.field(2))?;
-        let exit = self.names.place(printed.field(6))?;
+        let run = self.names.run(printed.field(columns::RUN))?;
+        let exit = self.names.place(printed.field(columns::EXIT_PLACE))?;
         let entry = self.entry_of(printed, here)?;
         Some(LegNames { run, exit, entry })
     }
@@ -372,14 +372,14 @@ impl<'a> Reader<'a> {
         }
     }
 
-    /// Whether the fields of a place row after its numbers are empty, up to the eighth.
+    /// Whether the fields of a place row after its numbers are empty, up to that of an arrival.
     fn is_blank(&self, printed: &Record<'_>) -> bool
         ensures { result ≡ is_blank printed.now.fields }
     {
-        printed.field(4).len() == 0
-            && printed.field(5).len() == 0
-            && printed.field(6).len() == 0
-            && printed.field(7).len() == 0
+        printed.field(columns::DEPARTURE).len() == 0
+            && printed.field(columns::EXIT).len() == 0
+            && printed.field(columns::EXIT_PLACE).len() == 0
+            && printed.field(columns::ARRIVAL).len() == 0
     }
 
     /// Whether the field of the entry place is empty, if the version has one.
@@ -388,7 +388,7 @@ impl<'a> Reader<'a> {
     {
         match self.version {
             Version::First => true,
-            Version::Second => printed.field(8).len() == 0,
+            Version::Second => printed.field(columns::ENTRY_PLACE).len() == 0,
         }
     }
 
@@ -406,8 +406,8 @@ impl<'a> Reader<'a> {
         if !self.is_place(printed) {
             return None;
         }
-        let change = whole(printed.field(2))?;
-        let count = whole(printed.field(3))?;
+        let change = whole(printed.field(columns::CHANGE))?;
+        let count = whole(printed.field(columns::COUNT))?;
         if count == 0 {
             return None;
         }
@@ -424,7 +424,7 @@ impl<'a> Reader<'a> {
         let Some(numbers) = self.place_row(printed) else {
             return Err(TextFault::Row(line));
         };
-        let Some(place) = self.names.place(printed.field(1)) else {
+        let Some(place) = self.names.place(printed.field(columns::PLACE)) else {
             return Err(TextFault::UnknownName(line));
         };
         if !rises(last.map(|last| u64::from(last)), u64::from(place.0)) {
@@ -527,10 +527,10 @@ impl<'a> Reader<'a> {
         if !self.is_head(printed) {
             return None;
         }
-        let start = read_moment(printed.field(4))?;
-        let deadline = read_moment(printed.field(5))?;
-        let lo = read_nanos(printed.field(6))?;
-        let hi = read_nanos(printed.field(7))?;
+        let start = read_moment(printed.field(columns::START))?;
+        let deadline = read_moment(printed.field(columns::DEADLINE))?;
+        let lo = read_nanos(printed.field(columns::LOWER))?;
+        let hi = read_nanos(printed.field(columns::UPPER))?;
         if !are_in_order(start, deadline, lo, hi) {
             return None;
         }
@@ -552,8 +552,8 @@ impl<'a> Reader<'a> {
         let Some(numbers) = self.head_row(&first) else {
             return Err(TextFault::Row(1));
         };
-        let from = self.names.place(first.field(2));
-        let to = self.names.place(first.field(3));
+        let from = self.names.place(first.field(columns::SOURCE));
+        let to = self.names.place(first.field(columns::TARGET));
         let (Some(from), Some(to)) = (from, to) else {
             return Err(TextFault::UnknownName(1));
         };
@@ -612,7 +612,7 @@ impl<'a> Reader<'a> {
 fn version_of(rows: &Rows) -> Option<Version>
     ensures { result ≡ version_in (header rows.now) }
 {
-    let number = Record::first(rows).field(1);
+    let number = Record::first(rows).field(columns::VERSION);
     if number == b"1".as_slice() {
         return Some(Version::First);
     }

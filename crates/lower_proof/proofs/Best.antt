@@ -1,4 +1,5 @@
 -- What is accepted is a lower bound on each safe tree, and a tight certificate is the best.
+use Rattle.std.proofs.lemmas.Grind.{common_steps}
 use Rattle.lower_proof.proofs.Common.{◌≡◌, ◌≢◌, ℕ, ◌+◌, ◌*◌, ◌/◌, ◌^◌, ◌≤◌, List, [], ◌∷◌, Option, Some, None, arith, refl, map, length, sum_by, inl, inr, mul_assoc, mul-add, mul-le-mul_left}
 use Rattle.lower_proof.proofs.Common.{nat_tests, Outcome, Query, NetworkModel, to_of, arr_of, outcomes, IsValid, count, connection, dep_of, IsLeg, IsBoardable, IsBoardableAtStart, IsSafe, AreSafe}
 use Rattle.lower_proof.proofs.Common.{IsSafeFor, weighted, bound_of, IsLeastOf, Offers, arrived_by, IsLeastValue, IsLeastAt, AreLeast, HasValueUpTo, IsAccepted, IsLeastAtStart, IsVia, IsTight}
@@ -15,8 +16,7 @@ use Rattle.lower_proof.proofs.Departures.{after, after_less, after_starts, after
 use Rattle.lower_proof.proofs.Vias.{IsLeast-unique}
 
 pub at_most : (o : Option ℕ) (v : ℕ) → HasValueUpTo o v → (w : ℕ) × (o ≡ Some w) × (w ≤ v)
-at_most None v h = absurd h
-at_most (Some w) v h = (w, refl, h)
+at_most o v h = grind arith
 
 module _ (n : NetworkModel) (q : Query) (values : List (Option ℕ)) where
   -- who is at the target has arrived
@@ -108,9 +108,7 @@ module _ (n : NetworkModel) (q : Query) (values : List (Option ℕ)) where
 -- a sum of values that are all raised
 raised_sum : (row : List Outcome) (values : List ℕ) (k : ℕ) → length row ≡ length values → weighted row (map (λ v. v + k) values) ≡ weighted row values + k * sum_by (λ o. o.weight) row
 raised_sum [] [] k same = omega arith
-raised_sum (o ∷ row) (v ∷ values) k same =
-    rw (sum_by-cons (λ o. o.weight) o row, raised_sum row values k (omega arith))
-    (omega (arith, mul-add o.weight v k, mul-add k o.weight (sum_by (λ o. o.weight) row)))
+raised_sum (o ∷ row) (v ∷ values) k same = grind (arith, common_steps, sum_by-cons, mul-add, sum_by, raised_sum row values k (omega arith))
 raised_sum _ _ k same = absurd (omega arith)
 
 -- rounding down and up again loses less than one
@@ -248,8 +246,7 @@ module _ (n : NetworkModel) (valid : IsValid n) (q : Query) (values others : Lis
 
   -- and so is a value at a connection
   up_to_more : (o : Option ℕ) (v w : ℕ) → v ≤ w → HasValueUpTo o v → HasValueUpTo o w
-  up_to_more None v w less has = absurd has
-  up_to_more (Some u) v w less has = omega (arith, less, has)
+  up_to_more o v w less has = grind arith
 
   lesser_boarded : (c v : ℕ) → c < count n → IsTrue (connection n c).can_board → bound_of values c ≡ Some v → HasValueUpTo (bound_of others c) v
   lesser_boarded c v there board is =
@@ -264,13 +261,7 @@ module _ (n : NetworkModel) (valid : IsValid n) (q : Query) (values others : Lis
   never_valued c v none is = absurd (cc)
 
   pub lesser_values : IsNowhereAbove values others
-  lesser_values c v is = elim (cases_lt c (count n)) [
-    | inl there ↦ elim (cases_Bool (connection n c).can_board) [
-      | inl board ↦ lesser_boarded c v there board is
-      | inr closed ↦ never_valued c v (tight.others c there (λ board. both_ways (connection n c).can_board closed board)) is
-    ]
-    | inr past ↦ never_valued c v (get_or_past values c None (rw tight.as_many past)) is
-  ]
+  lesser_values c v is = grind (arith, cases_lt, cases_Bool, lesser_boarded, never_valued, both_ways, get_or_past)
 
 pub greatest : (n : NetworkModel) → IsValid n → (q : Query) (values : List (Option ℕ)) → IsTight n q values → (v : ℕ) → IsLeastAtStart n q values (Some v) → IsGreatestCertificate n q v
 greatest n valid q values tight v least others w accepted other_least =

@@ -1,5 +1,5 @@
 -- How many connections depart after a moment, and what holds of each least value, since it does where it holds of those after later departures.
-use Rattle.lower_proof.proofs.Common.{◌≡◌, ◌≢◌, ℕ, zero, suc, ◌+◌, ◌*◌, ◌<◌, ◌≤◌, cond, ltb, List, Option, Some, arith, inl, inr, refl, subst, cases_eq, cases_lt, nat_tests, Query, NetworkModel}
+use Rattle.lower_proof.proofs.Common.{◌≡◌, ◌≢◌, ℕ, zero, suc, ◌+◌, ◌*◌, ◌<◌, ◌≤◌, cond, ltb, List, Option, Some, arith, refl, cases_eq, cases_lt, nat_tests, Query, NetworkModel}
 use Rattle.lower_proof.proofs.Common.{IsValid, count, dep_of, IsBoardable, boards_later, Offers, arrived_by, IsLeastAt}
 
 -- the sum of the first m
@@ -14,10 +14,7 @@ total_le f g (suc m) each = omega (arith, each m, total_le f g m each)
 -- where one is less
 total_lt : (f g : ℕ → ℕ) (c m : ℕ) → c < m → ((k : ℕ) → f k ≤ g k) → f c + 1 ≤ g c → total f m + 1 ≤ total g m
 total_lt f g c zero within each less = absurd (omega arith)
-total_lt f g c (suc m) within each less = elim (cases_lt c m) [
-  | inl before ↦ omega (arith, each m, total_lt f g c m before each less)
-  | inr last ↦ let e : c ≡ m = omega arith in omega (arith, total_le f g m each, subst (λ k. f k + 1 ≤ g k) e less)
-]
+total_lt f g c (suc m) within each less = grind (arith, cases_lt, total_le, total_lt f g c m)
 
 total_ones : (m : ℕ) → total (λ k. 1) m ≡ m
 total_ones zero = refl

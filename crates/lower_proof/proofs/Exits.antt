@@ -1,4 +1,5 @@
 -- The least values of leaving the runs, over the connections that are scanned.
+use Rattle.std.proofs.lemmas.Grind.{common_steps}
 use Rattle.lower_proof.proofs.Common.{◌≡◌, ◌≢◌, ℕ, ◌<◌, ◌≤◌, List, [], ◌∷◌, ◌++◌, length, set, Option, Some, None, IsTrue, arith, inl, inr, sym, ◌∙◌, subst, refl, ◌+◌, length-set, ConnectionId}
 use Rattle.lower_proof.proofs.Common.{Query, NetworkModel, count, connection, dep_of, run_of, IsValid, to_of, arr_of, outcomes, IsLeg, IsBoardable, bound_of, IsLeastOf, IsVia, IsLocal, IsAccepted}
 use Rattle.lower_proof.proofs.Common.{IsLastFault, Offers, IsLeastAt, AreLeast, lesser, KeepsTo, exit_of, IsBestExit, Known, IsNext, forward, Departure, NoneAfter, AreDepartingBy, Outcome}
@@ -89,15 +90,7 @@ module _ {n : NetworkModel} (good : IsValid n) {q : Query} {values : List (Optio
     best_ride board = least_ride n q values last taken e.id scanned_is_next board best best_leaving
 
     pub scanned_next : IsScanned n q values last (e.id ∷ taken) rest (set exits (run_of n e.id.0) best)
-    scanned_next =
-        let mine = run_of n e.id.0 in
-        record {
-          rest = rest_popped n good last taken before rest e popped scanned.rest;
-          runs = λ c there. omega (arith, scanned.runs c there, length-set exits mine best);
-          are_exits = λ run. get_or-set (λ r. IsLeastOf (LeavesBy n q values last (e.id ∷ taken) r)) exits mine run best None
-              (scanned.runs e.id.0 scanned_is_next.there) best_leaving
-              (λ differ. other_run n q values last taken e.id scanned_is_next run differ (exit_of exits run) (scanned.are_exits run));
-        }
+    scanned_next = grind (arith, common_steps, rest_popped, length-set, get_or-set, scanned_is_next, best_leaving, other_run)
 
 -- ---- and while a check runs: the values that were scanned are kept to
 

@@ -1,26 +1,19 @@
 -- The least of numbers that are found one after the other.
-use Rattle.lower_proof.proofs.Common.{◌≡◌, ℕ, zero, suc, ◌+◌, ◌<◌, ◌≤◌, ◌⊎◌, List, Option, Some, None, IsTrue, arith, inl, inr, ap, subst, refl, both_ways, cases_Bool, cases_eq, cases_lt}
+use Rattle.lower_proof.proofs.Common.{◌≡◌, ℕ, zero, suc, ◌+◌, ◌<◌, ◌≤◌, ◌⊎◌, List, Option, Some, None, IsTrue, arith, inl, inr, subst, refl, both_ways, cases_Bool, cases_eq, cases_lt}
 use Rattle.lower_proof.proofs.Common.{NetworkModel, count, connection, from_of, dep_of, way_of, IsBoardable, IsBoardableAtStart, bound_of, IsLeastOf, Offers, HasValueUpTo, lesser, KeepsTo}
 
 -- with what may be one number more
 module _ (P Q : ℕ → Type 0) (there : (v : ℕ) → P v → Q v) where
   pub least_with : (r here : Option ℕ) → IsLeastOf P r → ((v : ℕ) → here ≡ Some v → Q v) → ((v : ℕ) → Q v → P v ⊎ (here ≡ Some v)) → IsLeastOf Q (lesser r here)
-  least_with None None least own cases = grind arith
-  least_with None (Some u) least own cases = grind arith
-  least_with (Some v) None least own cases = grind arith
-  least_with (Some v) (Some u) least own cases = grind (arith, cases_lt)
+  least_with r here least own cases = grind (arith, cases_lt)
 
   -- with none more
   pub least_same : (r : Option ℕ) → ((v : ℕ) → Q v → P v) → IsLeastOf P r → IsLeastOf Q r
-  least_same None back least = λ v h. least v (back v h)
-  least_same (Some v) back least = (there v least.0, λ w h. least.1 w (back w h))
+  least_same r back least = grind arith
 
 -- there is only one least
 pub IsLeastOf-unique : (P : ℕ → Type 0) (r s : Option ℕ) → IsLeastOf P r → IsLeastOf P s → r ≡ s
-IsLeastOf-unique P None None h k = refl
-IsLeastOf-unique P None (Some w) h k = absurd (h w k.0)
-IsLeastOf-unique P (Some v) None h k = absurd (k v h.0)
-IsLeastOf-unique P (Some v) (Some w) h k = let e : v ≡ w = omega (arith, h.1 w k.0, k.1 v h.0) in ap (λ (m : ℕ). Some m) e
+IsLeastOf-unique P r s h k = grind arith
 
 -- the least is P
 pub least_is : (P : ℕ → Type 0) (r : Option ℕ) (v : ℕ) → IsLeastOf P r → r ≡ Some v → P v
@@ -28,8 +21,7 @@ least_is P r v least is = (subst (IsLeastOf P) is least).0
 
 -- and not above any
 pub least_up_to : (P : ℕ → Type 0) (r : Option ℕ) (v : ℕ) → IsLeastOf P r → P v → HasValueUpTo r v
-least_up_to P None v least h = least v h
-least_up_to P (Some w) v least h = least.1 v h
+least_up_to P r v least h = grind arith
 
 -- of those of the first m
 abbrev pub Below : (ℕ → ℕ → Type 0) → ℕ → ℕ → Type 0
@@ -108,12 +100,8 @@ module _ (n : NetworkModel) (values : List (Option ℕ)) (p x : ℕ) where
 
 -- a value at most the least is at most each
 pub keeps_to_each : (P : ℕ → Type 0) (own best : Option ℕ) → IsLeastOf P best → KeepsTo own best → (v : ℕ) → P v → HasValueUpTo own v
-keeps_to_each P own None least keeps v h = absurd (least v h)
-keeps_to_each P None (Some b) least keeps v h = absurd keeps
-keeps_to_each P (Some w) (Some b) least keeps v h = let less = least.1 v h in omega arith
+keeps_to_each P own best least keeps v h = grind arith
 
 -- one that is at most each is at most the least
 pub each_keeps_to : (P : ℕ → Type 0) (own best : Option ℕ) → IsLeastOf P best → ((v : ℕ) → P v → HasValueUpTo own v) → KeepsTo own best
-each_keeps_to P own None least each = tt
-each_keeps_to P None (Some b) least each = each b least.0
-each_keeps_to P (Some w) (Some b) least each = each b least.0
+each_keeps_to P own best least each = grind arith

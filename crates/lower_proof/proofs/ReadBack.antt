@@ -1,4 +1,5 @@
 -- What was printed of a certificate is read back, and how its rows are printed one after another.
+use Rattle.std.proofs.lemmas.Grind.{common_steps}
 use Rattle.lower_proof.proofs.Common.{◌≡◌, ◌≢◌, ℕ, zero, suc, ◌+◌, ◌<◌, ◌≤◌, ◌^◌, true, List, [], ◌∷◌, length, Option, Some, None, Ok, Err, Result, arith, inl, inr, sym, ◌∙◌, ap, subst, refl, ◌++◌}
 use Rattle.lower_proof.proofs.Common.{drop, cond, is_some, codes, decimal, slice_index_or, count_by, option_map, ext_get_or, append-nil, eq-eqb, lt-ltb, le-leb, IfOk, OnOk, result_err, max-le}
 use Rattle.lower_proof.proofs.Common.{sum_by-cons, drop_all, cases_eq, last_printable, table_of, row_count, Query, NetworkModel, NameLists, NamesFit, AreNames, IsValid, count, step_of, rises}
@@ -123,8 +124,7 @@ module _ (n : NetworkModel) (names : NameLists) (valid : IsValid n) (fit : Names
         ap (connection_in n names) r.3 ∙ named_back (offset_at values i) r.0 r.1 (small (offset_at values i) r.0 r.2)
 
     row_rises : (i : ℕ) → i < length rows → rises (connection_before n names table i) (offset_at values i) ≡ true
-    row_rises zero within = refl
-    row_rises (suc i) within = grind (arith, offset_at, row_connection, lt-ltb, offsets_rise)
+    row_rises i within = grind (arith, row_connection, lt-ltb, offsets_rise)
 
     row_faultless : (stated i : ℕ) → i < stated → i < length rows → value_fault n names table stated i ≡ None
     row_faultless stated i inside within =
@@ -141,8 +141,7 @@ module _ (n : NetworkModel) (names : NameLists) (valid : IsValid n) (fit : Names
         (at.0, at.1, row_is at.0 ∙ at.2 ∙ ap (λ (d : ℕ). value_record n names d v) e)
 
     never_reported : (c : ℕ) → ((i : ℕ) → i < length rows → connection_in n names (value_row table i) ≢ Some c) → (own_value : Option ℕ) → bound_of values c ≡ own_value → own_value ≡ None
-    never_reported c never None is = refl
-    never_reported c never (Some v) is = grind (arith, row_for, named_back, present)
+    never_reported c never own_value is = grind (arith, row_for, named_back, present)
 
     -- and no other values are given
     only : (stated : ℕ) (others : List (Option ℕ)) → AreValuesReported n names table stated others → others ≡ values
@@ -224,16 +223,13 @@ module _ (n : NetworkModel) (names : NameLists) (valid : IsValid n) (fit : Names
 
 one_more : (n : NetworkModel) (names : NameLists) (c : ℕ) (x : Option ℕ) (values : List (Option ℕ))
     → entry_text n names c x ++ text_of_records (value_records n names (c + 1) values) ≡ text_of_records (value_records n names c (x ∷ values))
-one_more n names c None values = refl
-one_more n names c (Some v) values = refl
+one_more n names c x values = grind arith
 
 -- after one entry more
 pub values_step : (n : NetworkModel) (names : NameLists) (values : List (Option ℕ)) (i : ℕ) (new old all : List ℕ) → i < length values
     → new ≡ old ++ entry_text n names i (slice_index_or values i None) → old ++ text_of_records (value_records n names i (drop i values)) ≡ all
     → new ++ text_of_records (value_records n names (i + 1) (drop (i + 1) values)) ≡ all
-values_step n names values i new old all within is before =
-    text_step new old (entry_text n names i (slice_index_or values i None)) (text_of_records (value_records n names (i + 1) (drop (i + 1) values))) all is
-    (rw (one_more n names i (slice_index_or values i None) (drop (i + 1) values), ← split_at values i None within) before)
+values_step n names values i new old all within is before = grind (arith, common_steps, text_step, one_more, split_at)
 
 -- after the last one
 pub values_done : (n : NetworkModel) (names : NameLists) (values : List (Option ℕ)) (i : ℕ) (new all : List ℕ) → length values ≤ i

@@ -1,6 +1,6 @@
 -- A text gives one certificate, or has one first fault, and that is never that memory ran out.
-use Rattle.lower_proof.proofs.Common.{◌≡◌, ◌≢◌, ℕ, zero, suc, ◌+◌, ◌<◌, ◌⊎◌, Bool, true, false, List, Option, Some, None, Ok, Err, Result, arith, inl, inr, sym, ◌∙◌, ap, subst, ext_get_or}
-use Rattle.lower_proof.proofs.Common.{if◌then◌else◌, result_err, cases_eq, cases_lt, cases_order, table_of, row_count, header, Query, NetworkModel, NameLists, field, number_of, connection_of, rises}
+use Rattle.lower_proof.proofs.Common.{◌≡◌, ◌≢◌, ℕ, zero, suc, ◌+◌, ◌<◌, ◌⊎◌, Bool, List, Option, Some, None, Ok, Err, Result, arith, inl, inr, sym, ◌∙◌, ap, subst, ext_get_or}
+use Rattle.lower_proof.proofs.Common.{if◌then◌else◌, result_err, cases_eq, cases_lt, cases_order, row_count, header, Query, NetworkModel, NameLists, field, number_of, connection_of, rises}
 use Rattle.lower_proof.proofs.Common.{is_query, LowerBounds, BoundsRow, RowValue, ProofFault, Row, UnknownName, NoConnection, NotRising, OtherQuery, NoMemory, bound_of, bounds_row_in, bounds_in}
 use Rattle.lower_proof.proofs.Common.{value_row_in, connection_in, reported_in, value_row, connection_before, IsFirstLineFault, IsFaultAfter, AreValuesReported, IsProofReported, IsProofRead}
 use Rattle.plan_model.specs.Results.{require}
@@ -9,12 +9,10 @@ use Rattle.plan_model.specs.Results.{require}
 
 -- the fault of a chain is that of its first part, or of the rest
 require-err : {A B E : Type 0} (o : Option A) (fault : E) (next : A → Result B E) (f : E) → require o fault next ≡ Err f → (fault ≡ f) ⊎ ((a : A) × (next a ≡ Err f))
-require-err None fault next f is = inl (cc)
-require-err (Some a) fault next f is = inr (a, is)
+require-err o fault next f is = grind arith
 
 if-err : {A E : Type 0} (test : Bool) (a : A) (fault f : E) → (if test then Ok a else Err fault) ≡ Err f → fault ≡ f
-if-err true a fault f is = absurd (cc)
-if-err false a fault f is = cc
+if-err test a fault f is = grind arith
 
 reported_in_memory : (n : NetworkModel) (names : NameLists) (line : ℕ) (before : Option ℕ) (r : List (List ℕ)) → reported_in n names line before r ≡ Err NoMemory → ⊥
 reported_in_memory n names line before r is = elim (require-err (value_row_in r) (Row line) _ NoMemory is) [
@@ -41,12 +39,10 @@ bounds_in_memory names source target start r is = elim (require-err (bounds_row_
 ]
 
 result_err-some : {A E : Type 0} (r : Result A E) (f : E) → result_err r ≡ Some f → r ≡ Err f
-result_err-some (Ok a) f is = absurd (cc)
-result_err-some (Err e) f is = let same : e ≡ f = cc in ap Err same
+result_err-some r f is = grind arith
 
 cond_memory : (test : Bool) (reported : Result RowValue ProofFault) (line : ℕ) → (reported ≡ Err NoMemory → ⊥) → (if test then result_err reported else Some (Row line)) ≡ Some NoMemory → ⊥
-cond_memory true reported line not is = not (result_err-some reported NoMemory is)
-cond_memory false reported line not is = absurd (cc)
+cond_memory test reported line not is = grind (arith, result_err-some)
 
 after_memory : (n : NetworkModel) (names : NameLists) (t : List (List (List ℕ))) (first : Result BoundsRow ProofFault) → (first ≡ Err NoMemory → ⊥) → IsFaultAfter n names t first NoMemory → ⊥
 after_memory n names t (Ok bounds) not late =
@@ -70,8 +66,7 @@ same_read : (a b : Query × LowerBounds) → a.0 ≡ b.0 → a.1.values ≡ b.1.
 same_read a b query values = λ i. (query i, record { values = values i })
 
 is_number : (o : Option ℕ) (c : ℕ) → (o ≡ Some c) ⊎ (o ≢ Some c)
-is_number None c = inr (λ e. cc)
-is_number (Some d) c = elim (cases_eq d c) [ inl same ↦ inl (ap Some same) | inr other ↦ inr (λ e. other (cc)) ]
+is_number o c = grind (arith, cases_eq)
 
 module _ (n : NetworkModel) (names : NameLists) (t : List (List (List ℕ))) where
   -- one of the first m rows is of a connection, or none is
@@ -101,13 +96,11 @@ module _ (n : NetworkModel) (names : NameLists) (t : List (List (List ℕ))) whe
   one_fault stated f g one two = grind (arith, cases_order)
 
   after_one : (first : Result BoundsRow ProofFault) (f g : ProofFault) → IsFaultAfter n names t first f → IsFaultAfter n names t first g → f ≡ g
-  after_one (Ok bounds) f g one two = one_fault bounds.number f g one two
-  after_one (Err fault) f g one two = sym one ∙ two
+  after_one first f g one two = grind (arith, one_fault)
 
   not_both : (first : Result BoundsRow ProofFault) (bounds : BoundsRow) (values : List (Option ℕ)) (f : ProofFault) → first ≡ Ok bounds
       → AreValuesReported n names t bounds.number values → IsFaultAfter n names t first f → ⊥
-  not_both (Ok own) bounds values f is reported late = grind arith
-  not_both (Err fault) bounds values f is reported late = absurd (cc)
+  not_both first bounds values f is reported late = grind arith
 
 module _ (n : NetworkModel) (names : NameLists) (source target start : ℕ) where
   one_reported : (t : List (List (List ℕ))) (a b : Query × LowerBounds) → IsProofReported n names source target start t a.0 a.1.values → IsProofReported n names source target start t b.0 b.1.values → a ≡ b
@@ -121,10 +114,4 @@ module _ (n : NetworkModel) (names : NameLists) (source target start : ℕ) wher
   -- what is read of a text is one, unless memory runs out
   pub read_once : (text : List ℕ) (r s : Result (Query × LowerBounds) ProofFault) → IsProofRead n names source target start text r → IsProofRead n names source target start text s
       → r ≢ Err NoMemory → s ≢ Err NoMemory → r ≡ s
-  read_once text (Ok a) (Ok b) one two _ _ = ap Ok (one_reported (table_of text) a b one two)
-  read_once text (Ok a) (Err g) one (inl none) _ some = absurd (some (ap Err none))
-  read_once text (Ok a) (Err g) one (inr late) _ _ = absurd (not_both n names (table_of text) _ one.bounds a.1.values g one.head one.reported late)
-  read_once text (Err f) s (inl none) two some _ = absurd (some (ap Err none))
-  read_once text (Err f) (Ok b) (inr late) two _ _ = absurd (not_both n names (table_of text) _ two.bounds b.1.values f two.head two.reported late)
-  read_once text (Err f) (Err g) (inr late) (inl none) _ some = absurd (some (ap Err none))
-  read_once text (Err f) (Err g) (inr late) (inr other) _ _ = ap Err (after_one n names (table_of text) _ f g late other)
+  read_once text r s given one two three = grind (arith, one_reported, not_both, after_one)

@@ -29,8 +29,7 @@ reports n names line before r reported is =
     by_parts row run one two is = rw (one, two) is
 
 above : (last : Option ℕ) (l c : ℕ) → last ≡ Some l → rises last c ≡ true → l < c
-above None l c is rise = absurd (cc)
-above (Some k) l c is rise = let same : k ≡ l = cc in subst (λ (m : ℕ). m < c) same (ltb-true k c rise)
+above last l c is rise = grind (arith, ltb-true)
 
 -- ---- the rows below i
 

@@ -1,4 +1,5 @@
 -- The value of leaving by a connection.
+use Rattle.std.proofs.lemmas.Grind.{common_steps}
 use Rattle.lower_proof.proofs.Common.{◌≡◌, ℕ, zero, suc, ◌+◌, ◌*◌, ◌/◌, ◌<◌, ◌≤◌, List, [], ◌∷◌, ◌++◌, length, take, drop, get_or, Option, Some, None, IsTrue, arith, sym, ◌∙◌, ap, subst, refl}
 use Rattle.lower_proof.proofs.Common.{sum_by, mul-le-mul_left, mul-add, mul_comm, cases_eq, take_more, sum_by-cons, Outcome, Query, NetworkModel, IsValid, count, connection, to_of, arr_of, outcomes}
 use Rattle.lower_proof.proofs.Common.{boards_later, weighted, IsLeastOf, IsLeastValue, IsLeastAt, AreLeast, IsVia, NoneAfter}
@@ -21,12 +22,7 @@ room_step w v s t most small room = grind (arith, mul-le-mul_left, mul-add, mul_
 pub room_next : (items : List Outcome) (k sum v : ℕ) → k < length items → v ≤ 18446744073709551615
     → sum + 18446744073709551615 * sum_by (λ o. o.weight) (drop k items) ≤ 184467440737095516150000
     → sum + (outcome_at items k).weight * v + 18446744073709551615 * sum_by (λ o. o.weight) (drop (k + 1) items) ≤ 184467440737095516150000
-room_next items k sum v within small room =
-    let e : k + 1 ≡ suc k = omega arith in
-    let rest = sum_by (λ (o : Outcome). o.weight) (drop (suc k) items) in
-    let split : sum_by (λ (o : Outcome). o.weight) (drop k items) ≡ (outcome_at items k).weight + rest = ap (sum_by (λ (o : Outcome). o.weight))
-    (drop-cons items k (record { delay = 0; weight = 0 }) within) ∙ sum_by-cons (λ (o : Outcome). o.weight) (outcome_at items k) (drop (suc k) items) in
-    rw e (room_step (outcome_at items k).weight v sum rest 18446744073709551615 small (rw split at room))
+room_next items k sum v within small room = grind (arith, common_steps, sum_by, drop-cons, sum_by-cons, room_step)
 
 module _ (n : NetworkModel) (q : Query) (values : List (Option ℕ)) (p arrival : ℕ) where
   -- and only one after each outcome

@@ -1,5 +1,5 @@
 -- The boards of all places, and what is known while a certificate is written.
-use Rattle.lower_proof.proofs.Common.{◌≡◌, ◌≢◌, ℕ, ◌+◌, ◌<◌, ◌≤◌, List, length, set, Option, Some, [], arith, inl, inr, sym, ◌∙◌, ap, subst, ◌∷◌, ◌++◌, None, IsTrue, Bool, true, false, cond, refl}
+use Rattle.lower_proof.proofs.Common.{◌≡◌, ◌≢◌, ℕ, ◌+◌, ◌<◌, ◌≤◌, List, length, set, Option, Some, [], arith, inl, inr, sym, ◌∙◌, ap, subst, ◌∷◌, ◌++◌, None, IsTrue, Bool, cond, refl}
 use Rattle.lower_proof.proofs.Common.{get_or-set_other, length-set, cases_lt, Query, NetworkModel, count, dep_of, IsValid, connection, arr_of, run_of, IsBoardable, Entry, Departure, bound_of}
 use Rattle.lower_proof.proofs.Common.{IsLeastOf, Offers, IsLeastAt, IsTight, ShownBoard, entry_at, AreEntries, FrontValue, ValueInTime, least_of, NoneAfter, AreDepartingBy, AreLate, IsBoard}
 use Rattle.lower_proof.proofs.Common.{board_at, IsBoardOf, AreBoards, AllLate, boards_later, ConnectionId, exit_of, IsBestExit, Known, known_left_out}
@@ -74,8 +74,7 @@ abbrev pub given : Bool → Option ℕ → Option ℕ
 given board best = cond board best None
 
 none_given : (b : Bool) (best : Option ℕ) → (IsTrue b → ⊥) → given b best ≡ None
-none_given true best never = absurd (never refl)
-none_given false best never = refl
+none_given b best never = grind arith
 
 -- the least value of its rides, where it can be boarded
 abbrev HasOwn : NetworkModel → Query → List (Option ℕ) → ℕ → Option ℕ → Type 0

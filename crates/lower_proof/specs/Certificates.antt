@@ -1,6 +1,7 @@
 -- What a certificate says: for each connection a lower bound, in nanoseconds, on the expected arrival of who boards it.
 use Rattle.std.specs.Prelude.{◌≡◌, ◌≢◌, ℕ, ◌+◌, ◌*◌, ◌/◌, ◌<◌, ◌≤◌, List, [], ◌∷◌, Option, Some, None, IsTrue, length, nat_le, if◌then◌else◌, slice_index_or}
 use Rattle.plan_model.specs.Bounds.{nanos_per_second}
+use Rattle.plan_model.specs.declared.units.TheConstants.{WHOLE_WEIGHT}
 use Rattle.plan_model.specs.declared.model.Outcome.{Outcome}
 use Rattle.plan_model.specs.declared.model.Query.{Query}
 use Rattle.plan_model.specs.NetworkModel.{NetworkModel}
@@ -56,7 +57,7 @@ pub record IsVia (network : NetworkModel) (query : Query) (values : List (Option
   pub leave : IsTrue (connection network j).can_exit
   pub least : List ℕ
   pub are_least : AreLeast network query values (to_of network j) (arr_of network j) (outcomes network j) least
-  pub mean : weighted (outcomes network j) least / 10000 ≡ v
+  pub mean : weighted (outcomes network j) least / WHOLE_WEIGHT ≡ v
 
 -- it has a value, and that is at most this one
 abbrev pub HasValueUpTo : Option ℕ → ℕ → Type 0

@@ -17,6 +17,7 @@ ghost use Rattle.interval_fixed.specs.Interval.{end_of_nanos};
 ghost use Rattle.plan_model.specs.Bounds.{end_of_time};
 
 mod board;
+mod columns;
 mod laws;
 mod printer;
 mod reader;
@@ -25,11 +26,14 @@ mod walk;
 use board::{Board, boards};
 use interval_fixed::Span;
 pub use laws::{each_value_is_a_bound, no_text_lacks_memory, one_text_is_one_certificate};
-use plan_model::{ConnectionId, List, Moment, Network, NoMemory, PlaceId, Query};
+use plan_model::{ConnectionId, List, Moment, Network, NoMemory, PlaceId, Query, WHOLE_WEIGHT};
 pub use printer::write_text;
 pub use reader::{ProofFault, read_text};
 use std::alloc::Global;
 use walk::{departures_by, last_departure};
+
+/// The sum of the weights of a class of delays, as wide as the sums that it divides.
+const WHOLE: u128 = WHOLE_WEIGHT as u128;
 
 /// A lower bound for each connection that has one, in nanoseconds since 1970-01-01.
 #[derive(Drop)]
@@ -145,7 +149,7 @@ fn via(
             Some(value) => sum += u128::from(outcome.weight) * u128::from(value),
         }
     }
-    Some((sum / 10_000) as u64)
+    Some((sum / WHOLE) as u64)
 }
 
 /// Room for the least value of leaving each run, with none known yet.

@@ -5,7 +5,7 @@ ghost use Rattle.csv_rows.specs.Tables.{header};
 ghost use Rattle.plan_model.specs.Network.{count};
 ghost use Rattle.lower_proof.specs.Reading.{is_bounds, bounds_row_in, bounds_in, value_row_in, reported_in, IsFirstLineFault, AreValuesReported, IsProofRead};
 
-use crate::{LowerBounds, no_values};
+use crate::{LowerBounds, columns, no_values};
 use clock_text::{read_moment, read_nanos};
 use csv_rows::{Rows, RowsFault, at_line};
 use plan_model::{ConnectionId, List, Moment, Names, Network, NoMemory, PlaceId, Query};
@@ -98,7 +98,8 @@ pub(crate) struct RowValue {
 fn is_bounds(printed: &Record<'_>) -> bool
     ensures { result ≡ is_bounds printed.now.fields }
 {
-    printed.is_kind(b"bounds", 7) && printed.field(1) == b"1".as_slice()
+    printed.is_kind(b"bounds", columns::BOUNDS_WIDTH)
+        && printed.field(columns::VERSION) == b"1".as_slice()
 }
 
 /// Whether a start is not after a deadline.
@@ -115,9 +116,9 @@ fn bounds_row(printed: &Record<'_>) -> Option<BoundsRow>
     if !is_bounds(printed) {
         return None;
     }
-    let start = read_moment(printed.field(4))?;
-    let deadline = read_moment(printed.field(5))?;
-    let number = whole(printed.field(6))?;
+    let start = read_moment(printed.field(columns::START))?;
+    let deadline = read_moment(printed.field(columns::DEADLINE))?;
+    let number = whole(printed.field(columns::COUNT))?;
     if !is_in_time(start, deadline) {
         return None;
     }
@@ -142,8 +143,8 @@ fn read_bounds(
     let Some(numbers) = bounds_row(&first) else {
         return Err(ProofFault::Row(1));
     };
-    let from = names.place(first.field(2));
-    let to = names.place(first.field(3));
+    let from = names.place(first.field(columns::SOURCE));
+    let to = names.place(first.field(columns::TARGET));
     let (Some(from), Some(to)) = (from, to) else {
         return Err(ProofFault::UnknownName(1));
     };
@@ -158,11 +159,11 @@ fn read_bounds(
 fn value_numbers(printed: &Record<'_>) -> Option<ValueRow>
     ensures { result ≡ value_row_in printed.now.fields }
 {
-    if !printed.is_kind(b"value", 4) {
+    if !printed.is_kind(b"value", columns::VALUE_WIDTH) {
         return None;
     }
-    let step = whole(printed.field(2))?;
-    let value = read_nanos(printed.field(3))?;
+    let step = whole(printed.field(columns::STEP))?;
+    let value = read_nanos(printed.field(columns::VALUE))?;
     Some(ValueRow { step, value })
 }
 
@@ -180,7 +181,7 @@ fn read_value(
     let Some(numbers) = value_numbers(printed) else {
         return Err(ProofFault::Row(line));
     };
-    let Some(run) = names.run(printed.field(1)) else {
+    let Some(run) = names.run(printed.field(columns::RUN)) else {
         return Err(ProofFault::UnknownName(line));
     };
     let Some(id) = connection_of(network, run, numbers.step) else {
