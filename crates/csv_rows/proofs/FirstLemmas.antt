@@ -1,6 +1,6 @@
 -- The first fault below a number, step by step, and that it is the least of all that hold.
 use Rattle.csv_rows.proofs.Common.{◌≡◌, ℕ, zero, suc, ◌+◌, ◌<◌, Bool, true, false, ◌||◌, ◌&&◌, Option, Some, None, option_map, if◌then◌else◌, refl, sym, ap, ap₂, ◌∙◌, subst, arith, ⊎_elim}
-use Rattle.csv_rows.proofs.Common.{eq-or-lt_of_le, add-one, ◌⊎◌, inl, inr, Decides, cond_some, none-some, cases_Bool, and_from, and_parts, false_from_ne_true, Decides-below_or, option_or}
+use Rattle.csv_rows.proofs.Common.{eq-or-lt_of_le, add-one, ◌⊎◌, Decides, cond_some, none-some, cases_Bool, and_from, and_parts, false_from_ne_true, Decides-below_or, option_or}
 use Rattle.csv_rows.proofs.Common.{first_below, any_below}
 
 pub first-zero : {F : Type 0} (f : ℕ → Option F) → first_below f 0 ≡ None
@@ -28,8 +28,7 @@ first-at f k (suc n) e l none here =
     (λ (less : k < n). first-suc f n ∙ ap (λ x. option_or x (f n)) (first-at f k n e less none here)) (eq-or-lt_of_le (omega arith))
 
 pub none-both : {F : Type 0} (a b : Option F) → option_or a b ≡ None → (a ≡ None) × (b ≡ None)
-none-both None b h = (refl, h)
-none-both (Some x) b h = absurd (cc)
+none-both a b h = grind arith
 
 -- where there is none, none holds
 pub none-each : {F : Type 0} (f : ℕ → Option F) (n : ℕ) → first_below f n ≡ None → (k : ℕ) → k < n → f k ≡ None
@@ -48,8 +47,7 @@ pub record IsFirst {F : Type 0} (f : ℕ → Option F) (n : ℕ) (e : F) : Type 
   pub none : (j : ℕ) → j < index → f j ≡ None
 
 some_one : {F : Type 0} (a b : Option F) (e : F) → option_or a b ≡ Some e → (a ≡ Some e) ⊎ ((a ≡ None) × (b ≡ Some e))
-some_one None b e h = inr (refl, h)
-some_one (Some x) b e h = inl h
+some_one a b e h = grind arith
 
 -- what comes first is the least of all that hold
 pub first-is : {F : Type 0} (f : ℕ → Option F) (n : ℕ) (e : F) → first_below f n ≡ Some e → IsFirst f n e
@@ -103,9 +101,7 @@ first-same f g (suc n) h = first-suc f n ∙ ap₂ option_or (first-same f g n (
 
 reported-if : {F : Type 0} (fault : ℕ → F) (b : Bool) (i : ℕ) (o : Option ℕ)
     → option_or (option_map fault o) (if b then Some (fault i) else None) ≡ option_map fault (option_or o (if b then Some i else None))
-reported-if fault true i None = refl
-reported-if fault false i None = refl
-reported-if fault b i (Some k) = refl
+reported-if fault b i o = grind arith
 
 -- the fault of the first index at which it holds
 pub first-reported : {F : Type 0} (fault : ℕ → F) (p : ℕ → Bool) (n : ℕ)

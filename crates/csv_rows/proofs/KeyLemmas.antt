@@ -46,8 +46,7 @@ module _ (test : ℕ → Bool) (group order : ℕ → ℕ) (n : ℕ) (keys : Lis
   earlier_key m k l inside same = search (rules, less_group, less_orders)
 
   pub before_inside : (k : ℕ) → k < length keys → (o : Option Key) → IsBefore keys k o → IfSome o (λ b. b.row < n)
-  before_inside k h None b = tt
-  before_inside k h (Some x) b = let P : Key → Type 0 = λ y. y.row < n in subst P (sym b.1) (s.inside (k - 1) (omega (arith, b.0)))
+  before_inside k h o b = grind arith
 
   -- the orders of a group rise, where no two rows have one group and one order
   pub rises : AreApart group order n → (k m : ℕ) → k < m → m < length keys → (key_at keys k).group ≡ (key_at keys m).group → (key_at keys k).order < (key_at keys m).order
@@ -89,8 +88,7 @@ module _ (test : ℕ → Bool) (group order : ℕ → ℕ) (n : ℕ) (keys : Lis
   -- the row of the key before comes just before
   just_to : AreApart group order n → (k : ℕ) → 0 < k → k < length keys → (key_at keys (k - 1)).group ≡ (key_at keys k).group → just (key_at keys (k - 1)).row (key_at keys k).row ≡ true
   unfolding just between
-  just_to apart k some h same =
-      grind (arith, common_steps, and_from, ahead_to, rises, not_from_false, any-false, between, and_parts, ahead, key_of_first, ahead_from, lower)
+  just_to apart k some h same = grind (arith, common_steps, common_steps, and_from, ahead_to, rises, not_from_false, any-false, between, and_parts, ahead, key_of_first, ahead_from, lower)
 
   -- and no other does
   just_from : AreApart group order n → (k : ℕ) → k < length keys → (x : ℕ) → x < n → just x (key_at keys k).row ≡ true

@@ -1,5 +1,5 @@
 -- Fields, and the rows that they make.
-use Rattle.csv_rows.proofs.Common.{◌≡◌, ℕ, ◌<◌, Bool, List, [], length, slice_index_or, Option, Some, None, if◌then◌else◌, refl, sym, ap, ◌∙◌, arith, bytes_eq, IfSome, option_map, subst, cases_Bool}
+use Rattle.csv_rows.proofs.Common.{◌≡◌, ℕ, ◌<◌, Bool, List, [], length, slice_index_or, Option, Some, None, if◌then◌else◌, sym, ap, ◌∙◌, arith, bytes_eq, IfSome, option_map, cases_Bool}
 use Rattle.csv_rows.proofs.Common.{same_Some, is_utf8, option_or, name_in, number_in}
 use Rattle.csv_rows.proofs.FirstLemmas.{index_by-some}
 
@@ -19,8 +19,7 @@ name_text text x h = let e : Some x ≡ Some text = sym h ∙ name_is text x h i
 
 -- what holds of each value of a field, holds of the one that is there, where it is optional
 pub mapped-each : {A : Type 0} (P : A → Type 0) (o : Option A) → ((x : A) → o ≡ Some x → P x) → (r : Option A) → option_map Some o ≡ Some r → IfSome r P
-mapped-each P None h r e = absurd (cc)
-mapped-each P (Some x) h r e = subst (λ (y : Option _). IfSome y P) (same_Some (Some x) r e) (h x refl)
+mapped-each P o h r e = grind (arith, same_Some)
 
 pub optional-each : {A : Type 0} (P : A → Type 0) (none : Bool) (o : Option A) → ((x : A) → o ≡ Some x → P x) → (r : Option A)
     → (if none then Some None else option_map Some o) ≡ Some r → IfSome r P

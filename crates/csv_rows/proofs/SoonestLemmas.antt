@@ -1,5 +1,5 @@
 -- The soonest of the faults of rows, key by key, and that it is the first.
-use Rattle.csv_rows.proofs.Common.{◌≡◌, ℕ, ◌+◌, ◌<◌, ◌≤◌, nat_lt, Bool, true, false, ◌⊎◌, inl, inr, List, length, Option, Some, None, option_map, if◌then◌else◌, refl, sym, subst, arith, ⊎_elim}
+use Rattle.csv_rows.proofs.Common.{◌≡◌, ℕ, ◌+◌, ◌<◌, ◌≤◌, nat_lt, Bool, true, false, ◌⊎◌, List, length, Option, Some, None, option_map, if◌then◌else◌, sym, subst, arith, ⊎_elim}
 use Rattle.csv_rows.proofs.Common.{below_more, cases_Bool, ltb-true, ltb-false, first_below, Key, key_at, AreSorted, sooner}
 use Rattle.csv_rows.proofs.FirstLemmas.{first-none, first-at}
 
@@ -19,10 +19,7 @@ module _ {F : Type 0} (f : ℕ → Option F) (n : ℕ) (keys : List Key) where
 
   step : (m : ℕ) (first : Option (ℕ × F)) (o : Option F) → row m < n → f (row m) ≡ o → IsSoonest f n keys m first → IsSoonest f n keys (m + 1) (sooner first (row m) o)
   unfolding row
-  step m None None inside here h = below_more (λ k. f (row k) ≡ None) m h here
-  step m (Some x) None inside here h = (h.0, h.1, below_more (λ k. (f (row k) ≡ None) ⊎ (x.0 ≤ row k)) m h.2 (inl here))
-  step m None (Some e) inside here h = (here, inside, below_more (λ k. (f (row k) ≡ None) ⊎ (row m ≤ row k)) m (λ k l. inl (h k l)) (inr (omega arith)))
-  step m (Some x) (Some e) inside here h = nearer m x e (nat_lt x.0 (row m)) refl inside here h
+  step m first o inside here h = grind (arith, below_more, row, nearer)
 
   -- one more key
   pub soonest-next : (m : ℕ) (old new : Option (ℕ × F)) (o : Option F) → (key_at keys m).row < n → f (key_at keys m).row ≡ o → new ≡ sooner old (key_at keys m).row o

@@ -1,5 +1,5 @@
 -- Trimmed fields neither begin nor end with a space.
-use Rattle.csv_rows.proofs.Common.{◌≡◌, ℕ, zero, suc, Option, Some, None, ◌+◌, Bool, true, false, ◌==◌, List, [], ◌∷◌, ◌++◌, map, reverse, slice_index_or, if◌then◌else◌, refl, sym, ap, ◌∙◌, arith}
+use Rattle.csv_rows.proofs.Common.{◌≡◌, ℕ, zero, suc, Option, Bool, true, false, ◌==◌, List, [], ◌∷◌, ◌++◌, map, reverse, slice_index_or, if◌then◌else◌, refl, sym, ap, ◌∙◌, arith}
 use Rattle.csv_rows.proofs.Common.{cases_Bool, common_steps, nat_tests, reverse-append, reverse-reverse, IsTrimmed, drop_spaces, trimmed_text, AreTrimmed, field_at}
 
 start_if : (t : Bool) (b : ℕ) (bs dropped rest : List ℕ) → (b == 32) ≡ t → (dropped ≡ 32 ∷ rest → ⊥) → (if t then dropped else b ∷ bs) ≡ 32 ∷ rest → ⊥
@@ -65,5 +65,4 @@ AreTrimmed-map (row ∷ rows) (suc i) k = AreTrimmed-map rows i k
 
 -- and so is a field under a column
 pub IsTrimmed-field : (t : List (List (List ℕ))) (column : Option ℕ) (i : ℕ) → AreTrimmed t → IsTrimmed (field_at t column i)
-IsTrimmed-field t None i h = IsTrimmed-nil
-IsTrimmed-field t (Some k) i h = h (i + 1) k
+IsTrimmed-field t column i h = grind (arith, IsTrimmed-nil)

@@ -27,7 +27,7 @@ pub use Rattle.plan_model.specs.NameLists.{Adds, AreDistinct, IsTrimmed, NameLis
 pub use Rattle.plan_model.specs.Network.{AreLinks, IsValid, IsValidConnection, count}
 unfoldable pub use Rattle.plan_model.specs.Network.{change_of, connection}
 pub use Rattle.plan_model.specs.NetworkModel.{NetworkModel, plain_network}
-pub use Rattle.cut_file.specs.CutKeys.{AreCutKeys, beside, cut_row, run_of, step_of}
+pub use Rattle.cut_file.specs.CutKeys.{AreCutKeys, cut_row, fault_after, run_of, step_of}
 pub use Rattle.cut_file.specs.CutNetwork.{IsCutNetwork, IsRide}
 unfoldable pub use Rattle.cut_file.specs.CutNetwork.{largest}
 pub use Rattle.cut_file.specs.CutNetworks.{AreConnections, IsConnection, IsNetwork, change_by, change_from, change_seconds_of}

@@ -1,7 +1,7 @@
--- The fault of a row beside the row before it in its run, by the keys.
+-- The fault of a row after the row before it in its run, by the keys.
 use Rattle.cut_file.proofs.Common.{cases_Bool, ◌≡◌, ℕ, ◌+◌, ◌<◌, ◌==◌, nat_lt, Bool, true, false, not, ◌&&◌, ◌||◌, List, length, Option, Some, None, if◌then◌else◌, sym, ap, ap₂, ◌∙◌, subst, arith}
 use Rattle.cut_file.proofs.Common.{bytes_eq, first_below, any_below, row_count, Key, key_at, IsBefore, any-same, before_inside, asked, asked_before, CutRow, CutFault, Backward, Broken, row}
-use Rattle.cut_file.proofs.Common.{cut_precedes, cut_just_precedes, repeated_step, run_fault, cut_row, run_of, step_of, beside, IsCutRead}
+use Rattle.cut_file.proofs.Common.{cut_precedes, cut_just_precedes, repeated_step, run_fault, cut_row, run_of, step_of, fault_after, IsCutRead}
 use Rattle.cut_file.proofs.Distinct.{same_name}
 use Rattle.cut_file.proofs.Repeats.{one_place_name, run_is, step_is, apart}
 
@@ -43,7 +43,7 @@ module _ (t : List (List (List ℕ))) (runs places : List (List ℕ)) (rows : Li
       any-same (λ j. cut_just_precedes t j i && q j) (λ j. just (row_count t) j i && q j) (row_count t) (λ j l. ap (λ x. x && q j) (just_is j i l (inside k h)))
       ∙ subst P r.size (asked_before (λ i. true) (run_of rows) (step_of rows) (length rows) keys r.sorted (apart t runs places rows keys r none) k h o b q)
 
-  pub misfit_is : (k : ℕ) → k < length keys → (o : Option Key) → IsBefore keys k o → run_fault t (key_at keys k).row ≡ beside rows o (key_at keys k).row
+  pub misfit_is : (k : ℕ) → k < length keys → (o : Option Key) → IsBefore keys k o → run_fault t (key_at keys k).row ≡ fault_after rows o (key_at keys k).row
   unfolding run_fault
   misfit_is k h None b =
       let i = (key_at keys k).row in

@@ -2,7 +2,7 @@
 use Rattle.cut_file.proofs.Common.{◌≡◌, ℕ, zero, suc, ◌+◌, ◌-◌, ◌<◌, ◌≤◌, ◌==◌, inl, inr, Bool, false, List, [], length, slice_get, slice_index_or, Option, Some, None, IfSome, if◌then◌else◌, refl}
 use Rattle.cut_file.proofs.Common.{sym, ap, ◌∙◌, subst, arith, ⊎_elim, ltb-false, cases_Bool, cases_lt, or_parts, slice_get_within, NetworkModel, IsValid, IsValidConnection, AreLinks, count}
 use Rattle.cut_file.proofs.Common.{connection, first_below, DelayLists, AreDelays, row_count, none-both, none-each, CutRow, Key, key_at, IsBefore, less_group, CutFault, row, bad_field, repeated_step}
-use Rattle.cut_file.proofs.Common.{run_fault, first_cut_fault, cut_row, beside, Cut, IsFaultless, IsConnection, IsNetwork, longest, change_by, change_from, change_seconds_of}
+use Rattle.cut_file.proofs.Common.{run_fault, first_cut_fault, cut_row, fault_after, Cut, IsFaultless, IsConnection, IsNetwork, longest, change_by, change_from, change_seconds_of}
 use Rattle.std.proofs.lemmas.Bool.Decides.{nat_tests}
 use Rattle.plan_model.proofs.Links.{AreLinks-none}
 use Rattle.plan_model.specs.DelayRows.{IsValidRow}
@@ -29,12 +29,12 @@ has_none : (t : List (List (List ℕ))) (limit : ℕ) → first_cut_fault t limi
 unfolding first_cut_fault
 has_none t limit h = grind (arith, none-both, ltb-false, if_none)
 
--- what a row without a fault beside the row before it gives
+-- what a row without a fault after the row before it gives
 forward_own : (t : List (List (List ℕ))) (i : ℕ) → run_fault t i ≡ None → (row t i).dep ≤ (row t i).arr
 unfolding run_fault
 forward_own t i h = grind (arith, ltb-false, or_parts, if_none)
 
-after_last : (rows : List CutRow) (b : Key) (i : ℕ) → beside rows (Some b) i ≡ None → (cut_row rows b.row).arr ≤ (cut_row rows i).dep
+after_last : (rows : List CutRow) (b : Key) (i : ℕ) → fault_after rows (Some b) i ≡ None → (cut_row rows b.row).arr ≤ (cut_row rows i).dep
 after_last rows b i h = grind (arith, if_none, ltb-false)
 
 seconds_few : (o : Option ℕ) → IfSome o (λ s. s ≤ 86400) → change_seconds_of o ≤ 86400

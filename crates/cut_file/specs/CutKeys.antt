@@ -22,7 +22,7 @@ step_of rows i = (cut_row rows i).step
 abbrev pub AreCutKeys : List CutRow → List Key → Type 0
 AreCutKeys rows keys = AreSorted (λ i. true) (run_of rows) (step_of rows) (length rows) keys
 
--- the fault of a row beside the row before it in its run
+-- the fault of a row after the row before it in its run
 abbrev pub misfit : CutRow → CutRow → ℕ → Option CutFault
 misfit row last line = if nat_lt row.dep last.arr then Some (Backward line) else if row.from == last.to then None else Some (Broken line)
 
@@ -30,5 +30,6 @@ abbrev pub misfit_of : List CutRow → CutRow → Option Key → ℕ → Option 
 misfit_of rows row None line = None
 misfit_of rows row (Some before) line = misfit row (cut_row rows before.row) line
 
-abbrev pub beside : List CutRow → Option Key → ℕ → Option CutFault
-beside rows before i = if nat_lt (cut_row rows i).arr (cut_row rows i).dep then Some (Backward (i + 2)) else misfit_of rows (cut_row rows i) before (i + 2)
+-- the same, if there is a row before it; or that it arrives before it departs
+abbrev pub fault_after : List CutRow → Option Key → ℕ → Option CutFault
+fault_after rows before i = if nat_lt (cut_row rows i).arr (cut_row rows i).dep then Some (Backward (i + 2)) else misfit_of rows (cut_row rows i) before (i + 2)

@@ -59,7 +59,7 @@ goes_back t i = nat_lt (row t i).arr (row t i).dep || any_below (λ j. cut_just_
 abbrev pub is_broken : List (List (List ℕ)) → ℕ → Bool
 is_broken t i = any_below (λ j. cut_just_precedes t j i && not (bytes_eq (row t i).from (row t j).to)) (row_count t)
 
--- the fault of row i beside the row before it in its run
+-- the fault of row i after the row before it in its run
 unfoldable pub run_fault : List (List (List ℕ)) → ℕ → Option CutFault
 run_fault t i = if goes_back t i then Some (Backward (i + 2)) else if is_broken t i then Some (Broken (i + 2)) else None
 

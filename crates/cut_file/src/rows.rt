@@ -2,6 +2,7 @@
 ghost use Rattle.std.specs.Prelude.{◌≡◌, ◌≢◌, ℕ, ◌-◌, ◌<◌, ◌≤◌, ◌^◌, [], length, slice_index_or, Some, None, OnOk, IfOk, IfErr, IfSome};
 ghost use Rattle.csv_rows.specs.declared.columns.Column.TheVariants.{Class, Run, Step, From, To, Dep, Arr, Board, Exit, Change};
 ghost use Rattle.csv_rows.specs.First.{first_below};
+ghost use Rattle.csv_rows.specs.Limits.{standard};
 ghost use Rattle.csv_rows.specs.Tables.{row_count, field};
 ghost use Rattle.cut_file.specs.declared.rows.CutRow.{CutRow};
 ghost use Rattle.cut_file.specs.CutRows.{as_read, named, row_at};
@@ -77,7 +78,7 @@ pub(crate) struct CutRows<'a> {
     pub(crate) rows: &'a Rows,
     pub(crate) columns: Columns,
     ghost are: { AreCutColumns rows.now columns },
-    ghost few: { row_count rows.now ≤ 8_388_608 },
+    ghost few: { row_count rows.now ≤ standard.cut_rows },
 }
 
 /// The fields of a row.

@@ -1,5 +1,5 @@
 -- The class of a connection is one of those of the table.
-use Rattle.delay_table.proofs.Common.{◌≡◌, ℕ, ◌+◌, ◌<◌, ◌==◌, List, length, slice_index, Option, Some, None, IfSome, option_map, refl, arith, unwrap_or, option_or, index_by-some, DelayLists}
+use Rattle.delay_table.proofs.Common.{◌≡◌, ℕ, ◌+◌, ◌<◌, ◌==◌, List, length, slice_index, Option, Some, None, IfSome, option_map, arith, unwrap_or, option_or, index_by-some, DelayLists}
 use Rattle.delay_table.proofs.Common.{class_for, hour_class, hour_of, other_class, route_class, type_class, type_index, Group, group_index, AreDelays}
 use Rattle.delay_table.proofs.GroupFacts.{group-here}
 
@@ -9,8 +9,7 @@ module _ (n : ℕ) where
   Is o = IfSome o (λ k. k < n)
 
   pub either : (a b : Option ℕ) → Is a → Is b → Is (option_or a b)
-  either None b h k = k
-  either (Some x) b h k = h
+  either a b h k = grind arith
 
   pub chosen : (o : Option ℕ) → 0 < n → Is o → unwrap_or o 0 < n
   chosen None some h = some
@@ -21,12 +20,10 @@ unfolding type_index
 type-inside types route k h = (index_by-some (λ i. slice_index types i == route) (length types) k h).0
 
 shifted : (o : Option ℕ) (by n : ℕ) → ((k : ℕ) → o ≡ Some k → by + k < n) → IfSome (option_map (λ k. by + k) o) (λ k. k < n)
-shifted None by n h = tt
-shifted (Some k) by n h = h k refl
+shifted o by n h = grind arith
 
 raised : (o : Option ℕ) (n : ℕ) → ((k : ℕ) → o ≡ Some k → k + 1 < n) → IfSome (option_map (λ k. k + 1) o) (λ k. k < n)
-raised None n h = tt
-raised (Some k) n h = h k refl
+raised o n h = grind arith
 
 module _ (d : DelayLists) (s : AreDelays d) where
   abbrev Inside : Option ℕ → Type 0
@@ -39,12 +36,10 @@ module _ (d : DelayLists) (s : AreDelays d) where
   other-inside group = shifted (group_index group d.others) (length d.types + 1) (length d.classes) (λ k e. omega (arith, s.each, (group-here group d.others k e).0))
 
   route-inside : (route : Option (List ℕ)) (hour : Option ℕ) → Inside (route_class d route hour)
-  route-inside None hour = tt
-  route-inside (Some route) hour = other-inside (record { class = None; route = Some route; hour = hour })
+  route-inside route hour = grind (arith, other-inside)
 
   type-class-inside : (class : Option ℕ) → Inside (type_class d class)
-  type-class-inside None = some
-  type-class-inside (Some route) = raised (type_index d.types route) (length d.classes) (λ k e. omega (arith, s.each, type-inside d.types route k e))
+  type-class-inside class = grind (arith, some, raised, type-inside)
 
   pub class_for-inside : (class : Option ℕ) (route : Option (List ℕ)) (arr : ℕ) → class_for d class route arr < length d.classes
   unfolding class_for

@@ -1,5 +1,5 @@
 -- The number of the groups is reported where there are too many, and by no other fault.
-use Rattle.delay_table.proofs.Common.{◌≡◌, ℕ, ◌<◌, ◌+◌, nat_lt, Bool, true, List, [], ◌∷◌, length, Option, Some, None, option_map, if◌then◌else◌, arith, cases_Bool, nat_tests, Outcome, first_below}
+use Rattle.delay_table.proofs.Common.{◌≡◌, ℕ, ◌<◌, ◌+◌, nat_lt, Bool, true, List, length, Option, Some, None, option_map, if◌then◌else◌, arith, cases_Bool, nat_tests, Outcome, first_below}
 use Rattle.delay_table.proofs.Common.{row_count, first-is, option_or, DelayFault, MissingColumn, TooManyClasses, WeightSum, GroupSum, most_groups, Group, Line, class_name, class_rows, class_sum}
 use Rattle.delay_table.proofs.Common.{fault_of, groups_fault, line_fault, missing_column, no_default_of, other_sum, group_outcomes}
 use Rattle.csv_rows.specs.declared.columns.Column.{Column}
@@ -10,12 +10,10 @@ abbrev pub IsOther : Option DelayFault → Type 0
 IsOther o = (n : ℕ) → o ≡ Some (TooManyClasses n) → ⊥
 
 either : (a b : Option DelayFault) → IsOther a → IsOther b → IsOther (option_or a b)
-either None b h k = k
-either (Some e) b h k = h
+either a b h k = grind arith
 
 mapped : (f : ℕ → DelayFault) (o : Option ℕ) → ((s : ℕ) → IsOther (Some (f s))) → IsOther (option_map f o)
-mapped f None h n e = absurd (cc)
-mapped f (Some s) h n e = h s n e
+mapped f o h n e = grind arith
 
 first : (f : ℕ → Option DelayFault) (count : ℕ) → ((k : ℕ) → IsOther (f k)) → IsOther (first_below f count)
 first f count h n e = let w = first-is f count (TooManyClasses n) e in h w.index n w.here
@@ -27,8 +25,7 @@ group_if : (plain : Bool) (line : ℕ) (o : Option ℕ) → IsOther (if plain th
 group_if plain line o n e = grind (arith, cases_Bool plain, mapped)
 
 default-other : (r : List Outcome) → IsOther (no_default_of r)
-default-other [] n e = absurd (cc)
-default-other (o ∷ os) n e = absurd (cc)
+default-other r n e = grind arith
 
 counted : (b : Bool) (count n : ℕ) (rest : Option DelayFault) → IsOther rest → option_or (if b then Some (TooManyClasses count) else None) rest ≡ Some (TooManyClasses n) → (n ≡ count) × (b ≡ true)
 counted b count n rest h e = grind (arith, cases_Bool b)
@@ -50,8 +47,7 @@ row_if : (many rising plain : Bool) (a b c : DelayFault) → IsOther (Some a) �
 row_if many rising plain a b c h k m n e = grind (arith, cases_Bool many, cases_Bool rising, cases_Bool plain)
 
 row-other : (earlier : Group → List Outcome) (o : Option Line) (number : ℕ) → IsOther (fault_of earlier o number)
-row-other earlier None number n e = absurd (cc)
-row-other earlier (Some line) number n e = grind (arith, row_if)
+row-other earlier o number n e = grind (arith, row_if)
 
 line-other : (t : List (List (List ℕ))) (i : ℕ) → IsOther (line_fault t i)
 unfolding line_fault

@@ -1,18 +1,14 @@
 -- Groups that are the same, and where a group is among others.
-use Rattle.delay_table.proofs.Common.{◌≡◌, ℕ, ◌+◌, ◌<◌, Bool, true, false, List, [], ◌∷◌, ◌++◌, length, Option, Some, None, refl, sym, ap, ◌∙◌, subst, arith, inl, inr, length-append, eqb-true}
+use Rattle.delay_table.proofs.Common.{◌≡◌, ℕ, ◌+◌, ◌<◌, Bool, true, false, List, [], ◌∷◌, ◌++◌, length, Option, Some, None, refl, sym, ◌∙◌, subst, arith, inl, inr, length-append, eqb-true}
 use Rattle.delay_table.proofs.Common.{eq-eqb, cases_order, and_from, and_parts, false_from_ne_true, get_or_append_left, get_or_push, absent_by, found_by, index_by-none, index_by-some, Group, same_if}
 use Rattle.delay_table.proofs.Common.{same_group, of_class, group_in, group_index, AreApart}
 use Rattle.std.proofs.lemmas.Slice.Eq.{bytes_eq-Decides}
 
 pub same_if-equal : {A : Type 0} (same : A → A → Bool) → ((a b : A) → same a b ≡ true → a ≡ b) → (x y : Option A) → same_if same x y ≡ true → x ≡ y
-same_if-equal same decides None None h = refl
-same_if-equal same decides None (Some b) h = absurd (cc)
-same_if-equal same decides (Some a) None h = absurd (cc)
-same_if-equal same decides (Some a) (Some b) h = ap Some (decides a b h)
+same_if-equal same decides x y h = grind arith
 
 pub same_if-self : {A : Type 0} (same : A → A → Bool) → ((a : A) → same a a ≡ true) → (x : Option A) → same_if same x x ≡ true
-same_if-self same self None = refl
-same_if-self same self (Some a) = self a
+same_if-self same self x = grind arith
 
 pub same-equal : (a b : Group) → same_group a b ≡ true → a ≡ b
 unfolding same_group

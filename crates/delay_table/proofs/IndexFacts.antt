@@ -22,12 +22,10 @@ module _ {X : Type 0} (test : X → Bool) where
   position-push xs y = grind (arith, position_from-zero, push-from)
 
 no-index : (o : Option ℕ) (b : Bool) → is_some o ≡ b → b ≡ false → o ≡ None
-no-index None b e f = refl
-no-index (Some n) b e f = absurd (cc)
+no-index o b e f = grind arith
 
 or-none : (o : Option ℕ) → option_or o None ≡ o
-or-none None = refl
-or-none (Some n) = refl
+or-none o = grind arith
 
 -- each group has its index after a new one was added
 pub indexes-push : (groups : List NumberedGroup) (group : NumberedGroup) (old new : NumberedGroup → Option ℕ) → list_any (same_numbered group) groups ≡ false
@@ -46,8 +44,7 @@ indexes-push groups group old new fresh were are more last g =
     ∙ ap (λ b. cond b (Some n) (old g)) t
     ∙ sym (after ∙ ap (λ o. option_or o (cond (test group) (Some n) None)) none ∙ ap (λ b. cond b (Some n) None) same))
     (λ (f : same_numbered group g ≡ false).
-    let other : test group ≡ false =
-    ⊎_elim (λ (t : test group ≡ true). let u = numbered-true group g (sym (numbered-equal g group t)) in absurd (cc)) (λ (k : test group ≡ false). k) (cases_Bool (test group)) in
+    let other : test group ≡ false = grind (arith, numbered-true, numbered-equal, cases_Bool) in
     are g
     ∙ ap (λ b. cond b (Some n) (old g)) f
     ∙ were g

@@ -1,10 +1,9 @@
 -- One row of the table.
-use Rattle.delay_table.proofs.Common.{◌≡◌, ℕ, ◌≤◌, Bool, false, ◌==◌, List, length, Option, Some, None, IfSome, ◌<◌, option_map, if◌then◌else◌, refl, sym, ap, ◌∙◌, subst, arith, is_none, codes}
-use Rattle.delay_table.proofs.Common.{bytes_eq, cases_Bool, nat_tests, Class, Delay, Weight, RouteId, Hour, field, field_at, seconds_per_day, end_of_types, last_type, whole_weight, Line}
-use Rattle.delay_table.proofs.Common.{delay_class_in, not_zero, route_in, hour_in, given, line_from}
+use Rattle.std.proofs.lemmas.Grind.{common_steps}
+use Rattle.delay_table.proofs.Common.{◌≡◌, ℕ, ◌≤◌, Bool, false, ◌==◌, List, Option, Some, None, IfSome, ◌<◌, option_map, if◌then◌else◌, ap, ◌∙◌, subst, arith, is_none}
+use Rattle.delay_table.proofs.Common.{bytes_eq, cases_Bool, nat_tests, Class, Delay, Weight, RouteId, Hour, field, field_at, seconds_per_day, end_of_types, Line}
+use Rattle.delay_table.proofs.Common.{not_zero, given, line_from}
 use Rattle.clock_text.proofs.DigitLemmas.{whole_bound}
-use Rattle.clock_text.specs.Digits.{whole_of}
-use Rattle.csv_rows.specs.Names.{name_in}
 use Rattle.csv_rows.proofs.RowLemmas.{mapped-each, name_text, optional-each}
 use Rattle.delay_table.specs.declared.lines.DelayLine.{DelayLine}
 use Rattle.delay_table.specs.Delays.{line_at}
@@ -16,13 +15,11 @@ zero_test : (w : ℕ) → (w == 0) ≡ false → 1 ≤ w
 zero_test w h = grind (arith, nat_tests)
 
 weight_bound : (o : Option ℕ) → IfSome (not_zero o) (λ n. 1 ≤ n)
-weight_bound None = tt
-weight_bound (Some w) = one_on (w == 0) w (zero_test w)
+weight_bound o = grind (arith, one_on, zero_test)
 
 -- what holds of what comes next, holds where it is there
 given-holds : {A B : Type 0} (P : B → Type 0) (o : Option A) (next : A → Option B) → ((a : A) → o ≡ Some a → IfSome (next a) P) → IfSome (given o next) P
-given-holds P None next h = tt
-given-holds P (Some a) next h = h a refl
+given-holds P o next h = grind arith
 
 route-each : (P : List ℕ → Type 0) (empty any : Bool) (o : Option (List ℕ)) → ((x : List ℕ) → o ≡ Some x → P x) → (r : Option (List ℕ))
     → (if empty then Some None else if any then option_map Some o else None) ≡ Some r → IfSome r P
@@ -39,17 +36,7 @@ bound_at : (P : ℕ → Type 0) (o : Option ℕ) (n : ℕ) → IfSome o P → o 
 bound_at P o n h e = subst (λ (x : Option ℕ). IfSome x P) e h
 
 pub line_formed : (class delay weight route hour : List ℕ) → IfSome (line_from class delay weight route hour) (IsFormed route)
-line_formed class delay weight route hour =
-    given-holds (IsFormed route) (delay_class_in class) _ (λ c h1.
-    given-holds (IsFormed route) (whole_of seconds_per_day delay) _ (λ d h2.
-    given-holds (IsFormed route) (not_zero (whole_of whole_weight weight)) _ (λ w h3.
-    given-holds (IsFormed route) (route_in c route) _ (λ r h4.
-    given-holds (IsFormed route) (hour_in hour) _ (λ h h5. record {
-      delay = whole_bound seconds_per_day d delay h2;
-      weight = bound_at (λ n. 1 ≤ n) (not_zero (whole_of whole_weight weight)) w (weight_bound (whole_of whole_weight weight)) h3;
-      route = route-each (λ x. x ≡ route) (length route == 0) (is_none c) (name_in route) (name_text route) r h4;
-      class = optional-each (λ r. r < end_of_types) (bytes_eq class (codes "*")) (whole_of last_type class) (λ n e. omega (arith, whole_bound last_type n class e)) c h1;
-    })))))
+line_formed class delay weight route hour = grind (arith, common_steps, given-holds, whole_bound, bound_at, weight_bound, route-each, is_none, name_text, optional-each, bytes_eq)
 
 pub formed_at : (t : List (List (List ℕ))) (i : ℕ) → IfSome (line_at t i) (IsFormed (field t RouteId i))
 unfolding line_at
@@ -67,8 +54,7 @@ field_is t i a index own e f = e ∙ ap (λ o. field_at t o i) f
 
 -- what holds of a value of another form
 pub of-mapped : {X Y : Type 0} (f : X → Y) (P : Y → Type 0) (o : Option X) (m : Option Y) → option_map f o ≡ m → IfSome m P → IfSome o (λ x. P (f x))
-of-mapped f P None m e h = tt
-of-mapped f P (Some x) m e h = subst (λ (y : Option _). IfSome y P) (sym e) h
+of-mapped f P o m e h = grind arith
 
 -- the line that is read
 abbrev pub own_line : DelayLine → Line

@@ -11,10 +11,7 @@ abbrev no_line : LineGroup
 no_line = record { class = None; route = None; hour = None }
 
 same_route : (a b : Option (Bor (List ℕ))) → same_if same_text a b ≡ same_if bytes_eq (option_map (λ s. s.now) a) (option_map (λ s. s.now) b)
-same_route None None = refl
-same_route None (Some b) = refl
-same_route (Some a) None = refl
-same_route (Some a) (Some b) = refl
+same_route a b = grind arith
 
 -- lines are of one group where the groups are the same
 same-shown : (a b : LineGroup) → same_line a b ≡ same_group (line_group a) (line_group b)
@@ -22,12 +19,10 @@ unfolding same_group
 same-shown a b = ap (λ r. same_if same_number a.class b.class && (r && same_if same_number a.hour b.hour)) (same_route a.route b.route)
 
 turned : (b c : Bool) → not b ≡ c → b ≡ not c
-turned true c e = ap not e
-turned false c e = ap not e
+turned b c e = grind (arith, not)
 
 held : (b : Bool) (m n : ℕ) → cond b (Some m) None ≡ Some n → Some m ≡ Some n
-held true m n e = e
-held false m n e = absurd (cc)
+held b m n e = grind arith
 
 module _ (key : LineGroup) (keys : List LineGroup) where
   abbrev groups : List Group
@@ -67,12 +62,10 @@ module _ (key : LineGroup) (keys : List LineGroup) where
   some-index = ap is_some (sym line-index) ∙ any-position (same_line key) keys
 
   there-index : (o : Option ℕ) (index : ℕ) → position (same_line key) keys ≡ o → is_some o ≡ true → index ≡ position_or_len (same_line key) keys → Some index ≡ position (same_line key) keys
-  there-index None index e h p = absurd (cc)
-  there-index (Some i) index e h p = grind (arith, held, position_or_len)
+  there-index o index e h p = grind (arith, held)
 
   no-index : (o : Option ℕ) → is_some o ≡ false → None ≡ o
-  no-index None h = refl
-  no-index (Some i) h = absurd (cc)
+  no-index o h = grind arith
 
   -- the number of a line's group, if it was there
   pub line-new : list_any (same_line key) keys ≡ false → None ≡ group_index (line_group key) groups
@@ -82,8 +75,7 @@ module _ (key : LineGroup) (keys : List LineGroup) where
   line-there index h p = there-index (position (same_line key) keys) index refl (any-position (same_line key) keys ∙ h) p ∙ line-index
 
   shown-if : (b : Bool) → map line_group (if b then keys else keys ++ key ∷ []) ≡ (if b then groups else groups ++ line_group key ∷ [])
-  shown-if true = refl
-  shown-if false = map-append line_group keys (key ∷ [])
+  shown-if b = grind (arith, map-append)
 
   -- the groups after it
   pub lines-next : (new : List LineGroup) → new ≡ insert_key same_line keys key → map line_group new ≡ with_group groups (line_group key)

@@ -1,11 +1,11 @@
 -- The route types that are named: they rise, and a list that delay_rises and has each of them is theirs.
+use Rattle.std.proofs.lemmas.Grind.{common_steps}
 use Rattle.delay_table.proofs.Common.{◌≡◌, ℕ, zero, suc, ◌<◌, ◌≤◌, List, [], ◌∷◌, ◌++◌, length, refl, sym, ap₂, subst, arith, ⊎_elim, All, AllPairs, Contains, append-nil, cases_lt, All-contains}
 use Rattle.delay_table.proofs.Common.{All-nil, All-push, Contains-append_left, Contains-push, all_pairs_push, Outcome, Group, if_some, route_types_below, type_rows}
 
 -- a list that delay_rises has what is in its tail above its head
 after-head : (x : ℕ) (xs : List ℕ) → AllPairs (λ a b. a < b) (x ∷ xs) → (r : ℕ) → x < r → Contains (x ∷ xs) r → Contains xs r
-after-head x xs rising r less (zero, inside, is) = absurd (omega (arith, is))
-after-head x xs rising r less (suc k, inside, is) = (k, omega arith, is)
+after-head x xs rising r less given = grind arith
 
 head-least : (x : ℕ) (xs : List ℕ) → AllPairs (λ a b. a < b) (x ∷ xs) → (r : ℕ) → Contains (x ∷ xs) r → x ≤ r
 head-least x xs rising r (zero, inside, is) = omega (arith, is)
@@ -42,11 +42,7 @@ module _ (rows : Group → List Outcome) where
   -- one type more, if it has outcomes
   more-are : (n : ℕ) (types : List ℕ) (r : List Outcome) → r ≡ type_rows rows n → AreNamed n types → AreNamed (suc n) (types ++ if_some r n)
   more-are n types [] e s = grind (arith, append-nil)
-  more-are n types (o ∷ os) e s = record {
-    below = All-push (λ r. r < suc n) types n (λ k d l. omega (arith, s.below k d l)) (omega arith);
-    rising = all_pairs_push (λ a b. a < b) types n s.rising s.below;
-    some = All-push (λ r. 0 < length (type_rows rows r)) types n s.some (subst (λ (r : List Outcome). 0 < length r) e (omega arith));
-  }
+  more-are n types (o ∷ os) e s = grind (arith, common_steps, All-push, all_pairs_push)
 
   pub route_types_below-are : (n : ℕ) → AreNamed n (route_types_below rows n)
   unfolding route_types_below

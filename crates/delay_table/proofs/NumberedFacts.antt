@@ -1,4 +1,5 @@
 -- Groups by the numbers of their routes.
+use Rattle.std.proofs.lemmas.Grind.{common_steps}
 use Rattle.delay_table.proofs.Common.{◌≡◌, ℕ, suc, ◌<◌, ◌≤◌, true, false, List, [], ◌∷◌, ◌++◌, length, map, slice_index_or, Option, Some, None, IfSome, option_map, is_some, refl, sym, ap, ap₂, ◌∙◌}
 use Rattle.delay_table.proofs.Common.{subst, arith, below_more, position, eqb-true, eq-eqb, list_any, cases_order, and_from, and_parts, false_from_ne_true, same_Some, get_or_default}
 use Rattle.delay_table.proofs.Common.{get_or_append_left, get_or_push, get_or-map, length-map, length_push, map-append, Any-from_list_any, list_any_at, position-Some, AreDistinct, number_in}
@@ -19,10 +20,7 @@ one_index names distinct m n a b e = grind (arith, cases_order)
 
 one_route : (routes : List (List ℕ)) → AreDistinct routes → (a b : Option ℕ) → IfSome a (λ n. n < length routes) → IfSome b (λ n. n < length routes)
     → option_map (λ k. slice_index_or routes k []) a ≡ option_map (λ k. slice_index_or routes k []) b → a ≡ b
-one_route routes distinct None None h g e = refl
-one_route routes distinct None (Some n) h g e = absurd (cc)
-one_route routes distinct (Some m) None h g e = absurd (cc)
-one_route routes distinct (Some m) (Some n) h g e = ap Some (one_index routes distinct m n h g (same_Some (slice_index_or routes m []) (slice_index_or routes n []) e))
+one_route routes distinct a b h g e = grind (arith, one_index, same_Some)
 
 module _ (routes : List (List ℕ)) (keys : List NumberedGroup) (distinct : AreDistinct routes) (numbers : AreNumbers routes keys) where
   abbrev key_at : ℕ → NumberedGroup
@@ -40,12 +38,7 @@ module _ (routes : List (List ℕ)) (keys : List NumberedGroup) (distinct : AreD
   module _ (key : NumberedGroup) (group : Group) (number : IfSome key.route (λ n. n < length routes)) (is : named_group routes key ≡ group) where
     -- a key that represents the group is this one
     back : (k : ℕ) → k < length keys → group_in groups k ≡ group → key ≡ key_at k
-    back k l e =
-        let same : named_group routes key ≡ named_group routes (key_at k) = is ∙ sym e ∙ at k l in
-        let class : key.class ≡ (key_at k).class = ap (λ (g : Group). g.class) same in
-        let hour : key.hour ≡ (key_at k).hour = ap (λ (g : Group). g.hour) same in
-        let route : key.route ≡ (key_at k).route = one_route routes distinct key.route (key_at k).route number (numbers k l) (ap (λ (g : Group). g.route) same) in
-        λ i. record { class = class i; route = route i; hour = hour i }
+    back k l e = grind (arith, at, one_route)
 
     forth : (k : ℕ) → k < length keys → key ≡ key_at k → group_in groups k ≡ group
     forth k l e = at k l ∙ ap (named_group routes) (sym e) ∙ is
@@ -82,8 +75,7 @@ module _ (routes : List (List ℕ)) (keys : List NumberedGroup) (distinct : AreD
 -- the groups stay when a route is added
 same_route : (routes : List (List ℕ)) (id : List ℕ) (a : Option ℕ) → IfSome a (λ n. n < length routes)
     → numbered_route (routes ++ id ∷ []) a ≡ numbered_route routes a
-same_route routes id None h = refl
-same_route routes id (Some n) h = ap Some (get_or_append_left routes (id ∷ []) [] n h)
+same_route routes id a h = grind (arith, get_or_append_left)
 
 same_names : (routes : List (List ℕ)) (id : List ℕ) (keys : List NumberedGroup) → AreNumbers routes keys → map (named_group (routes ++ id ∷ [])) keys ≡ map (named_group routes) keys
 same_names routes id [] numbers = refl
@@ -93,16 +85,14 @@ same_names routes id (x ∷ xs) numbers =
     ap₂ (λ a b. a ∷ b) head (same_names routes id xs (λ k l. numbers (suc k) (omega arith)))
 
 wider : (a : Option ℕ) (m n : ℕ) → m ≤ n → IfSome a (λ k. k < m) → IfSome a (λ k. k < n)
-wider None m n l h = tt
-wider (Some k) m n l h = omega (arith, l, h)
+wider a m n l h = grind arith
 
 record StaysSo (keys : List NumberedGroup) (groups : List Group) (routes : List (List ℕ)) : Type 0 where
   numbers : AreNumbers routes keys
   are : map (named_group routes) keys ≡ groups
 
 stays : (routes : List (List ℕ)) (keys : List NumberedGroup) (groups : List Group) → IsNumbering routes keys groups → (route : Option (List ℕ)) → StaysSo keys groups (with_route routes route)
-stays routes keys groups h None = record { numbers = h.numbers; are = h.are }
-stays routes keys groups h (Some id) = grind (arith, with_route-cases, wider, length_push, same_names)
+stays routes keys groups h route = grind (arith, with_route-cases, wider, length_push, same_names)
 
 -- where a group is, by the number of its route
 pub index-is : (routes : List (List ℕ)) (keys : List NumberedGroup) (distinct : AreDistinct routes) (numbers : AreNumbers routes keys) (all : List Group)
@@ -166,8 +156,4 @@ module _ (routes : List (List ℕ)) (keys : List NumberedGroup) (groups : List G
   numbering-new = key-is-new new keys differ so.numbers groups group.class number group.hour group.route so.are is
 
   pub numbering-next : (more : List NumberedGroup) → more ≡ keys ++ next ∷ [] → IsNumbering new more (groups ++ group ∷ [])
-  numbering-next more e = record {
-    named = named ∙ ap (λ xs. with_route xs group.route) were.named ∙ sym (routes-next groups group);
-    numbers = numbers-more new keys differ so.numbers groups group.class number group.hour group.route so.are is more e;
-    are = groups-last new keys differ so.numbers groups group.class number group.hour group.route so.are is more e;
-  }
+  numbering-next more e = grind (arith, common_steps, routes-next, numbers-more, differ, so, groups-last)

@@ -33,8 +33,7 @@ pub record IsFrom (groups : List Group) (n : ℕ) (x : Group) : Type 0 where
   pub other : is_plain x ≡ false
 
 if_from : (groups : List Group) (n : ℕ) (b : Bool) → is_plain (group_in groups n) ≡ b → All (IsFrom groups (n + 1)) (if b then [] else group_in groups n ∷ [])
-if_from groups n true e = All-nil (IsFrom groups (n + 1))
-if_from groups n false e = All-cons (IsFrom groups (n + 1)) (group_in groups n) [] (record { index = n; inside = omega arith; is = refl; other = e }) (All-nil (IsFrom groups (n + 1)))
+if_from groups n b e = grind (arith, All-nil, All-cons)
 
 pub others-from : (groups : List Group) (n : ℕ) → All (IsFrom groups n) (others groups n)
 others-from groups zero = subst (All (IsFrom groups 0)) (sym (others-zero groups)) (All-nil (IsFrom groups 0))

@@ -24,10 +24,7 @@ plain-none groups = sym (plain-zero groups)
 -- a group of a route type alone
 type-alone : (class : Option ℕ) (route : Option (List ℕ)) (hour : Option ℕ) (r : ℕ) → (if is_none route && is_none hour then class else None) ≡ Some r
     → ◌≡◌ {A = Group} (record { class = class; route = route; hour = hour }) (of_class (Some r))
-type-alone class None None r e = λ i. record { class = e i; route = None; hour = None }
-type-alone class None (Some h) r e = absurd (cc)
-type-alone class (Some s) None r e = absurd (cc)
-type-alone class (Some s) (Some h) r e = absurd (cc)
+type-alone class route hour r e = grind arith
 
 plain-some : (g : Group) (r : ℕ) → plain_type g ≡ Some r → g ≡ of_class (Some r)
 plain-some g r e = type-alone g.class g.route g.hour r e
@@ -35,11 +32,7 @@ plain-some g r e = type-alone g.class g.route g.hour r e
 -- a group is of `*` alone, of a route type alone, or another
 kind-by : (class : Option ℕ) (route : Option (List ℕ)) (hour : Option ℕ) → (◌≡◌ {A = Group} (record { class = class; route = route; hour = hour }) (of_class None) → ⊥)
     → length (listed (if is_none route && is_none hour then class else None)) + length (if is_none route && is_none hour then [] else zero ∷ []) ≡ 1
-kind-by None None None h = absurd (h refl)
-kind-by (Some r) None None h = refl
-kind-by class None (Some hour) h = refl
-kind-by class (Some s) None h = refl
-kind-by class (Some s) (Some hour) h = refl
+kind-by class route hour h = grind arith
 
 if-length : {A B : Type 0} (b : Bool) (x : A) (y : B) → length (if b then [] else x ∷ []) ≡ length (if b then [] else y ∷ [])
 if-length b x y = grind (arith, cases_Bool b)
@@ -114,19 +107,11 @@ module _ (groups : List Group) (apart : AreApart groups) where
 
   with_default : (d : ℕ) → group_in groups d ≡ of_class None → (n : ℕ) → d < n → n ≤ length groups → both n + 1 ≡ n
   with_default d e zero less l = absurd (omega arith)
-  with_default d e (suc n) less l =
-      let ne : (k : ℕ) → k < length groups → (k ≡ d → ⊥) → group_in groups k ≡ of_class None → ⊥ = λ k inside z f. apart-ne groups apart k d inside (omega arith) z (f ∙ sym e) in
-      ⊎_elim (λ (before : d < n).
-      omega (arith, both-suc n, kind-one (group_in groups n) (ne n (omega arith) (λ z. omega (arith, z))), with_default d e n before (omega arith)))
-      (λ (end : n ≤ d).
-      let same : n ≡ d = omega arith in
-      omega (arith, both-suc n, kind-none (group_in groups n) (ap (group_in groups) same ∙ e), without n (λ k before. ne k (omega arith) (λ z. omega (arith, z)))))
-      (cases_lt d n)
+  with_default d e (suc n) less l = grind (arith, apart-ne, both-suc, kind-one, kind-none, without, cases_lt, with_default d e n)
 
 -- a group that has outcomes is there
 somewhere : (rows : List GroupRows) (o : Option ℕ) → 0 < length (outcomes_at rows o) → (k : ℕ) × (o ≡ Some k)
-somewhere rows None h = absurd (omega arith)
-somewhere rows (Some k) h = (k, refl)
+somewhere rows o h = grind arith
 
 pub is-there : (groups : List Group) (rows : List GroupRows) (group : Group) → 0 < length (read_outcomes groups rows group) → (k : ℕ) × (k < length groups) × (group_in groups k ≡ group)
 unfolding read_outcomes

@@ -1,5 +1,5 @@
 -- The groups of the rows that are read, one row more at a time.
-use Rattle.delay_table.proofs.Common.{◌≡◌, ℕ, ◌+◌, ◌<◌, List, [], ◌∷◌, ◌++◌, length, slice_index, Option, Some, None, IfSome, Result, Ok, Err, if◌then◌else◌, refl, sym, ap, ◌∙◌, subst, arith, ⊎_elim}
+use Rattle.delay_table.proofs.Common.{◌≡◌, ℕ, ◌+◌, ◌<◌, List, [], ◌∷◌, ◌++◌, length, slice_index, Option, Some, None, IfSome, Result, if◌then◌else◌, refl, sym, ap, ◌∙◌, subst, arith}
 use Rattle.delay_table.proofs.Common.{add-one, append-nil, below_more, OnOk, cases_eq, get_or_append_left, get_or_push, get_or-map, length-map, length_push, map-append, Outcome, GroupRows}
 use Rattle.delay_table.proofs.Common.{DelayFault, BadField, Group, same_group, of_class, group_in, group_index, Line, of_group, group_outcomes, fault_of, fault_after, line_fault, begins, if_begins}
 use Rattle.delay_table.proofs.Common.{firsts, group_of, groups_at, group_rows_at, outcomes_at, read_outcomes, AreApart, IsPushed, AddsRow, IsReadTo, field, RouteId, end_of_types}
@@ -37,8 +37,7 @@ groups-nil t = refl
 
 -- a group of its own rows begins with the first one
 begins-some : (r : List Outcome) (i : ℕ) → 0 < length r → if_begins r i ≡ []
-begins-some [] i h = absurd (omega arith)
-begins-some (o ∷ os) i h = refl
+begins-some r i h = grind arith
 
 rows_by : (t : List (List (List ℕ))) (n : ℕ) (groups : List Group) (rows : List GroupRows) → IsReadTo t n groups rows → (group : Group) (o : Option ℕ)
     → group_index group groups ≡ o → outcomes_at rows o ≡ group_outcomes t n group
@@ -66,8 +65,7 @@ rows-new groups rows group e = ap (outcomes_at rows) e
 
 -- a first row has no fault
 pub first-none : {A E : Type 0} (r : Result A E) (line : Line) (number : ℕ) → OnOk r (fault_after [] line number ≡ None)
-first-none (Ok a) line number = refl
-first-none (Err e) line number = tt
+first-none r line number = grind arith
 
 -- before the first row
 pub read-nothing : (t : List (List (List ℕ))) (groups : List Group) (rows : List GroupRows) → groups ≡ [] → rows ≡ [] → IsReadTo t 0 groups rows
@@ -97,21 +95,15 @@ module _ (t : List (List (List ℕ))) (i : ℕ) (line : Line) (here : Some line 
         let w = group-here line.group groups k e in
         let own : group_outcomes t i line.group ≡ (group_rows_at rows k).outcomes = sym (r.each k w.0 ∙ ap (group_outcomes t i) w.1) in
         let same : firsts t (i + 1) ≡ firsts t i = firsts-same (omega (arith, ap length own, r.some k w.0)) in
-        let pushed : (group_rows_at new k).outcomes ≡ group_outcomes t (i + 1) (group_in groups k) =
-        p.here ∙ ap (λ xs. xs ++ line.outcome ∷ []) (r.each k w.0) ∙ sym (next-own (group_in groups k) (sym w.1)) in
-        let other : (j : ℕ) → j < length groups → (j ≡ k → ⊥) → (group_rows_at new j).outcomes ≡ group_outcomes t (i + 1) (group_in groups j) =
-        λ j l ne. p.others j ne ∙ r.each j l ∙ sym (next-other (group_in groups j) (λ z. apart-ne groups r.apart j k l w.0 ne (sym (w.1 ∙ z)))) in
+        let pushed : (group_rows_at new k).outcomes ≡ group_outcomes t (i + 1) (group_in groups k) = grind (arith, next-own) in
+        let other : (j : ℕ) → j < length groups → (j ≡ k → ⊥) → (group_rows_at new j).outcomes ≡ group_outcomes t (i + 1) (group_in groups j) = grind (arith, next-other, apart-ne) in
         record {
           are = r.are ∙ ap (groups_at t) (sym same);
           size = p.size ∙ r.size;
           apart = r.apart;
           lines = λ j l. p.lines j ∙ r.lines j l ∙ ap (λ xs. slice_index xs j + 2) (sym same);
-          each = λ j l.
-              ⊎_elim (λ (z : j ≡ k). subst (λ (m : ℕ). (group_rows_at new m).outcomes ≡ group_outcomes t (i + 1) (group_in groups m)) (sym z) pushed) (λ (ne : j ≡ k → ⊥). other j l ne) (cases_eq j k);
-          some = λ j l.
-              ⊎_elim (λ (z : j ≡ k).
-              subst (λ (m : ℕ). 0 < length (group_rows_at new m).outcomes) (sym z) (omega (arith, ap length p.here, length_push (group_rows_at rows k).outcomes line.outcome)))
-              (λ (ne : j ≡ k → ⊥). omega (arith, ap length (p.others j ne), r.some j l)) (cases_eq j k);
+          each = λ j l. grind (arith, cases_eq);
+          some = λ j l. grind (arith, length_push, cases_eq);
           absent = λ group h. next-other group (λ z. nowhere group groups h k w.0 (w.1 ∙ z)) ∙ r.absent group h;
         }
 
@@ -140,8 +132,7 @@ bad_here t i number e n = sym (λ j. fault_of (group_outcomes t i) (e j) (n j))
 
 -- each route type is within its bound
 type-bounded : (t : List (List (List ℕ))) (i : ℕ) (o : Option Line) → IfSome o (IsFormed (field t RouteId i)) → IfSome (group_of o).class (λ route. route < end_of_types)
-type-bounded t i None h = tt
-type-bounded t i (Some line) h = h.class
+type-bounded t i o h = grind arith
 
 pub types-bounded : (t : List (List (List ℕ))) (rows : List ℕ) (k : ℕ) → k < length (groups_at t rows) → IfSome (group_in (groups_at t rows) k).class (λ route. route < end_of_types)
 unfolding groups_at

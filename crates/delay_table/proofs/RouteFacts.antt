@@ -13,8 +13,7 @@ contained id routes (Some k) e = let w = number-here id routes k e in (λ t. (k,
 
 either : (P : List (List ℕ) → Type 0) (routes : List (List ℕ)) (id : List ℕ) (b : Bool) → is_some (number_in id routes) ≡ b → (Contains routes id → P routes)
     → ((Contains routes id → ⊥) → P (routes ++ id ∷ [])) → P (if b then routes else routes ++ id ∷ [])
-either P routes id true e old new = old ((contained id routes (number_in id routes) (λ i. number_in id routes)).0 e)
-either P routes id false e old new = new ((contained id routes (number_in id routes) (λ i. number_in id routes)).1 e)
+either P routes id b e old new = grind (arith, contained)
 
 -- the two cases of a route that is given: it is there, or it goes last
 pub with_route-cases : (P : List (List ℕ) → Type 0) (routes : List (List ℕ)) (id : List ℕ) → (Contains routes id → P routes)
@@ -79,14 +78,12 @@ unnamed-class d id absent class arr = grind (arith, unnamed-index)
 
 pub unnumbered-class : (d : DelayLists) (number : Option ℕ) (class : Option ℕ) (arr found : ℕ) → found ≡ class_for d class (numbered_route (routes_of d.others) number) arr
     → IfNone number ((id : List ℕ) → (Contains (routes_of d.others) id → ⊥) → found ≡ class_for d class (Some id) arr)
-unnumbered-class d None class arr found e = λ id absent. e ∙ sym (unnamed-class d id absent class arr)
-unnumbered-class d (Some n) class arr found e = tt
+unnumbered-class d number class arr found e = grind (arith, unnamed-class)
 
 -- the class of a route by its number
 pub numbered-class : (d : DelayLists) (id : List ℕ) (number : Option ℕ) (class : Option ℕ) (arr found : ℕ) → IfSome number (λ n. slice_get (routes_of d.others) n ≡ Some id)
     → IfNone number (¬ Contains (routes_of d.others) id) → found ≡ class_for d class (numbered_route (routes_of d.others) number) arr → found ≡ class_for d class (Some id) arr
-numbered-class d id None class arr found here absent e = e ∙ sym (unnamed-class d id absent class arr)
-numbered-class d id (Some n) class arr found here absent e = e ∙ ap (λ r. class_for d class (Some r) arr) (got (routes_of d.others) n id [] here).1
+numbered-class d id number class arr found here absent e = grind (arith, unnamed-class, got)
 
 -- the hour of the arrival is all of it that counts
 pub same-hour : (d : DelayLists) (class : Option ℕ) (route : Option (List ℕ)) (a b : ℕ) → hour_of a ≡ hour_of b → class_for d class route a ≡ class_for d class route b

@@ -1,5 +1,5 @@
 -- The classes of a table without a fault are valid.
-use Rattle.delay_table.proofs.Common.{◌≡◌, ℕ, ◌+◌, ◌<◌, ◌≤◌, ◌==◌, nat_lt, Bool, true, false, List, [], ◌∷◌, ◌++◌, length, map, get_or, sum_by, Option, Some, None, IfSome, option_map, if◌then◌else◌}
+use Rattle.delay_table.proofs.Common.{◌≡◌, ℕ, ◌+◌, ◌<◌, ◌≤◌, nat_lt, Bool, true, false, List, [], ◌∷◌, ◌++◌, length, map, get_or, sum_by, Option, Some, None, IfSome, option_map, if◌then◌else◌}
 use Rattle.delay_table.proofs.Common.{refl, sym, ap, ◌∙◌, subst, arith, All, length-append, eqb-true, ltb-false, cases_Bool, get_or_default, length-map, All-cons, All-append, All-map, option_or}
 use Rattle.delay_table.proofs.Common.{Outcome, IsValidRow, first_below, none-both, none-each, DelayFault, TooManyClasses, WeightSum, GroupSum, GroupRows, DelayLists, end_of_types, most_groups}
 use Rattle.delay_table.proofs.Common.{whole_weight, Group, group_in, is_plain, of_class, plain_types, class_name, class_rows, class_sum, delays_in, group_sum, group_sum_at, groups_fault, groups_of}
@@ -13,8 +13,7 @@ use Rattle.delay_table.proofs.NamedTypes.{route_types_below-are}
 use Rattle.delay_table.proofs.PlainTypes.{groups-are}
 
 none_mapped : (f : ℕ → DelayFault) (o : Option ℕ) → option_map f o ≡ None → o ≡ None
-none_mapped f None h = refl
-none_mapped f (Some x) h = absurd (cc)
+none_mapped f o h = grind arith
 
 none_else : (b : Bool) (o : Option DelayFault) → b ≡ false → (if b then None else o) ≡ None → o ≡ None
 none_else b o e h = grind (arith, cases_Bool b)
@@ -26,15 +25,13 @@ sum_if : (b : Bool) (n : ℕ) → (if b then None else Some n) ≡ None → b �
 sum_if b n h = grind (arith, cases_Bool b)
 
 sum_right : (r : List Outcome) → 0 < length r → other_sum r ≡ None → sum_by (λ o. o.weight) r ≡ whole_weight
-sum_right [] some h = absurd (omega arith)
-sum_right (o ∷ os) some h = eqb-true (sum_by (λ o. o.weight) (o ∷ os)) whole_weight (sum_if (sum_by (λ o. o.weight) (o ∷ os) == whole_weight) (sum_by (λ o. o.weight) (o ∷ os)) h)
+sum_right r some h = grind (arith, eqb-true, sum_by, sum_if)
 
 valid_row : (r : List Outcome) → IsGroupStart r → 0 < length r → other_sum r ≡ None → IsValidRow r
 valid_row r s some h = record { some = some; few = s.few; rising = s.rising; delays = s.delays; weights = s.weights; total = sum_right r some h }
 
 default_some : (r : List Outcome) → no_default_of r ≡ None → 0 < length r
-default_some [] h = absurd (cc)
-default_some (o ∷ os) h = omega arith
+default_some r h = grind arith
 
 module _ (groups : List Group) (read : List GroupRows) (is : AreGroupsRead groups read)
     (sound : groups_fault (read_outcomes groups read) groups (line_at read) ≡ None)

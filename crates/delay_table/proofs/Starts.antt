@@ -1,7 +1,8 @@
 -- The outcomes of one group, one more at a time.
-use Rattle.delay_table.proofs.Common.{cases_Bool, ◌≡◌, ◌+◌, ◌-◌, ◌<◌, ◌≤◌, Bool, true, false, nat_le, List, [], ◌∷◌, ◌++◌, length, slice_get, slice_index_or, Option, Some, None, if◌then◌else◌, refl}
+use Rattle.std.proofs.lemmas.Grind.{common_steps}
+use Rattle.delay_table.proofs.Common.{cases_Bool, ◌≡◌, ◌+◌, ◌-◌, ◌<◌, ◌≤◌, Bool, true, false, List, [], ◌∷◌, ◌++◌, length, slice_get, slice_index_or, Option, Some, None, if◌then◌else◌, refl}
 use Rattle.delay_table.proofs.Common.{sym, subst, arith, ⊎_elim, length-append, append-nil, zero, suc, ℕ, IfSome, add-one, ap, ◌∙◌, cases_lt, leb-false, ltb-true, All-push, slice_get-get_or}
-use Rattle.delay_table.proofs.Common.{all_pairs_push, Outcome, seconds_per_day, DelayFault, NotRising, Group, same_group, Line, fault_after, fault_of, delay_rises, too_many, of_group, group_outcomes}
+use Rattle.delay_table.proofs.Common.{all_pairs_push, Outcome, seconds_per_day, DelayFault, Group, same_group, Line, fault_after, fault_of, delay_rises, of_group, group_outcomes}
 use Rattle.delay_table.proofs.Common.{line_fault, IsGroupStart, first_below, field, RouteId, none-each}
 use Rattle.delay_table.specs.Delays.{line_at}
 use Rattle.delay_table.proofs.GroupFacts.{same-equal}
@@ -28,17 +29,7 @@ rises_each r delay s h k d l =
 -- one more row with no fault
 start_next : (r : List Outcome) (line : Line) (number : ℕ) → IsGroupStart r → fault_after r line number ≡ None → line.outcome.delay ≤ seconds_per_day
     → 1 ≤ line.outcome.weight → IsGroupStart (r ++ line.outcome ∷ [])
-start_next r line number s none d w =
-    let o = line.outcome in
-    let t = none_cases (nat_le 64 (length r)) (delay_rises (slice_get r (length r - 1)) o.delay) (too_many line.group number) (NotRising number) none in
-    let room : length r < 64 = leb-false 64 (length r) t.0 in
-    let size : length (r ++ o ∷ []) ≡ length r + 1 = length-append r (o ∷ []) in
-    record {
-      few = omega arith;
-      rising = all_pairs_push (λ a b. a.delay < b.delay) r o s.rising (rises_each r o.delay s t.1);
-      delays = All-push (λ (x : Outcome). x.delay ≤ seconds_per_day) r o s.delays d;
-      weights = All-push (λ (x : Outcome). 1 ≤ x.weight) r o s.weights w;
-    }
+start_next r line number s none d w = grind (arith, common_steps, none_cases, slice_get, leb-false, length-append, all_pairs_push, rises_each, All-push)
 
 start_if : (b : Bool) (r : List Outcome) (o : Outcome) → IsGroupStart r → (b ≡ true → IsGroupStart (r ++ o ∷ [])) → IsGroupStart (r ++ (if b then o ∷ [] else []))
 start_if b r o s h = grind (arith, cases_Bool b, append-nil)

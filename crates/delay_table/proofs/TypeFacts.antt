@@ -1,5 +1,5 @@
 -- The index of a route type among those that are named, and the greatest delay of a class.
-use Rattle.delay_table.proofs.Common.{◌≡◌, slice_get, ℕ, zero, suc, ◌+◌, ◌-◌, ◌<◌, ◌≤◌, ◌==◌, List, length, get_or, slice_index, slice_index_or, Option, Some, None, option_map, sym, ap, ◌∙◌, subst}
+use Rattle.delay_table.proofs.Common.{◌≡◌, slice_get, ℕ, ◌+◌, ◌-◌, ◌<◌, ◌≤◌, ◌==◌, List, length, get_or, slice_index, slice_index_or, Option, Some, None, option_map, sym, ap, ◌∙◌, subst}
 use Rattle.delay_table.proofs.Common.{arith, ⊎_elim, eq-or-lt_of_le, Contains, All, eq-eqb, ne_eqb, unwrap_or, cases_lt, get_or_default, slice_get_within, get_or_from_slice_get, Outcome, IsValidRow}
 use Rattle.delay_table.proofs.Common.{absent_by, found_by, DelayLists, class_at, hour_class, route_class, type_class, type_index, option_or, AreDelays, IsClassOf}
 
@@ -40,8 +40,7 @@ own_index types rising route j h =
 -- the index of a route type, by its class
 pub class-index : (types : List ℕ) → ((i j : ℕ) → i < j → j < length types → get_or types i 0 < get_or types j 0) → (route k : ℕ)
     → IsClassOf types route k → (k ≡ 0 → type_index types route ≡ None) × ((j : ℕ) → k ≡ j + 1 → type_index types route ≡ Some j)
-class-index types rising route zero h = (λ e. no_index types route h, λ j e. absurd (omega (arith, e)))
-class-index types rising route (suc j) h = grind (arith, own_index)
+class-index types rising route k h = grind (arith, no_index, own_index)
 
 pub class-none : (d : DelayLists) → AreDelays d → (route k : ℕ) → IsClassOf d.types route k → k ≡ 0 → None ≡ type_class d (Some route)
 class-none d s route k h e = sym (ap (option_map (λ n. n + 1)) ((class-index d.types s.rising route k h).0 e))

@@ -1,6 +1,6 @@
 -- The rows of a reach by their places.
-use Rattle.departure_table.proofs.Common.{◌≡◌, ◌≢◌, ℕ, zero, suc, ◌+◌, ◌<◌, ◌≤◌, ◌==◌, arith, Option, Some, None, List, [], ◌∷◌, length, true, false, refl, sym, ap, ◌∙◌, subst, inl, inr, All, AllPairs, MatchOption}
-use Rattle.departure_table.proofs.Common.{slice_index_or, cases_eq, cases_lt, nat_tests, Query, NetworkModel, IsValid, Tree, Done, Ride, Stuck, SafeFrom, IsNoneSafeFrom, end_of_arrivals}
+use Rattle.departure_table.proofs.Common.{◌≡◌, ◌≢◌, ℕ, zero, suc, ◌<◌, ◌==◌, arith, Option, Some, None, List, [], ◌∷◌, length, true, false, refl, sym, ◌∙◌, subst, inl, inr, All, AllPairs, MatchOption}
+use Rattle.departure_table.proofs.Common.{slice_index_or, cases_eq, cases_lt, nat_tests, Query, NetworkModel, IsValid, SafeFrom, IsNoneSafeFrom, end_of_arrivals}
 use Rattle.std.proofs.Common.{ap₂}
 use Rattle.std.proofs.lemmas.List.Elements.{All-cons}
 use Rattle.departure_table.specs.Reach.{IsReach, IsReachRow, row_of_place}
@@ -86,9 +86,4 @@ module _ (m : NetworkModel) (q : Query) (start : ℕ) where
 
   -- at its latest moment a connection is boarded
   pub leaves_early : IsValid m → (row : ReachRow) → row.place.0 ≢ q.target.0 → IsReachRow m q start row → row.latest.0 < end_of_arrivals
-  leaves_early v row away is = by_tree is.latest.1.0 is.latest.1.1
-    where
-      by_tree : (tree : Tree) → SafeFrom m row.place.0 q row.latest.0 tree → row.latest.0 < end_of_arrivals
-      by_tree (Done a) safe = absurd (away safe.1)
-      by_tree (Ride i j kids) safe = let c = v.connections i safe.1.enter in omega (arith, safe.2.1, c.forward, c.early)
-      by_tree (Stuck place x) safe = absurd safe
+  leaves_early v row away is = grind arith

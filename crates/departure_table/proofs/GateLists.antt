@@ -1,6 +1,7 @@
 -- The lists of a network with gates, as they are made.
-use Rattle.departure_table.proofs.Common.{◌≡◌, ℕ, ◌+◌, ◌<◌, List, [], ◌∷◌, ◌++◌, length, map, arith, sym, ap, ◌∙◌, inl, inr, append-nil, append_assoc, cases_eq, slice_index_or, range_with_len, take}
-use Rattle.departure_table.proofs.Common.{Connection, NetworkModel, plain_network, IsValid, AreLinksInto, FitGates, PlaceId, Way, links_into, source_at, way_from, way_if_to, ways_from_gates, links_with_gates, places_with, extended_by}
+use Rattle.std.proofs.lemmas.Grind.{common_steps}
+use Rattle.departure_table.proofs.Common.{◌≡◌, ℕ, ◌+◌, ◌<◌, List, [], ◌∷◌, ◌++◌, length, map, arith, sym, ap, ◌∙◌, append-nil, append_assoc, cases_eq, slice_index_or, range_with_len, take}
+use Rattle.departure_table.proofs.Common.{Connection, NetworkModel, plain_network, IsValid, AreLinksInto, FitGates, PlaceId, Way, links_into, source_at, way_from, ways_from_gates, links_with_gates, places_with, extended_by}
 use Rattle.std.specs.Prelude.{slice_set}
 use Rattle.std.proofs.lemmas.List.{get_or-set_same, get_or-set_other, take_more, length-take-le, ext_get_or}
 use Rattle.std.proofs.lemmas.List.FromFn.{map-range_with_len_more, length-map-range_with_len, get_or-map-range_with_len}
@@ -10,9 +11,7 @@ use Rattle.plan_model.proofs.GateWays.{ways_from_gates-push, if_here, if_away, p
 
 -- the lists for one place more
 pub lists_more : (f : ℕ → List Way) (place : ℕ) (old now : List (List Way)) (one : List Way) → old ≡ map f (range_with_len 0 place) → one ≡ f place → now ≡ old ++ one ∷ [] → now ≡ map f (range_with_len 0 (place + 1))
-lists_more f place old now one before is grows =
-    grows ∙ ap (λ (xs : List (List Way)). xs ++ one ∷ []) before ∙ ap (λ (x : List Way). map f (range_with_len 0 place) ++ x ∷ []) is
-    ∙ sym (map-range_with_len_more f 0 place place (omega arith))
+lists_more f place old now one before is grows = grind (arith, map-range_with_len_more)
 
 -- the links into each place, with those from the first gates
 abbrev pub LedTo : List (List Way) → List (List Way) → ℕ → List PlaceId → Type 0
@@ -21,24 +20,7 @@ LedTo old now gate sources = (place : ℕ) → slice_index_or now place [] ≡ s
 pub led_to_more : (old links : List (List Way)) (gate k : ℕ) (sources : List PlaceId) (into : List Way) → k < length sources → source_at sources k < length links
     → LedTo old links gate (take k sources) → into ≡ slice_index_or links (source_at sources k) [] ++ way_from (gate + k) ∷ [] → LedTo old (slice_set links (source_at sources k) into) gate (take (k + 1) sources)
 led_to_more old links gate k sources into within inside before is place =
-    let none : PlaceId = record { 0 = 0 } in
-    let s = slice_index_or sources k none in
-    let after : ways_from_gates gate (take (k + 1) sources) place ≡ ways_from_gates gate (take k sources) place ++ way_if_to (gate + k) s place =
-    ap (λ (xs : List PlaceId). ways_from_gates gate xs place) (take_more sources k none within)
-    ∙ ways_from_gates-push gate (take k sources) s place
-    ∙ ap (λ (i : ℕ). ways_from_gates gate (take k sources) place ++ way_if_to (gate + i) s place) (length-take-le k sources (omega (arith, within))) in
-    let whole : (slice_index_or old place [] ++ ways_from_gates gate (take k sources) place) ++ way_if_to (gate + k) s place ≡ slice_index_or old place [] ++ ways_from_gates gate (take (k + 1) sources) place =
-    append_assoc (slice_index_or old place []) (ways_from_gates gate (take k sources) place) (way_if_to (gate + k) s place) ∙ ap (λ (ways : List Way). slice_index_or old place [] ++ ways) (sym after) in
-    elim (cases_eq place s.0) [
-      | inl here ↦
-          let at : slice_index_or (slice_set links s.0 into) place [] ≡ into = ap (λ (p : ℕ). slice_index_or (slice_set links s.0 into) p []) here ∙ get_or-set_same links s.0 into [] inside in
-          at ∙ is ∙ ap (λ (p : ℕ). slice_index_or links p [] ++ way_from (gate + k) ∷ []) (sym here) ∙ ap (λ (ways : List Way). ways ++ way_from (gate + k) ∷ []) (before place)
-          ∙ ap (λ (ways : List Way). (slice_index_or old place [] ++ ways_from_gates gate (take k sources) place) ++ ways) (sym (if_here (gate + k) s place here)) ∙ whole
-      | inr away ↦
-          get_or-set_other links s.0 place into [] away ∙ before place
-          ∙ sym (append-nil (slice_index_or old place [] ++ ways_from_gates gate (take k sources) place))
-          ∙ ap (λ (ways : List Way). (slice_index_or old place [] ++ ways_from_gates gate (take k sources) place) ++ ways) (sym (if_away (gate + k) s place away)) ∙ whole
-    ]
+    grind (arith, common_steps, take_more, ways_from_gates-push, length-take-le, append_assoc, cases_eq, get_or-set_same, if_here, get_or-set_other, append-nil, if_away)
 
 -- the links of all, as one list
 pub all_led_to : (m : NetworkModel) (sources : List PlaceId) (old now : List (List Way)) → old ≡ map (links_into m) (range_with_len 0 (places_with m sources)) → length now ≡ length old
@@ -65,8 +47,7 @@ module _ (m : NetworkModel) (v : IsValid m) (sources : List PlaceId) (fit : FitG
 
   -- there is a list of links for each place
   pub as_many_links : (links : List (List Way)) (change : List ℕ) → links ≡ more.links → change ≡ more.change → length links ≡ length change
-  as_many_links links change a b =
-      ap length a ∙ length-map-range_with_len (links_with_gates m sources) 0 (places_with m sources) ∙ sym (places m v sources fit.there fit.few) ∙ ap length (sym b)
+  as_many_links links change a b = grind (arith, length-map-range_with_len, places)
 
   pub are_links : (links : List (List Way)) (change : List ℕ) → links ≡ more.links → change ≡ more.change → (r : ℕ) → r < length change → AreLinksInto (length change) r (slice_index_or links r [])
   are_links links change a b =

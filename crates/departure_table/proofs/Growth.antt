@@ -1,8 +1,9 @@
 -- A table that grows from look to look.
+use Rattle.std.proofs.lemmas.Grind.{common_steps}
 use Rattle.departure_table.proofs.Common.{◌≡◌, ℕ, zero, suc, ◌+◌, ◌<◌, ◌≤◌, arith, Some, None, List, [], ◌∷◌, ◌++◌, true, false, refl, ⊎_elim, All, AllPairs, MatchOption, nat_le, cases_lt, nat_tests}
 use Rattle.departure_table.proofs.Common.{NetworkModel, Tree, DepartureRow, IsNoneSafeFrom, IsBestFrom, IsDepartureRow, IsTable, first_row_by}
 use Rattle.std.proofs.lemmas.List.Quantifiers.{all_pairs_push}
-use Rattle.std.proofs.lemmas.List.Elements.{All-nil, All-push}
+use Rattle.std.proofs.lemmas.List.Elements.{All-push}
 
 row_past : (moment : ℕ) (rows : List DepartureRow) → All (λ r. r.by.0 < moment) rows → first_row_by moment rows ≡ None
 row_past moment [] few = refl
@@ -20,10 +21,7 @@ row_last moment (r ∷ rows) row few within =
 
 row_kept : (moment : ℕ) (rows : List DepartureRow) (row found : DepartureRow) → first_row_by moment rows ≡ Some found → first_row_by moment (rows ++ row ∷ []) ≡ Some found
 row_kept moment [] row found is = absurd (cc)
-row_kept moment (r ∷ rows) row found is =
-    ⊎_elim (λ gt. let test : nat_le moment r.by.0 ≡ false = grind (arith, nat_tests) in rw test (row_kept moment rows row found (rw test at is)))
-    (λ le. let test : nat_le moment r.by.0 ≡ true = grind (arith, nat_tests) in rw test (rw test at is))
-    (cases_lt r.by.0 moment)
+row_kept moment (r ∷ rows) row found is = grind (arith, nat_tests, cases_lt, row_kept moment rows row found)
 
 -- the table as far as the moments before the next look
 pub record IsTableTo (m : NetworkModel) (Safe : ℕ → Tree → Type 0) (first last next : ℕ) (rows : List DepartureRow) : Type 0 where
@@ -35,9 +33,6 @@ pub record IsTableTo (m : NetworkModel) (Safe : ℕ → Tree → Type 0) (first 
   pub before : All (λ row. row.by.0 < next) rows
 
 module _ (m : NetworkModel) (Safe : ℕ → Tree → Type 0) (first last : ℕ) where
-  pub no_rows : IsTableTo m Safe first last first []
-  no_rows = grind (arith, All-nil)
-
   module _ (next : ℕ) (rows : List DepartureRow) (t : IsTableTo m Safe first last next rows) where
     module _ (row : DepartureRow) (soon : next ≤ last) (ahead : next ≤ row.by.0) (departure : IsDepartureRow m row)
         (best : (moment : ℕ) → next ≤ moment → moment ≤ row.by.0 → IsBestFrom m Safe moment row) where
@@ -51,16 +46,7 @@ module _ (m : NetworkModel) (Safe : ℕ → Tree → Type 0) (first last : ℕ) 
           (cases_lt moment next)
 
       pub grown : IsTableTo m Safe first last (row.by.0 + 1) (rows ++ row ∷ [])
-      grown =
-          let sooner : All (λ (r : DepartureRow). r.by.0 < row.by.0 + 1) rows = λ k d h. let b = t.before k d h in omega arith in
-          record {
-            in_order = let o = t.in_order in omega arith;
-            found = found_more;
-            departures = All-push (IsDepartureRow m) rows row t.departures departure;
-            from_first = All-push (λ (r : DepartureRow). first ≤ r.by.0) rows row t.from_first (let o = t.in_order in omega arith);
-            rising = all_pairs_push (λ (a b : DepartureRow). (a.by.0 < b.by.0) × (a.by.0 < last)) rows row t.rising (λ k d h. let b = t.before k d h in (omega arith, omega arith));
-            before = All-push (λ (r : DepartureRow). r.by.0 < row.by.0 + 1) rows row sooner (omega arith);
-          }
+      grown = grind (arith, common_steps, found_more, All-push, all_pairs_push)
 
     abbrev Answer : ℕ → Type 0
     Answer moment = MatchOption (first_row_by moment rows) (IsNoneSafeFrom Safe moment) (IsBestFrom m Safe moment)

@@ -1,6 +1,6 @@
 -- The greatest moment, the rows of a table, and the least worst arrival.
-use Rattle.departure_table.proofs.Common.{◌≡◌, ℕ, zero, suc, ◌<◌, ◌≤◌, ◌⊎◌, List, [], ◌∷◌, length, Option, Some, None, true, false, All, IsSome, MatchOption, arith, inl, inr, refl, subst, nat_le}
-use Rattle.departure_table.proofs.Common.{slice_index_or, cases_lt, cases_order, nat_tests, Query, Moment, NetworkModel, Tree, Done, Ride, Stuck, IsLeastWorst, DepartureRow, SafeFrom, IsNoneSafeFrom}
+use Rattle.departure_table.proofs.Common.{◌≡◌, ℕ, zero, suc, ◌<◌, ◌≤◌, ◌⊎◌, List, [], ◌∷◌, length, Option, Some, None, true, false, All, IsSome, arith, inl, inr, refl, subst, nat_le}
+use Rattle.departure_table.proofs.Common.{slice_index_or, cases_lt, cases_order, nat_tests, Query, Moment, NetworkModel, Tree, Done, Ride, Stuck, IsLeastWorst, DepartureRow, SafeFrom}
 use Rattle.departure_table.proofs.Common.{IsBestFrom, IsDepartureRow, IsTable, IsGreatestMoment, first_row_by}
 use Rattle.plan_model.proofs.Laws.{reaches_from_safe, safe_exists}
 use Rattle.departure_table.specs.Latest.{IsOfLastRow, AgreesWithLeastWorst}
@@ -49,8 +49,7 @@ module _ (m : NetworkModel) (source : ℕ) (q : Query) where
     -- the first row by a moment is not after the greatest one
     first_up_to : (moment : ℕ) → first ≤ moment → moment ≤ last → (f : IsFirst moment rows) → f.row.by.0 ≤ g.0
     first_up_to moment from within f =
-        let best : IsBestFrom m (SafeFrom m source q) moment f.row =
-        subst (λ (o : Option DepartureRow). MatchOption o (IsNoneSafeFrom (SafeFrom m source q) moment) (IsBestFrom m (SafeFrom m source q) moment)) f.first (table.answers moment from within) in
+        let best : IsBestFrom m (SafeFrom m source q) moment f.row = grind arith in
         let departure : IsDepartureRow m f.row = subst (IsDepartureRow m) (f.here f.row) (table.departures f.k f.row f.within) in
         let own = safe_by_row moment f.row departure best in
         elim (cases_lt g.0 f.row.by.0) [
@@ -89,10 +88,7 @@ module _ (m : NetworkModel) (source : ℕ) (q : Query) where
       each = up_to_greatest;
       one = λ within. elim (first_or_none g.0 rows) [
         | inl f ↦ let l = first_up_to g.0 greatest.0 within f in let h = f.late in (f.row, f.first, omega (arith, l, h))
-        | inr none ↦
-            let never : IsNoneSafeFrom (SafeFrom m source q) g.0 =
-            subst (λ (o : Option DepartureRow). MatchOption o (IsNoneSafeFrom (SafeFrom m source q) g.0) (IsBestFrom m (SafeFrom m source q) g.0)) none.0 (table.answers g.0 greatest.0 within) in
-            absurd (never greatest.1.0 greatest.1.1)
+        | inr none ↦ grind arith
       ];
     }
 

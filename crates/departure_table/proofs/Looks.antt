@@ -76,13 +76,8 @@ module _ (n : NetworkModel) (q : Query) (found : ScanResult MeanSpan) (solves : 
     answer_last : SolvesEach mean_scoring n q found here x last
     answer_last = MatchOption-at_some _ _ _ is (solves here x differ)
 
-    pub last_enter : last.1.enter.0 < count n
-    last_enter = (safe_ride x last is answer_last).1.enter
-
     none_past : IsValid n → (moment : ℕ) → dep_of n last.1.enter.0 < moment → IsNoneSafeFrom (SafeAfter n q) moment
-    none_past valid moment past =
-        let ahead = looks_ahead x last is answer_last valid (row_of_choice n last) refl refl refl in
-        none_at (moment - 1) (none_after (moment - 1) (omega (arith, ahead.0, past)))
+    none_past valid moment past = grind (arith, looks_ahead, answer_last, none_at)
 
     pub last_is_greatest : IsValid n → (first : ℕ) (by : Moment) → by.0 ≡ dep_of n last.1.enter.0 → first ≤ by.0 → IsGreatestMoment (SafeAfter n q) first (Some by)
     last_is_greatest valid first by departs within =

@@ -4,7 +4,7 @@ use Rattle.departure_table.proofs.Common.{slice_index_or, cases_eq, nat_tests, Q
 use Rattle.std.proofs.lemmas.List.Quantifiers.{all_pairs_push}
 use Rattle.std.proofs.lemmas.List.Elements.{All-push}
 use Rattle.std.proofs.lemmas.List.FromFn.{map-range_with_len_more, length-map-range_with_len, get_or-map-range_with_len}
-use Rattle.departure_table.specs.Reach.{IsReach, IsReachRow, row_of_place, places_of, places_up_to}
+use Rattle.departure_table.specs.Reach.{IsReachRow, row_of_place, places_of, places_up_to}
 use Rattle.departure_table.specs.declared.reach_rows.ReachRow.{ReachRow}
 
 abbrev place_named : ℕ → PlaceId
@@ -20,10 +20,7 @@ pub places_more : (k : ℕ) → places_up_to (k + 1) ≡ places_up_to k ++ place
 places_more k = map-range_with_len_more place_named 0 k k (omega arith)
 
 pub are_below : (count : ℕ) → All (λ place. place.0 < count) (places_up_to count)
-are_below count k d within =
-    let inside : k < count = omega (arith, within, count_up_to count) in
-    let same = place_at count k d inside in
-    rw same inside
+are_below count k d within = grind (arith, count_up_to, place_at)
 
 -- the gate of each place
 pub gate_of : (n m : NetworkModel) (place : ℕ) → HasGates n m (places_of m) → place < length m.change → IsGate n m (length m.change + place) place
@@ -32,10 +29,7 @@ gate_of n m place has inside =
 
 other_row : (p : ℕ) (rows : List ReachRow) (row : ReachRow) → row.place.0 ≢ p → row_of_place p (rows ++ row ∷ []) ≡ row_of_place p rows
 other_row p [] row away = let test : (row.place.0 == p) ≡ false = grind (arith, nat_tests) in rw test refl
-other_row p (r ∷ rows) row away = elim (cases_eq r.place.0 p) [
-  | inl here ↦ let test : (r.place.0 == p) ≡ true = grind (arith, nat_tests) in rw test refl
-  | inr other ↦ let test : (r.place.0 == p) ≡ false = grind (arith, nat_tests) in rw test (other_row p rows row away)
-]
+other_row p (r ∷ rows) row away = grind (arith, nat_tests, cases_eq, other_row p rows row away)
 
 last_row : (p : ℕ) (rows : List ReachRow) (row : ReachRow) → All (λ r. r.place.0 < p) rows → row.place.0 ≡ p → row_of_place p (rows ++ row ∷ []) ≡ Some row
 last_row p [] row before here = let test : (row.place.0 == p) ≡ true = grind (arith, nat_tests) in rw test refl
@@ -72,9 +66,7 @@ module _ (m : NetworkModel) (q : Query) (start : ℕ) where
     pub passed : (end ≢ q.target.0 → IsNoneSafeFrom (SafeFrom m end q) start) → IsReachTo (end + 1) rows
     passed none = record {
       answers = λ p within away. elim (cases_eq p end) [
-        | inl last ↦
-            let e = no_row end rows before in
-            subst (λ (k : ℕ). Answer k rows) (sym last) (rw e (none (λ same. away (last ∙ same))))
+        | inl last ↦ grind (arith, no_row, before)
         | inr other ↦ t.answers p (omega (arith, within, other)) away
       ];
       places = wider;
@@ -84,16 +76,9 @@ module _ (m : NetworkModel) (q : Query) (start : ℕ) where
     pub grown : (row : ReachRow) → row.place.0 ≡ end → end ≢ q.target.0 → IsReachRow m q start row → IsReachTo (end + 1) (rows ++ row ∷ [])
     grown row here away is = record {
       answers = λ p within apart. elim (cases_eq p end) [
-        | inl last ↦
-            let e = last_row end rows row before here in
-            subst (λ (k : ℕ). Answer k (rows ++ row ∷ [])) (sym last) (rw e is)
-        | inr other ↦
-            let e = other_row p rows row (λ same. other (sym same ∙ here)) in
-            rw e (t.answers p (omega (arith, within, other)) apart)
+        | inl last ↦ grind (arith, last_row, before)
+        | inr other ↦ grind (arith, other_row)
       ];
       places = All-push (λ (r : ReachRow). (r.place.0 < end + 1) × (r.place.0 ≢ q.target.0)) rows row wider (omega (arith, here), λ same. away (sym here ∙ same));
       rising = all_pairs_push (λ (a b : ReachRow). a.place.0 < b.place.0) rows row t.rising (λ k d within. let b = before k d within in omega (arith, b, here));
     }
-
-  pub whole : (rows : List ReachRow) → IsReachTo (length m.change) rows → IsReach m q start rows
-  whole rows t = record { answers = t.answers; places = t.places; rising = t.rising }

@@ -1,11 +1,10 @@
 -- A scan finds the same at the gates of one source, whatever other gates there are.
-use Rattle.departure_table.proofs.Common.{◌≡◌, ℕ, zero, suc, ◌+◌, ◌-◌, ◌<◌, ◌≤◌, ◌==◌, arith, inl, inr, Option, Some, None, List, [], ◌∷◌, length, All, false, refl, ap, sym, ◌∙◌, if◌then◌else◌, nat_le, nat_tests}
-use Rattle.departure_table.proofs.Common.{Query, PlaceId, NetworkModel, IsValid, MeanSpan, way_of, from_of, extended_by, source_at, FitGates, row_found, row_of_choice, DepartureRow, AreLooked}
+use Rattle.departure_table.proofs.Common.{◌≡◌, ℕ, zero, suc, ◌+◌, ◌-◌, ◌<◌, ◌≤◌, ◌==◌, arith, inl, inr, Option, Some, None, List, [], ◌∷◌, length, All, refl, ap, sym, ◌∙◌, if◌then◌else◌, nat_tests}
+use Rattle.departure_table.proofs.Common.{Query, PlaceId, NetworkModel, IsValid, MeanSpan, way_of, extended_by, source_at, FitGates, row_found, row_of_choice, DepartureRow, AreLooked}
 unfoldable use Rattle.plan_model.specs.Network.{connection, row_of}
-use Rattle.std.specs.Option.{option_map, option_and_then}
-use Rattle.plan_model.specs.Network.{count, to_of, arr_of, outcomes, run_of, dep_of}
+use Rattle.std.specs.Option.{option_map}
+use Rattle.plan_model.specs.Network.{count}
 use Rattle.plan_model.specs.Order.{IsScanOrder}
-use Rattle.plan_model.specs.Ways.{earlier_by, limit_of}
 use Rattle.plan_model.specs.declared.model.ConnectionId.{ConnectionId}
 use Rattle.plan_model.specs.declared.model.Outcome.{Outcome}
 use Rattle.plan_model.proofs.ScanOrders.{has_each_id}
@@ -16,8 +15,8 @@ use Rattle.value_laws.specs.ScoreLaws.{Scoring}
 use Rattle.value_laws.specs.Means.{mean_scoring}
 use Rattle.meat_scan.specs.Rules.{Kept, kept_after, kept_next, FollowsRules}
 use Rattle.meat_scan.specs.ScanResult.{ScanResult, found_rows}
-use Rattle.meat_scan.specs.Step.{alighted_by, boarding_exit, exits_next, exits_with, rows_with, leg_of}
-use Rattle.meat_scan.specs.Values.{values_after, value_after_arrival}
+use Rattle.meat_scan.specs.Step.{exits_with}
+use Rattle.meat_scan.specs.Values.{values_after}
 use Rattle.plan_model.proofs.GateWays.{same_ways, from_the_gate}
 use Rattle.departure_table.specs.Looked.{asked_at}
 use Rattle.departure_table.specs.Reach.{BeginsWithBounds, FirstAlike, places_of}
@@ -27,11 +26,7 @@ use Rattle.departure_table.proofs.ReachGrowth.{count_up_to, place_at}
 values_alike : {V : Type 0} (arrived : ℕ → V) (target deadline : ℕ) (a b : ℕ → List (Row V)) (place moment : ℕ) (row : List Outcome) → a place ≡ b place
     → values_after arrived target deadline a place moment row ≡ values_after arrived target deadline b place moment row
 values_alike arrived target deadline a b place moment [] same = refl
-values_alike {V} arrived target deadline a b place moment (o ∷ row) same =
-    let rest = values_alike arrived target deadline a b place moment row same in
-    let value : value_after_arrival arrived target deadline a place (moment + o.delay) ≡ value_after_arrival arrived target deadline b place (moment + o.delay) =
-    ap (λ (rows : List (Row V)). if place == target then (if nat_le (moment + o.delay) deadline then Some (arrived (moment + o.delay)) else None) else option_map (λ (r : Row V). r.value) (row_in_time (moment + o.delay) rows)) same in
-    rw (value, rest) refl
+values_alike {V} arrived target deadline a b place moment (o ∷ row) same = grind (arith, values_alike arrived target deadline a b place moment row same)
 
 -- of the exits only that of one run counts
 exits_alike : {V : Type 0} (s : Scoring V) (id : ConnectionId) (run other : ℕ) (o : Option V) (a b : ℕ → Option (Exit V)) → a other ≡ b other → exits_with s id run o a other ≡ exits_with s id run o b other
@@ -52,19 +47,10 @@ module _ (m : NetworkModel) (v : IsValid m) (xs ys : List PlaceId) (there : All 
     targets : (a == q.target.0) ≡ (b == q.target.0)
 
   alike_places : (p : ℕ) → p < length m.change → AreAlike p p
-  alike_places p inside = record {
-    ways = λ to h. same_ways m v xs there few p to inside h ∙ sym (same_ways m v ys there_too few_too p to inside h);
-    targets = refl;
-  }
+  alike_places p inside = grind (arith, same_ways)
 
   alike_gates : (k j : ℕ) → k < length xs → j < length ys → source_at xs k ≡ source_at ys j → q.target.0 < length m.change → AreAlike (length m.change + k) (length m.change + j)
-  alike_gates k j first second same inside =
-      let one : (length m.change + k == q.target.0) ≡ false = grind (arith, nat_tests) in
-      let two : (length m.change + j == q.target.0) ≡ false = grind (arith, nat_tests) in
-      record {
-        ways = λ to h. from_the_gate m v xs there few k to first h ∙ ap (λ (s : ℕ). if to == s then Some 1 else None) same ∙ sym (from_the_gate m v ys there_too few_too j to second h);
-        targets = one ∙ sym two;
-      }
+  alike_gates k j first second same inside = grind (arith, nat_tests, from_the_gate)
 
   module _ {V : Type 0} (s : Scoring V) where
     -- what is kept of the same connections in the two networks
@@ -74,31 +60,7 @@ module _ (m : NetworkModel) (v : IsValid m) (xs ys : List PlaceId) (there : All 
 
     next_alike : (id : ℕ) (a b : Kept V) → id < count m → IsKeptAlike a b → IsKeptAlike (kept_next s A (asked_at q x) id a) (kept_next s B (asked_at q y) id b)
     unfolding connection row_of
-    next_alike id a b inside alike =
-        let to = to_of m id in
-        let arrives = values_alike s.arrived q.target.0 q.deadline.0 a.rows b.rows to (arr_of m id) (outcomes m id) (alike.rows to to (alike_places to (v.connections id inside).to_in)) in
-        let alighted : alighted_by s A (asked_at q x) a.rows id ≡ alighted_by s B (asked_at q y) b.rows id =
-        ap (λ (values : Option (List V)). if (connection m id).can_exit then option_map (s.blended (outcomes m id)) values else None) arrives in
-        let exits : (run : ℕ) → exits_next s A (asked_at q x) id a.rows a.exits run ≡ exits_next s B (asked_at q y) id b.rows b.exits run = λ run.
-        ap (λ (o : Option V). exits_with s (record { 0 = id }) (run_of m id) o a.exits run) alighted
-        ∙ exits_alike s (record { 0 = id }) (run_of m id) run (alighted_by s B (asked_at q y) b.rows id) a.exits b.exits (alike.exits run) in
-        let boards : boarding_exit A id (exits_next s A (asked_at q x) id a.rows a.exits) ≡ boarding_exit B id (exits_next s B (asked_at q y) id b.rows b.exits) =
-        ap (λ (e : Option (Exit V)). if (connection m id).can_board then e else None) (exits (run_of m id)) in
-        record {
-          exits = exits;
-          rows = λ p r same.
-              ap (λ (o : Option (Exit V)). rows_with s A (asked_at q x) id o a.rows p) boards
-              ∙ with_alike (boarding_exit B id (exits_next s B (asked_at q y) id b.rows b.exits)) p r same;
-        }
-      where
-        with_alike : (o : Option (Exit V)) (p r : ℕ) → AreAlike p r → rows_with s A (asked_at q x) id o a.rows p ≡ rows_with s B (asked_at q y) id o b.rows r
-        with_alike None p r same = alike.rows p r same
-        with_alike (Some exit) p r same =
-            let rows = alike.rows p r same in
-            let target = same.targets in
-            let way = same.ways (from_of m id) (v.connections id inside).from_in in
-            let limit : limit_of A p (leg_of id exit.1) ≡ limit_of B r (leg_of id exit.1) = ap (option_and_then (earlier_by (dep_of m id))) way in
-            rw (rows, target, limit) refl
+    next_alike id a b inside alike = grind (arith, values_alike, alike_places, exits_alike)
 
     kept_alike : (ids : List ConnectionId) → All (λ id. id.0 < count m) ids → IsKeptAlike (kept_after s A (asked_at q x) ids) (kept_after s B (asked_at q y) ids)
     kept_alike [] inside = record { exits = λ run. refl; rows = λ p r same. refl }
@@ -126,8 +88,7 @@ first_departure m v q place x y last fit fit_too target soon order a b r rows is
     let A = extended_by m (places_of m) in
     let B = extended_by m (place ∷ []) in
     let none_more : length m.change + 0 ≡ length m.change = omega arith in
-    let look : row_found A (asked_at q (length m.change + place.0)) a q.start.0 ≡ row_found B (asked_at q (length m.change)) b q.start.0 =
-    alike ∙ ap (λ (gate : ℕ). row_found B (asked_at q gate) b q.start.0) none_more in
+    let look : row_found A (asked_at q (length m.change + place.0)) a q.start.0 ≡ row_found B (asked_at q (length m.change)) b q.start.0 = grind arith in
     let one : row_found B (asked_at q (length m.change)) b q.start.0 ≡ Some found.0 = sym look ∙ ap (λ (p : ℕ). row_found A (asked_at q (length m.change + p)) a q.start.0) (sym here) ∙ found.1 in
     first_of rows one looked
   where

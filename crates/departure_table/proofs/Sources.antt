@@ -1,5 +1,5 @@
 -- What is said of a gate is said of its source in the network.
-use Rattle.departure_table.proofs.Common.{◌≡◌, ℕ, zero, ◌≤◌, arith, Option, Some, None, List, [], ◌∷◌, true, refl, subst, MatchOption, nat_le, ◌↔◌, nat_tests, Query, Moment}
+use Rattle.departure_table.proofs.Common.{◌≡◌, ℕ, zero, ◌≤◌, arith, Option, Some, List, [], ◌∷◌, true, refl, subst, MatchOption, nat_le, ◌↔◌, nat_tests, Query, Moment}
 use Rattle.departure_table.proofs.Common.{NetworkModel, IsGate, IsValid, count, Tree, DepartureRow, IsASecondAway, SafeAfter, SafeFrom, IsNoneSafeFrom, IsBestFrom, IsTable, IsGreatestMoment}
 use Rattle.departure_table.proofs.Common.{IsExtendedFor, SaysOfSource, first_row_by}
 use Rattle.plan_model.proofs.Views.{seen, leg_there}
@@ -24,12 +24,10 @@ module _ (n m : NetworkModel) (S T : ℕ → Tree → Type 0) (many : count n �
 
   pub answer_reported : (moment : ℕ) (o : Option DepartureRow) → 1 ≤ moment → MatchOption o (IsNoneSafeFrom S moment) (IsBestFrom n S moment)
       → MatchOption o (IsNoneSafeFrom T moment) (IsBestFrom m T moment)
-  answer_reported moment None some none = λ tree safe. none tree (from moment tree some safe)
-  answer_reported moment (Some row) some best = best_reported moment row some best
+  answer_reported moment o some none = grind (arith, best_reported)
 
   pub greatest_reported : (first : ℕ) (o : Option Moment) → 1 ≤ first → IsGreatestMoment S first o → IsGreatestMoment T first o
-  greatest_reported first None some none = λ moment later tree safe. none moment later tree (from moment tree (omega arith) safe)
-  greatest_reported first (Some g) some is = grind arith
+  greatest_reported first o some none = grind arith
 
 -- from a gate everything is a second away
 pub second_away : (n m : NetworkModel) (gate source : ℕ) → IsGate n m gate source → IsValid m → IsASecondAway n gate

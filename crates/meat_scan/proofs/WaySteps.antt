@@ -41,11 +41,6 @@ module _ (ways : List Way) (distinct : AllPairs (λ a b. a.from.0 ≢ b.from.0) 
       ap (λ list. way_in list place) (take_more ways k way within ∙ ap (λ (w : Way). take k ways ++ w ∷ []) (read way))
       ∙ find-append (λ (w : Way). w.from.0 == place) (take k ways) (way ∷ [])
 
-  -- the way comes from the place, or from elsewhere
-  pub data WayCase (place : ℕ) : Type 0 where
-    comes : way.from.0 ≡ place → way_in (take k ways) place ≡ None → way_in (take (k + 1) ways) place ≡ Some way → WayCase place
-    passes : way.from.0 ≢ place → way_in (take (k + 1) ways) place ≡ way_in (take k ways) place → WayCase place
-
   -- the rows of a place after one way more
   pub rows_next : {V : Type 0} (scoring : Scoring V) (target dep : ℕ) (value : V) (leg : Leg) (place : ℕ) (old now new : List (Row V))
       → now ≡ with_way scoring target dep value leg (way_in (take k ways) place) place old

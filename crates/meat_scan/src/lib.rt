@@ -307,8 +307,7 @@ impl<V: Score> ScanTables<V> {
         ensures whole { IfOk result (FitsTables network.now) }
         ensures by { IfOk result (λ tables. (last : ℕ) → FitsTablesBy network.now last tables) }
     {
-        let tables = ScanTables::reserve_until(alloc, network, Moment(u64::MAX))?;
-        Ok(tables)
+        ScanTables::reserve_until(alloc, network, Moment(u64::MAX))
     }
 
     /// Takes the memory that a scan of the connections needs that depart by a moment, or answers `NoMemory`.

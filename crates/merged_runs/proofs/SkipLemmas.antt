@@ -40,9 +40,6 @@ pub record AreLowered (n : NetworkModel) (last : ℕ) (starts remaining : List �
   pub done : (r : ℕ) → r < run → r < length remaining → IsParted n last (get_or starts r 0) (get_or new r 0) (get_or new r 0) (get_or remaining r 0)
   pub same : (r : ℕ) → run ≤ r → get_or new r 0 ≡ get_or remaining r 0
 
-none_remain : (i old new : ℕ) (late : Bool) → old ≤ i → new ≤ old → ltb i new ≡ cond late false (ltb i old)
-none_remain i old new late past less = grind (arith, nat_tests)
-
 when_true : (last dep : ℕ) (b : Bool) → cond (ltb last dep) b false ≡ true → last < dep
 when_true last dep b passes = grind (arith, nat_tests)
 
@@ -50,14 +47,6 @@ when_false : (last dep : ℕ) (b : Bool) → cond (ltb last dep) false b ≡ tru
 when_false last dep b passes = grind (arith, nat_tests)
 
 module _ (n : NetworkModel) (last : ℕ) (starts remaining new : List ℕ) (run : ℕ) (s : AreStretches n starts remaining) (all : length remaining ≤ run) (l : AreLowered n last starts remaining run new) where
-  parted : (r : ℕ) → r < length remaining → IsParted n last (get_or starts r 0) (get_or new r 0) (get_or new r 0) (get_or remaining r 0)
-  parted r h = l.done r (omega arith) h
-
-  own : (id : ConnectionId) → id.0 < get_or remaining (run_of n id.0) 0
-      → IsParted n last (get_or starts (run_of n id.0) 0) (get_or new (run_of n id.0) 0) (get_or new (run_of n id.0) 0)
-      (get_or remaining (run_of n id.0) 0) × (get_or starts (run_of n id.0) 0 ≤ id.0)
-  own id h = grind (arith, common_steps)
-
   -- what remains now is what remained and departs in time
   kept_soon : (id : ConnectionId) → ltb id.0 (get_or new (run_of n id.0) 0) ≡ cond (ltb last (dep_of n id.0)) false (ltb id.0 (get_or remaining (run_of n id.0) 0))
   kept_soon id = grind (arith, common_steps)

@@ -133,8 +133,7 @@ get_or_next : (x : ℕ) (xs : List ℕ) (i : ℕ) → get_or xs i 0 ≡ get_or (
 get_or_next x xs i = rw add-one refl
 
 pub IsWhole-copied : (starts : List ℕ) → 0 < length starts → IsWhole starts (take (length starts - 1) (drop 1 starts))
-IsWhole-copied [] some = absurd (omega arith)
-IsWhole-copied (start ∷ starts) some = rw (take_all (length (start ∷ starts) - 1) starts (omega arith)) (record { size = omega arith; each = λ r h. get_or_next start starts r })
+IsWhole-copied starts some = grind (arith, take_all, get_or_next)
 
 start_mono : (n : NetworkModel) (r a b : ℕ) → IsStart n r a → IsStart n (r + 1) b → a ≤ b
 start_mono n r a b first next = ⊎_elim (λ less. absurd (omega (arith, less, first.within, first.before b less, next.after b (omega arith)))) (λ ge. ge) (cases_lt b a)

@@ -44,8 +44,7 @@ IsOver-final leaf some = final_within leaf leaf (omega arith) some
 
 -- no run is above another
 pub IsOver-leaf : (runs k leaf : ℕ) → leaf < 2 * runs → runs ≤ k → IsOver k leaf → k ≡ leaf
-IsOver-leaf runs k leaf h ge (zero, e) = sym e
-IsOver-leaf runs k leaf h ge (suc rounds, e) = absurd (omega (arith, above_le rounds leaf, e))
+IsOver-leaf runs k leaf h ge given = grind (arith, above_le)
 
 -- of two nodes above a leaf the lesser is above the other
 pub IsOver-both : (a b leaf : ℕ) → IsOver a leaf → IsOver b leaf → a < b → a ≤ b / 2

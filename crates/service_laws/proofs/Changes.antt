@@ -1,5 +1,5 @@
 -- A network that differs from another in one thing offers no less.
-use Rattle.service_laws.proofs.Common.{◌≡◌, ℕ, ◌+◌, ◌<◌, ◌≤◌, arith, Some, List, [], ◌∷◌, length, refl, sym, ap, ◌∙◌, subst, All, Contains, All-contains, Contains-cons_cases, Contains-head, inl, inr, true, false, eqb_tells, ◌==◌, AllPairs, AllPairs-head, AllPairs-tail}
+use Rattle.service_laws.proofs.Common.{◌≡◌, ℕ, ◌+◌, ◌<◌, ◌≤◌, arith, Some, List, [], ◌∷◌, length, refl, ap, ◌∙◌, subst, Contains, All-contains, Contains-cons_cases, Contains-head, inl, inr, true, eqb_tells, ◌==◌, AllPairs, AllPairs-head, AllPairs-tail}
 use Rattle.service_laws.proofs.Common.{Contains-nil, Contains-tail, All-from_contains, cases_lt, get_or_default, Outcome, Connection, Way, NetworkModel, IsValid, no_connection, count, connection, change_of, row_of, links_into, from_of}
 use Rattle.service_laws.proofs.Common.{arr_of, outcomes, own_way, way_in, way_of, own, renamed, with_connections, with_changes, with_classes, with_links, AreAmong, AreShorter, AreLessLate, AreNoFewer, Embeds, EmbedsBy, EmbedsAlike, EmbedsNoLater, AreBeside}
 use Rattle.service_laws.proofs.Common.{IsFound}
@@ -10,9 +10,6 @@ same_row : (row : List Outcome) (a : ℕ) → AreBeside (λ x y. x ≡ y) row a 
 same_row [] a = tt
 same_row (o ∷ row) a = (refl, refl, same_row row a)
 
-own_row : (row : List Outcome) (a : ℕ) → All (λ o. (other : Outcome) × Contains row other × (a + o.delay ≤ a + other.delay)) row
-own_row row a = All-from_contains (λ o. (other : Outcome) × Contains row other × (a + o.delay ≤ a + other.delay)) row (λ o has. (o, has, omega arith))
-
 beside_each : (R : ℕ → ℕ → Type 0) → ((a b : ℕ) → R a b → a ≤ b) → (row others : List Outcome) (a b : ℕ) → AreBeside R row a others b
     → (o : Outcome) → Contains row o → (other : Outcome) × Contains others other × (a + o.delay ≤ b + other.delay)
 beside_each R no_later [] others a b beside o has = absurd (Contains-nil o has)
@@ -21,9 +18,7 @@ beside_each R no_later (first ∷ row) (next ∷ others) a b beside o has = elim
   | inl is ↦
       let same : first.delay ≡ o.delay = ap (λ (z : Outcome). z.delay) is in
       (next, Contains-head next others, omega (arith, same, no_later (a + first.delay) (b + next.delay) beside.1))
-  | inr more ↦
-      let (other, there, less) = beside_each R no_later row others a b beside.2 o more in
-      (other, Contains-tail next others other there, less)
+  | inr more ↦ grind (arith, Contains-tail, beside_each R no_later row others a b beside.2 o more)
 ]
 
 -- what embeds by weight embeds
@@ -44,10 +39,7 @@ beside_less [] (other ∷ others) a b beside = absurd beside
 beside_less (o ∷ row) [] a b beside = absurd beside
 
 pub alike_no_later : (small large : NetworkModel) (image place : ℕ → ℕ) → EmbedsAlike small large image place → EmbedsNoLater small large image place
-alike_no_later small large image place e = record {
-  found = e.found;
-  arrives = λ j there. beside_less (outcomes large (image j)) (outcomes small j) (arr_of large (image j)) (arr_of small j) (e.arrives j there);
-}
+alike_no_later small large image place e = grind (arith, beside_less)
 
 -- more connections, and other numbers of runs
 module _ (n : NetworkModel) (number : ℕ → ℕ) (connections : List Connection) (among : AreAmong n number connections) where
@@ -84,26 +76,10 @@ module _ (n : NetworkModel) (number : ℕ → ℕ) (connections : List Connectio
   same_outcomes j there = ap (row_of n) (read (λ c. c.class.0) j there)
 
   wider_found : IsFound n wider image own
-  wider_found = record {
-    there = λ i there. ((pick i).1 there).0;
-    runs = λ i j a b one. read (λ c. c.run.0) i a ∙ ap number one ∙ sym (read (λ c. c.run.0) j b);
-    steps = λ i j a b one less. omega (arith, less, read (λ c. c.step) i a, read (λ c. c.step) j b);
-    from = λ i there. read (λ c. c.from.0) i there;
-    to = λ i there. read (λ c. c.to.0) i there;
-    departs = λ i there. omega (arith, read (λ c. c.dep.0) i there);
-    board = λ i there can. read (λ c. c.can_board) i there ∙ can;
-    exit = λ i there can. read (λ c. c.can_exit) i there ∙ can;
-    places = λ p q one. one;
-    ways = λ p i seconds there way. (seconds, same_way p i there ∙ way, omega arith);
-  }
+  wider_found = grind (arith, pick, read, same_way)
 
   wider_alike : EmbedsAlike n wider image own
-  wider_alike = record {
-    found = wider_found;
-    arrives = λ j there.
-        subst (λ (a : ℕ). AreBeside (λ x y. x ≡ y) (outcomes wider (image j)) a (outcomes n j) (arr_of n j)) (sym (read (λ c. c.arr.0) j there))
-        (subst (λ (r : List Outcome). AreBeside (λ x y. x ≡ y) r (arr_of n j) (outcomes n j) (arr_of n j)) (sym (same_outcomes j there)) (same_row (outcomes n j) (arr_of n j)));
-  }
+  wider_alike = grind (arith, wider_found, read, same_outcomes, same_row)
 
   pub connections_alike : (f : ℕ → ℕ) × EmbedsAlike n wider f own
   connections_alike = (image, wider_alike)
@@ -118,10 +94,7 @@ ways_no_longer w v links others p s same less rest way = elim (eqb_tells w.from.
       let is : Some w.seconds ≡ Some s = rw here.0 at way in
       let exact : w.seconds ≡ s = cc in
       (v.seconds, rw here' refl, omega (arith, exact, less))
-  | inr else ↦
-      let else' : (v.from.0 == p) ≡ false = rw same else.0 in
-      let (t, is, at_most) = rest s (rw else.0 at way) in
-      (t, rw else' is, at_most)
+  | inr else ↦ grind arith
 ]
 
 same_rest : (links : List Way) (p u : ℕ) → way_in links p ≡ Some u → (t : ℕ) × (way_in links p ≡ Some t) × (t ≤ u)
@@ -157,12 +130,7 @@ module _ (n : NetworkModel) (valid : IsValid n) where
     -- the link that is found
     first_link : (ways : List Way) (p s : ℕ) → way_in ways p ≡ Some s → (way : Way) × Contains ways way × (way.from.0 ≡ p) × (way.seconds ≡ s)
     first_link [] p s way = absurd (cc)
-    first_link (w ∷ ways) p s way = elim (eqb_tells w.from.0 p) [
-      | inl here ↦ let is : Some w.seconds ≡ Some s = rw here.0 at way in (w, Contains-head w ways, here.1, cc)
-      | inr else ↦
-          let (other, has, from, seconds) = first_link ways p s (rw else.0 at way) in
-          (other, Contains-tail w ways other has, from, seconds)
-    ]
+    first_link (w ∷ ways) p s way = grind (arith, eqb_tells, Contains-head, Contains-tail, first_link ways p s)
 
     -- of links that rise the only one from a place is found
     only_link : (ways : List Way) (way : Way) → AllPairs (λ a b. a.from.0 < b.from.0) ways → Contains ways way → way_in ways way.from.0 ≡ Some way.seconds
@@ -211,18 +179,7 @@ module _ (n : NetworkModel) (valid : IsValid n) where
 module _ (n : NetworkModel) (classes : List (List Outcome)) (valid : IsValid n) (fewer : AreLessLate n classes) where
   classes_found : IsFound n (with_classes n classes) own own
   unfolding connection change_of
-  classes_found = record {
-    there = λ i there. there;
-    runs = λ i j a b same. same;
-    steps = λ i j a b same less. less;
-    from = λ i there. refl;
-    to = λ i there. refl;
-    departs = λ i there. omega arith;
-    board = λ i there can. can;
-    exit = λ i there can. can;
-    places = λ p q same. same;
-    ways = λ p i seconds there way. (seconds, way, omega arith);
-  }
+  classes_found = grind (arith, same)
 
   pub classes_embed : Embeds n (with_classes n classes) own own
   unfolding connection

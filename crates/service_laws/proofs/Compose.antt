@@ -1,5 +1,5 @@
 -- A network in another, and that in a third.
-use Rattle.service_laws.proofs.Common.{◌≡◌, ℕ, ◌+◌, ◌≤◌, arith, List, [], ◌∷◌, ap, ◌∙◌, All-contains, Contains, Outcome, NetworkModel, arr_of, outcomes, IsFound, Embeds, EmbedsBy}
+use Rattle.service_laws.proofs.Common.{◌≡◌, ℕ, ◌+◌, ◌≤◌, arith, List, [], ◌∷◌, ◌∙◌, All-contains, Contains, Outcome, NetworkModel, arr_of, outcomes, IsFound, Embeds, EmbedsBy}
 use Rattle.service_laws.proofs.Common.{EmbedsAlike, EmbedsNoLater, AreBeside}
 
 module _ (a b c : NetworkModel) (f g p q : ℕ → ℕ) where
@@ -10,21 +10,7 @@ module _ (a b c : NetworkModel) (f g p q : ℕ → ℕ) where
   place x = q (p x)
 
   found_twice : IsFound a b f p → IsFound b c g q → IsFound a c image place
-  found_twice one two = record {
-    there = λ i h. two.there (f i) (one.there i h);
-    runs = λ i j h k same. two.runs (f i) (f j) (one.there i h) (one.there j k) (one.runs i j h k same);
-    steps = λ i j h k same less. two.steps (f i) (f j) (one.there i h) (one.there j k) (one.runs i j h k same) (one.steps i j h k same less);
-    from = λ i h. two.from (f i) (one.there i h) ∙ ap q (one.from i h);
-    to = λ i h. two.to (f i) (one.there i h) ∙ ap q (one.to i h);
-    departs = λ i h. omega (arith, one.departs i h, two.departs (f i) (one.there i h));
-    board = λ i h can. two.board (f i) (one.there i h) (one.board i h can);
-    exit = λ i h can. two.exit (f i) (one.there i h) (one.exit i h can);
-    places = λ x y same. one.places x y (two.places (p x) (p y) same);
-    ways = λ x i seconds h way.
-        let (middle, there, less) = one.ways x i seconds h way in
-        let (last, again, least) = two.ways (p x) (f i) middle (one.there i h) there in
-        (last, again, omega (arith, less, least));
-  }
+  found_twice one two = grind arith
 
   pub embeds_twice : Embeds a b f p → Embeds b c g q → Embeds a c image place
   embeds_twice one two = record {
@@ -39,19 +25,14 @@ module _ (a b c : NetworkModel) (f g p q : ℕ → ℕ) where
   module _ (R : ℕ → ℕ → Type 0) (on : (x y z : ℕ) → R x y → R y z → R x z) where
     beside_twice : (row middle last : List Outcome) (x y z : ℕ) → AreBeside R row x middle y → AreBeside R middle y last z → AreBeside R row x last z
     beside_twice [] [] [] x y z one two = tt
-    beside_twice (o ∷ row) (m ∷ middle) (l ∷ last) x y z one two =
-        (one.0 ∙ two.0, on (x + o.delay) (y + m.delay) (z + l.delay) one.1 two.1, beside_twice row middle last x y z one.2 two.2)
+    beside_twice (o ∷ row) (m ∷ middle) (l ∷ last) x y z one two = grind (arith, beside_twice row middle last x y z one.2 two.2)
     beside_twice [] [] (l ∷ last) x y z one two = absurd two
     beside_twice [] (m ∷ middle) last x y z one two = absurd one
     beside_twice (o ∷ row) [] last x y z one two = absurd one
     beside_twice (o ∷ row) (m ∷ middle) [] x y z one two = absurd two
 
     by_twice : EmbedsBy R a b f p → EmbedsBy R b c g q → EmbedsBy R a c image place
-    by_twice one two = record {
-      found = found_twice one.found two.found;
-      arrives = λ j h. beside_twice (outcomes c (image j)) (outcomes b (f j)) (outcomes a j) (arr_of c (image j)) (arr_of b (f j)) (arr_of a j)
-          (two.arrives (f j) (one.found.there j h)) (one.arrives j h);
-    }
+    by_twice one two = grind (arith, found_twice, beside_twice)
 
   pub no_later_twice : EmbedsNoLater a b f p → EmbedsNoLater b c g q → EmbedsNoLater a c image place
   no_later_twice = by_twice (λ x y. x ≤ y) (λ x y z less least. omega (arith, less, least))

@@ -11,19 +11,10 @@ in_time_sooner (Some d) x y less h = omega (arith, less, h)
 
 module _ (small large : NetworkModel) (image place : ℕ → ℕ) (found : IsFound small large image place) where
   leg_found : (i j : ℕ) → IsLeg small i j → IsLeg large (image i) (image j)
-  leg_found i j leg = record {
-    enter = found.there i leg.enter;
-    exit = found.there j leg.exit;
-    one_run = found.runs i j leg.enter leg.exit leg.one_run;
-    onward = found.steps i j leg.enter leg.exit leg.one_run leg.onward;
-    board = found.board i leg.enter leg.board;
-    leave = found.exit j leg.exit leg.leave;
-  }
+  leg_found i j leg = grind arith
 
   board_found : (p x y i : ℕ) → i < count small → y ≤ x → IsBoardable small p x i → IsBoardable large (place p) y (image i)
-  board_found p x y i there sooner b =
-      let (seconds, way, less) = found.ways p i b.seconds there b.way in
-      record { seconds = seconds; way = way; in_time = omega (arith, b.in_time, less, sooner, found.departs i there) }
+  board_found p x y i there sooner b = grind arith
 
   start_found : (s x y i : ℕ) → i < count small → y ≤ x → IsBoardableAtStart small s x i → IsBoardableAtStart large (place s) y (image i)
   start_found s x y i there sooner b = (subst (λ (p : ℕ). from_of large (image i) ≡ place p) b.0 (found.from i there), omega (arith, b.1, sooner, found.departs i there))
@@ -69,9 +60,7 @@ module _ (small large : NetworkModel) (image place : ℕ → ℕ) (found : IsFou
               let same : first.delay ≡ o.delay = ap (λ (z : Outcome). z.delay) is in
               let (other, own, less) = safe_by tree p (a + first.delay) y (omega (arith, same, sooner)) safe.1 in
               (other, own, omega (arith, less))
-          | inr more ↦
-              let (other, own, less) = child_by kids row p a o y safe.2 more sooner in
-              (other, own, omega (arith, less))
+          | inr more ↦ grind (arith, child_by kids row p a o y safe.2 more sooner)
         ]
 
       start_by : (tree : Tree) (s x y : ℕ) → y ≤ x → IsSafeFromStart small target by tree s x

@@ -1,5 +1,5 @@
 -- The rows with a new one are those that a walk along them gives.
-use Rattle.stop_profile.proofs.Common.{◌≡◌, ℕ, ◌<◌, ◌≤◌, Bool, true, false, cond, ltb, leb, List, [], ◌∷◌, map, Option, Some, None, arith, refl, ap, filter, lt-ltb, le-ltb, le-leb, AllByRecursion}
+use Rattle.stop_profile.proofs.Common.{◌≡◌, ℕ, ◌<◌, ◌≤◌, Bool, true, false, cond, ltb, leb, List, [], ◌∷◌, map, Option, arith, refl, ap, filter, lt-ltb, le-ltb, le-leb, AllByRecursion}
 use Rattle.stop_profile.proofs.Common.{lt-leb, Scoring, ScoreLaws, Row, rows_with_new, rows_with_new_by, lower_row, RowsRise, row_in_time, LookStep}
 use Rattle.stop_profile.proofs.Along.{inserted_along}
 use Rattle.stop_profile.proofs.InsertCases.{insert_case}
@@ -21,8 +21,7 @@ map-same P f same [] all = refl
 map-same P f same (x ∷ xs) all = rw (same x all.0) (ap (λ more. x ∷ more) (map-same P f same xs all.1))
 
 cond-cons : {X : Type 0} (b : Bool) (x : X) (xs ys : List X) → cond b (x ∷ xs) (x ∷ ys) ≡ x ∷ cond b xs ys
-cond-cons true x xs ys = refl
-cond-cons false x xs ys = refl
+cond-cons b x xs ys = grind arith
 
 module _ {V : Type 0} (scoring : Scoring V) where
   module _ (new row : Row V) (rows : List (Row V)) where
@@ -37,8 +36,7 @@ module _ {V : Type 0} (scoring : Scoring V) where
       -- a better one is kept
       with_new-better : scoring.rank row.value < scoring.rank new.value → (o : Option (Row V)) → row_in_time new.by.0 rows ≡ o
           → rows_with_new_by scoring new (row ∷ rows) o ≡ lower_row scoring.lowered row new ∷ rows_with_new_by scoring new rows o
-      with_new-better better None is = grind (arith, by_before, not_behind, lt-ltb, lt-leb)
-      with_new-better better (Some first) is = grind (arith, leb, le-leb, picked_in_time, by_before, not_behind, lt-ltb, lt-leb, cond-cons, ltb)
+      with_new-better better o is = grind (arith, by_before, not_behind, lt-ltb, lt-leb, leb, le-leb, picked_in_time, cond-cons, ltb)
 
       -- another is taken out
       with_new-other : ((a b : V) → scoring.rank (scoring.lowered a b) ≡ scoring.rank a) → scoring.rank new.value ≤ scoring.rank row.value → AllAfter scoring.rank row rows → (o : Option (Row V))

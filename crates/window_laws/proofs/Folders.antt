@@ -48,9 +48,6 @@ no_fault r fault t is =
     let parts = unless_parts (fault a) a t whole in
     ap fault (sym parts.1) ∙ parts.0
 
-ok_is : {A E : Type 0} (a b : A) → (r : Result A E) → r ≡ Ok a → r ≡ Ok b → a ≡ b
-ok_is a b r is are = cc
-
 module _ (load : Table → Result Loaded FeedFault) (t : Tables) (is : tables_from load ≡ Ok t) (f : FeedParts) (feed : IsFeed t f) where
   sound : (s : IsSoundFeed f) × (s.tables ≡ t)
   sound =

@@ -3,7 +3,7 @@ use Rattle.connections.specs.Window.{window_of, day_at}
 use Rattle.connections.specs.TripRuns.{no_run}
 use Rattle.connections.specs.RepeatedRuns.{repeat_of}
 use Rattle.gtfs_tables.specs.TripRepeats.{repeat_at}
-use Rattle.stop_times.specs.StopTimes.{no_row, columns_of}
+use Rattle.stop_times.specs.StopTimes.{no_row}
 use Rattle.trip_frequencies.specs.Frequencies.{no_frequency}
 use Rattle.std.specs.Prelude.{[]}
 
@@ -27,9 +27,6 @@ Repeat = TypeOf (repeat_of (repeat_at [] 0) 0)
 
 abbrev pub TimedRow : Type 0
 TimedRow = TypeOf no_row
-
-abbrev pub TimeColumns : Type 0
-TimeColumns = TypeOf (columns_of [])
 
 abbrev pub TripFrequency : Type 0
 TripFrequency = TypeOf no_frequency

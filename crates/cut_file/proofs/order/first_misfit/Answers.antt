@@ -7,15 +7,15 @@ loop-k-preserved c = λ t runs places read none.
     let k = c.loop-k.k in
     let rows = c.args.rows.now in
     let keys = c.args.keys.now in
-    soonest-next (run_fault t) (length rows) keys k c.loop-k.first c.sooner-first.result c.beside.result (c.requires.sorted.inside k (omega arith))
-    (misfit_is t runs places rows keys read none k (omega arith) c.before_at.result c.before_at.ensures ∙ sym c.beside.ensures) c.sooner-first.ensures
+    soonest-next (run_fault t) (length rows) keys k c.loop-k.first c.sooner-first.result c.fault_after.result (c.requires.sorted.inside k (omega arith))
+    (misfit_is t runs places rows keys read none k (omega arith) c.before_at.result c.before_at.ensures ∙ sym c.fault_after.ensures) c.sooner-first.ensures
     (c.loop-k.invariant t runs places read none)
 
-pub beside-requires-clause-here : goal.beside-requires-clause-here
-beside-requires-clause-here c = c.requires.sorted.inside c.loop-k.k (omega arith)
+pub fault_after-requires-clause-here : goal.fault_after-requires-clause-here
+fault_after-requires-clause-here c = c.requires.sorted.inside c.loop-k.k (omega arith)
 
-pub beside-requires-clause-before : goal.beside-requires-clause-before
-beside-requires-clause-before c =
+pub fault_after-requires-clause-before : goal.fault_after-requires-clause-before
+fault_after-requires-clause-before c =
     let rows = c.args.rows.now in
     before_inside (λ i. true) (run_of rows) (step_of rows) (length rows) c.args.keys.now c.requires.sorted c.loop-k.k (omega arith) c.before_at.result c.before_at.ensures
 
