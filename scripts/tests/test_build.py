@@ -79,18 +79,17 @@ class Weights(Case):
         self.assertGreater(weights_of(["csv_rows"], {})["csv_rows"], 0)
 
     def test_the_command_writes_the_last_time_of_each_crate(self) -> None:
-        for name in ("weights", "schedule.py", "sources.py"):
-            os.makedirs(f"{self.room}/top/scripts", exist_ok=True)
-            shutil.copy(os.path.join(SCRIPTS, name), f"{self.room}/top/scripts")
+        launcher = f"{self.room}/top/scripts/launcher"
+        shutil.copytree(os.path.join(SCRIPTS, "launcher"), launcher, ignore=shutil.ignore_patterns("__pycache__"))
         self.write("top/crates.txt", "low:\nmeat_cli: low\n")
         self.write("top/out/times.csv", "low,70.1\n")
-        command = [f"{self.room}/top/scripts/weights"]
+        command = [f"{launcher}/weights"]
         ran = subprocess.run(command, capture_output=True, timeout=60)
         self.assertEqual(ran.returncode, 1)
         self.assertIn(b"no time of meat_cli: remove out/", ran.stderr)
         self.write("top/out/times.csv", "low,70.1\nmeat_cli,0.2\ngone,5.0\nlow,59.6\n")
         self.assertEqual(subprocess.run(command, capture_output=True, timeout=60).returncode, 0)
-        self.assertEqual(content(f"{self.room}/top/scripts/weights.csv"), "crate,weight\nlow,60\nmeat_cli,1\n")
+        self.assertEqual(content(f"{launcher}/weights.csv"), "crate,weight\nlow,60\nmeat_cli,1\n")
 
 
 if __name__ == "__main__":

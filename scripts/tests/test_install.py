@@ -1,15 +1,14 @@
-"""Tests of the installation: what goes where, that it runs from there, and the manual page and completions."""
+"""Tests of the installation: what goes where, and that it runs from there."""
 
 from __future__ import annotations
 
 import os
 import pty
-import re
 import shutil
 import subprocess
 import unittest
 
-from support import MEAT, OLD_TOWN, SCRIPTS, TOP, Case, call, content
+from support import MEAT, OLD_TOWN, SCRIPTS, TOP, Case, content
 
 
 # A program that prints its words and refuses them.
@@ -62,7 +61,7 @@ class Install(Case):
         self.assertTrue(card.stdout.startswith(b"Mill to Airport\n"), card.stderr)
         self.assertIn(".TH MEAT 1", content(f"{prefix}/share/man/man1/meat.1"))
         self.assertIn(".TH MEAT\\-ASK 1", content(f"{prefix}/share/man/man1/meat-ask.1"))
-        self.assertIn("--next", content(f"{prefix}/share/bash-completion/completions/meat-ask"))
+        self.assertIn("meat-{ask,", content(f"{prefix}/share/bash-completion/completions/meat-ask"))
         for shell in ("bash-completion/completions/meat", "zsh/site-functions/_meat", "fish/vendor_completions.d/meat.fish"):
             self.assertIn("departures", content(f"{prefix}/share/{shell}"))
         self.assertEqual(self.make("uninstall", f"PREFIX={prefix}").returncode, 0)
@@ -149,32 +148,7 @@ class Install(Case):
         commands = {name for name in os.listdir(SCRIPTS) if os.access(os.path.join(SCRIPTS, name), os.X_OK) and "." not in name
                     and os.path.isfile(os.path.join(SCRIPTS, name))}
         listed = next(line for line in content(os.path.join(TOP, "Makefile")).split("\n") if line.startswith("SCRIPTS"))
-        self.assertEqual(commands - {"build", "installed", "manual", "preview", "reading", "weights"}, set(listed.split("=")[1].split()))
-
-
-class Manual(Case):
-    def test_completions_have_the_options_of_each_command(self) -> None:
-        bash = call("manual", "", "bash").printed
-        for command, options in (("sample", "--size"), ("certify", "--cut --feed --delays --from --to --at --alpha --horizon"),
-                                 ("latest", "--cut --feed --delays --from --to --at --horizon --until"),
-                                 ("reach", "--cut --feed --delays --to --at --horizon --until"),
-                                 ("check", "--cut --feed --delays --from --to --at --horizon --graph --proof")):
-            self.assertIn(f"{command}) options='{options}' ;;", bash)
-        check = subprocess.run(["bash", "-n"], input=bash.encode(), capture_output=True)
-        self.assertEqual(check.returncode, 0, check.stderr)
-
-    def test_the_commands_of_the_hint(self) -> None:
-        commands = re.search(r"compgen -W '([a-z ]*)'", call("manual", "", "bash").printed)
-        self.assertIn(f"\ncommands='{commands[1] if commands else ''}'\n", content(os.path.join(SCRIPTS, "hint.sh")))
-
-    def test_the_page_has_each_status(self) -> None:
-        page = call("manual", "", "man").printed
-        for status in (0, 1, 2, 3, 4, 5, 6, 7, 8, 9, 10, 11, 13, 14, 15):
-            self.assertIn(f".TP\n.B {status}\n", page)
-
-    def test_refusals(self) -> None:
-        self.is_refused(call("manual", "", "man", self.write("other.md", "## The words\n")), "no section Statuses")
-        self.is_refused(call("manual", "", "man", f"{self.room}/none"), "No such file")
+        self.assertEqual(commands - {"installed", "preview", "reading"}, set(listed.split("=")[1].split()))
 
 
 if __name__ == "__main__":

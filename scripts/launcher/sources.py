@@ -9,7 +9,7 @@ import sys
 if sys.version_info < (3, 9):
     sys.exit("This needs Python 3.9 or later, and is run by Python " + sys.version.split()[0] + ".")
 
-TOP = os.path.dirname(os.path.dirname(os.path.realpath(__file__)))
+TOP = os.path.dirname(os.path.dirname(os.path.dirname(os.path.realpath(__file__))))
 PROGRAM = "meat_cli"
 # What each crate names, by the name of the crate; a crate comes after those that it names.
 Crates = dict[str, list[str]]

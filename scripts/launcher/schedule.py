@@ -1,7 +1,7 @@
 """In which order the crates of a build are proved, with how many processes each, and how long the rest of it takes.
 
 A crate has a weight: the processor seconds that its proof took in some earlier build. Only their proportions matter, and a crate
-without a weight has one by its size. `scripts/weights` writes the file.
+without a weight has one by its size. The command `weights` writes the file.
 """
 
 from __future__ import annotations
@@ -13,7 +13,7 @@ from typing import Optional
 
 from sources import TOP, Crates, home_of
 
-WEIGHTS = os.path.join(TOP, "scripts", "weights.csv")
+WEIGHTS = os.path.join(os.path.dirname(os.path.realpath(__file__)), "weights.csv")
 HEADER = ["crate", "weight"]
 MOST_JOBS = 4
 # How many times as fast a crate is proved by one process, by two, three and four.
