@@ -17,20 +17,15 @@ raises `Refused` with the program's line. The program is what MEAT names, the la
 
 from __future__ import annotations
 
-import datetime
 from dataclasses import dataclass
-from typing import Union
 
 from desk import commands
-from desk.plans import Refused, moment_text
+from desk.commands import Value
 from desk.rows import Row, rows_of
+from desk.tables import Refused
 
 __all__ = ["Answer", "Refused", "Row", "ask", "certify", "check", "departures", "expand", "latest", "plan", "punctual", "reach",
            "replay", "rows_of", "safe", "sample"]
-
-Value = Union[str, int, datetime.datetime]
-# The options that are not written as their arguments.
-WORDS = {"source": "from", "target": "to"}
 
 
 @dataclass(frozen=True)
@@ -43,11 +38,7 @@ class Answer:
 
 def ask(command: str, **options: Value) -> Answer:
     """Calls a command with its options."""
-    words = [command]
-    for name, value in options.items():
-        text = moment_text(value) if isinstance(value, datetime.datetime) else str(value)
-        words += [f"--{WORDS.get(name, name)}", text]
-    answer = commands.ask(words)
+    answer = commands.ask(commands.words_of(command, **options))
     return Answer(answer.status, answer.text, rows_of(answer.text) if answer.status == 0 else [])
 
 

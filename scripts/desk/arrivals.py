@@ -8,14 +8,14 @@ from __future__ import annotations
 
 import datetime
 import heapq
-import os
 from collections import defaultdict
 from dataclasses import dataclass
 from fractions import Fraction
 from typing import NamedTuple, Optional
 
-from .feeds import Table, routes_of, trip_of_run, trips_of
-from .plans import Leg, Moment, Plan, Refused, seconds_between
+from .feeds import routes_of, trip_of_run, trips_of
+from .plans import Leg, Moment, Plan, seconds_between
+from .tables import Refused, Table, number_at
 
 WHOLE = 10_000
 # The minutes of a group of arrivals, the first of these that make few enough groups.
@@ -37,13 +37,11 @@ class Delays:
 
     def __init__(self, path: str) -> None:
         self.groups: dict[Group, Outcomes] = defaultdict(list)
-        table = Table.open(path, ["class", "delay", "weight"], ["route_id", "hour"])
-        for number, (kind, delay, weight, route, hour) in table:
-            try:
-                group = Group(kind if kind == "*" else str(int(kind)), route, str(int(hour)) if hour else "")
-                self.groups[group].append((int(delay), Fraction(int(weight), WHOLE)))
-            except ValueError:
-                raise Refused(f"{table.name} line {number}: bad field") from None
+        table = Table.open(path)
+        for line, (kind, delay, weight, route, hour) in table.rows(["class", "delay", "weight"], ["route_id", "hour"]):
+            where = f"{table.name} line {line}"
+            group = Group(kind if kind == "*" else str(number_at(kind, where)), route, str(number_at(hour, where)) if hour else "")
+            self.groups[group].append((number_at(delay, where), Fraction(number_at(weight, where), WHOLE)))
         for group, outcomes in self.groups.items():
             if sum(chance for _, chance in outcomes) != 1:
                 raise Refused(f"{table.name}: the weights of class {group.kind} do not add up to {WHOLE}")
@@ -62,13 +60,6 @@ class Delays:
         return next((self.groups[group] for group in ranked if group in self.groups), self.groups[Group("*", "", "")])
 
 
-def kind_of(text: str, where: str) -> str:
-    """A route type as a delay file has it, without leading zeros."""
-    if not text.isascii() or not text.isdigit():
-        raise Refused(f"{where}: {text or 'an empty field'} is no route type")
-    return str(int(text))
-
-
 class RideKinds:
     """The route type and the route of each ride of a plan, from its feed or its cut file."""
 
@@ -81,14 +72,17 @@ class RideKinds:
             trips = trips_of(feed, {trip_of_run(leg.run) for leg in plan.legs()})
             routes = routes_of(feed, {trip.route for trip in trips.values()})
             self.routes = {trip.id: trip.route for trip in trips.values()}
-            self.kinds = {route.id: kind_of(route.kind, f"route {route.id}") for route in routes.values()}
+            self.kinds = {route.id: str(number_at(route.kind, f"the type of route {route.id}")) for route in routes.values()}
         elif cut is not None:
-            wanted = {(leg.run, leg.exit_step) for leg in plan.legs()}
-            for number, (run, step, kind) in Table.open(cut, ["run", "step"], ["class"]):
-                if not step.isascii() or not step.isdigit():
-                    raise Refused(f"{os.path.basename(cut)} line {number}: bad step")
-                if (run, int(step)) in wanted:
-                    self.of_steps[run, int(step)] = kind if kind in ("", "*") else kind_of(kind, f"{os.path.basename(cut)} line {number}")
+            self.read_steps(Table.open(cut), {(leg.run, leg.exit_step) for leg in plan.legs()})
+
+    def read_steps(self, table: Table, wanted: set[tuple[str, int]]) -> None:
+        """Reads the route types of some steps of a cut file, each with its run."""
+        for line, (run, text, kind) in table.rows(["run", "step"], ["class"]):
+            where = f"{table.name} line {line}"
+            step = number_at(text, where)
+            if (run, step) in wanted:
+                self.of_steps[run, step] = kind if kind in ("", "*") else str(number_at(kind, where))
 
     def of(self, run: str, step: int) -> tuple[str, str]:
         """The class and the route of the connection at a step of a run; the route is empty in a cut file."""

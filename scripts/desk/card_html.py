@@ -8,50 +8,55 @@ from .cards import Card, Name, Part, PlanCard, Step, Words, joined, share
 from .pictures import picture_of
 
 # The heading of the chances of rows.
-CHANCE = "of 100 cases in"
+CHANCE = "cases of 100"
+# The widths of the columns of all tables, so that times are below each other: in parts of a hundred, or what is left.
+WIDTHS = ("16%", "28%", "11%", "", "11%", "10%")
 STYLE = """
-:root { color-scheme: light dark; }
-body { font: 1.05rem/1.45 system-ui, sans-serif; max-width: 44rem; margin: 0 auto; padding: 1rem; overflow-wrap: anywhere;
-  color: #111; background: #fff; }
+:root { color-scheme: light dark; --page: #fff; --ink: #111; --line: #bbb; }
+body { font: 1.05rem/1.45 system-ui, sans-serif; max-width: 46rem; margin: 0 auto; padding: 1rem; overflow-wrap: anywhere;
+  color: var(--ink); background: var(--page); }
 h1 { font-size: 1.4rem; margin: 0 0 .5rem; }
 h2 { font-size: 1.1rem; margin: 1.4rem 0 .4rem; border-bottom: 2px solid; }
 p { margin: .2rem 0; }
-table { width: 100%; border-collapse: collapse; }
-th, td { text-align: left; vertical-align: top; padding: .35rem .5rem .35rem 0; border-bottom: 1px solid #bbb; }
+table { width: 100%; table-layout: fixed; border-collapse: collapse; }
+th, td { text-align: left; vertical-align: top; padding: .35rem .5rem .35rem 0; border-bottom: 1px solid var(--line); }
 th { font-size: .9rem; font-weight: 600; }
-svg.picture { width: 100%; height: auto; margin: .8rem 0; fill: currentColor; stroke: none; font: 11px system-ui, sans-serif; }
-svg .grid, svg .place { stroke: currentColor; stroke-width: .5; opacity: .3; fill: none; }
-svg .place { opacity: .8; }
-svg .way, svg .rescue { fill: none; stroke-linecap: round; }
-svg .rescue { opacity: .55; }
-svg .late { opacity: .14; }
-svg .by { stroke: currentColor; stroke-width: 1.2; }
-svg .bar { opacity: .6; }
-svg .clock, svg .count, svg .label { text-anchor: middle; }
-svg .name { text-anchor: end; font-size: 12px; }
-tr.rare td { font-size: .8rem; opacity: .75; }
-td.time { white-space: nowrap; font-variant-numeric: tabular-nums; }
+th:last-child, td:last-child { padding-right: 0; }
+td.time { font-variant-numeric: tabular-nums; }
+tr.way td { font-weight: 600; }
+tr.rare td { font-size: .85rem; opacity: .8; }
 footer { margin-top: 1.5rem; font-size: .95rem; }
-@media (prefers-color-scheme: dark) { body { color: #eee; background: #111; } th, td { border-color: #555; } }
-.wide { overflow-x: auto; }
-.wide svg { min-width: 36rem; }
+svg.picture { display: block; width: 100%; margin: 1rem 0; fill: currentColor; font: 12px system-ui, sans-serif; }
+svg path { fill: none; vector-effect: non-scaling-stroke; }
+svg .grid, svg .place { stroke: currentColor; stroke-width: 1; opacity: .2; }
+svg .place { opacity: .5; }
+svg .way, svg .rescue { stroke-linecap: round; }
+svg .rescue { opacity: .7; }
+svg .late { opacity: .15; }
+svg .change { stroke: currentColor; stroke-width: 3; opacity: .45; }
+svg .walk { stroke: currentColor; stroke-width: 1.5; stroke-dasharray: 2 3; opacity: .6; }
+svg .by { stroke: currentColor; stroke-width: 1.5; }
+svg .bar { fill: currentColor; opacity: .65; }
+svg text { paint-order: stroke; stroke: var(--page); stroke-width: 3px; stroke-linejoin: round; }
+svg .clock, svg .count { text-anchor: middle; }
+svg .name { font-weight: 600; }
+svg .right { text-anchor: end; }
+@media (prefers-color-scheme: dark) { :root { --page: #111; --ink: #eee; --line: #555; } }
 @media (max-width: 30rem) {
   thead { position: absolute; left: -99rem; }
-  tr { display: block; border-bottom: 1px solid #bbb; padding: .35rem 0; }
-  td { display: block; border: 0; padding: 0 0 0 10rem; text-indent: -10rem; }
-  td::before { content: attr(data-head); display: inline-block; width: 10rem; text-indent: 0; font-size: .85rem; font-weight: 600; }
+  table, tbody { display: block; }
+  tr { display: block; border-bottom: 1px solid var(--line); padding: .35rem 0; }
+  td { display: block; border: 0; padding: 0 0 0 9rem; }
+  td:empty { display: none; }
+  td::before { content: attr(data-head); float: left; width: 9rem; margin-left: -9rem; font-size: .85rem; font-weight: 400; }
 }
 @media print {
-  body { font-size: 11pt; padding: 0; color: #000; background: #fff; }
-  tr { break-inside: avoid; }
+  :root { --page: #fff; --ink: #000; --line: #bbb; }
+  body { font-size: 11pt; padding: 0; }
+  tr, svg { break-inside: avoid; }
   h2 { break-after: avoid; }
 }
 """
-
-
-def marked(words: Words) -> str:
-    """Words with their names isolated, so that a name written from right to left does not reorder the text beside it."""
-    return "".join(f"<bdi>{html.escape(word.text)}</bdi>" if isinstance(word, Name) else html.escape(word) for word in words)
 
 
 def cell(head: str, text: str, kind: str = "") -> str:
@@ -59,36 +64,50 @@ def cell(head: str, text: str, kind: str = "") -> str:
     return f'<td{kind} data-head="{html.escape(head)}">{text}</td>'
 
 
-def row_of(step: Step, heads: list[str]) -> str:
-    time = ' class="time"'
-    cells = [(marked(step.ride), ""), (html.escape(step.departure), time), (marked(step.target), ""), (html.escape(step.arrival), time)]
-    if step.until:
-        cells.insert(0, (html.escape(step.until), time))
-    if step.chance is not None:
-        cells.append((share(step.chance), time))
-    return f'<tr{" class=rare" if step.is_rare() else ""}>{"".join(cell(head, *of) for head, of in zip(heads, cells))}</tr>'
+class Page:
+    """The page of a card. Its sentences are in English, and the names in the language of the feed, as far as that is known."""
 
+    def __init__(self, card: Card) -> None:
+        self.card = card
 
-def table_of(part: Part) -> list[str]:
-    heads = [*(part.columns if any(step.until for step in part.steps) else part.columns[1:])]
-    if any(step.chance is not None for step in part.steps):
-        heads.append(CHANCE)
-    head = "".join(f'<th scope="col">{html.escape(text)}</th>' for text in heads)
-    rows = [row_of(step, heads) for step in part.steps]
-    return ["<table>", f"<thead><tr>{head}</tr></thead>", "<tbody>", *rows, "</tbody>", "</table>"]
+    def marked(self, words: Words) -> str:
+        """Words with their names isolated, so that a name written from right to left does not reorder the text beside it."""
+        return "".join(f'<bdi lang="{self.card.names.language}">{html.escape(word.text)}</bdi>' if isinstance(word, Name) else html.escape(word)
+                       for word in words)
+
+    def row(self, step: Step, heads: list[str]) -> str:
+        time = ' class="time"'
+        cells = [(html.escape(step.until), time), (self.marked(step.ride), ""), (html.escape(step.departure), time),
+                 (self.marked(step.target), ""), (html.escape(step.arrival), time),
+                 (share(step.chance) if step.chance is not None else "", time)]
+        kind = ' class="rare"' if step.is_rare() else ' class="way"' if step.is_on_time else ""
+        return f'<tr{kind}>{"".join(cell(head, *of) for head, of in zip(heads, cells))}</tr>'
+
+    def table(self, part: Part) -> list[str]:
+        heads = [part.columns[0] if any(step.until for step in part.steps) else "", *part.columns[1:],
+                 CHANCE if any(step.chance is not None for step in part.steps) else ""]
+        widths = "".join(f'<col style="width:{width}">' if width else "<col>" for width in WIDTHS)
+        head = "".join(f'<th scope="col">{html.escape(text)}</th>' if text else "<td></td>" for text in heads)
+        rows = [self.row(step, heads) for step in part.steps]
+        return ["<table>", f"<colgroup>{widths}</colgroup>", f"<thead><tr>{head}</tr></thead>", "<tbody>", *rows, "</tbody>", "</table>"]
+
+    def picture(self) -> list[str]:
+        found = picture_of(self.card, self.card.course) if isinstance(self.card, PlanCard) and self.card.course else None
+        return [found] if found else []
+
+    def text(self) -> str:
+        card, title = self.card, html.escape(joined(self.card.title()))
+        lines = ["<!DOCTYPE html>", '<html lang="en">', "<head>", '<meta charset="utf-8">',
+                 '<meta name="viewport" content="width=device-width, initial-scale=1">', f"<title>{title}</title>",
+                 f"<style>{STYLE}</style>", "</head>", "<body>", "<main>", f"<h1>{self.marked(card.title())}</h1>"]
+        lines += [*(f"<p>{html.escape(line)}</p>" for line in card.head()), *self.picture()]
+        for part in card.parts():
+            lines += ["<section>", f"<h2>{self.marked(part.heading)}</h2>", *self.table(part), "</section>"]
+        lines.append("</main>")
+        if card.foot():
+            lines += ["<footer>", *(f"<p>{html.escape(line)}</p>" for line in card.foot() if line != card.of_chances), "</footer>"]
+        return "\n".join([*lines, "</body>", "</html>"]) + "\n"
 
 
 def as_page(card: Card) -> str:
-    title = joined(card.title())
-    parts = ["<!DOCTYPE html>", '<html lang="en">', "<head>", '<meta charset="utf-8">',
-             '<meta name="viewport" content="width=device-width, initial-scale=1">', f"<title>{html.escape(title)}</title>",
-             f"<style>{STYLE}</style>", "</head>", "<body>", "<main>", f"<h1>{marked(card.title())}</h1>"]
-    parts += [f"<p>{html.escape(line)}</p>" for line in card.head()]
-    picture = picture_of(card, card.course) if isinstance(card, PlanCard) and card.course else None
-    parts += [f'<div class="wide">{picture}</div>'] if picture else []
-    for part in card.parts():
-        parts += ["<section>", f"<h2>{marked(part.heading)}</h2>", *table_of(part), "</section>"]
-    parts.append("</main>")
-    if card.foot():
-        parts += ["<footer>", *(f"<p>{html.escape(line)}</p>" for line in card.foot() if line != card.of_chances), "</footer>"]
-    return "\n".join([*parts, "</body>", "</html>"]) + "\n"
+    return Page(card).text()

@@ -14,6 +14,7 @@ from .plans import Departures, Leg, Moment, Plan, by_first_arrival, seconds_betw
 
 # A card says by when one arrives in at least this many of 100 cases, with the share that it then is.
 SHARES = (50, 95, 100)
+WEEKDAYS = ("Mon", "Tue", "Wed", "Thu", "Fri", "Sat", "Sun")
 # A row that is ridden in fewer of 100 cases than this is a rare one.
 RARE = Fraction(1, 100)
 
@@ -30,7 +31,11 @@ class Clock:
 
     def time(self, moment: Moment) -> str:
         text = moment.strftime("%H:%M:%S" if moment.second else "%H:%M")
-        return text if moment.date() == self.day else f"{text} on {self.date(moment)}"
+        days = (moment.date() - self.day).days
+        if days == 0:
+            return text
+        # Of the days of a week the weekday is enough.
+        return f"{text} on {WEEKDAYS[moment.weekday()] if 0 < days < 7 else self.date(moment)}"
 
     @staticmethod
     def date(moment: Moment) -> str:
@@ -38,8 +43,7 @@ class Clock:
 
     @staticmethod
     def day_text(day: datetime.date) -> str:
-        weekday = ("Mon", "Tue", "Wed", "Thu", "Fri", "Sat", "Sun")[day.weekday()]
-        return f"{weekday} {day.isoformat()}"
+        return f"{WEEKDAYS[day.weekday()]} {day.isoformat()}"
 
 
 def span(seconds: int) -> str:
@@ -111,6 +115,8 @@ class Step:
     target: Words
     arrival: str
     chance: Optional[Fraction] = None
+    # Whether it is ridden if nothing is late.
+    is_on_time: bool = False
 
     def is_rare(self) -> bool:
         return self.chance is not None and self.chance < RARE
@@ -136,6 +142,7 @@ def joined(words: Words) -> str:
 class Card:
     """A card: its title, the sentences at its head, its parts, and the sentences at its foot."""
     of_chances = "In brackets: in how many of 100 cases a row is ridden, rounded down."
+    names: Names
 
     def title(self) -> Words:
         raise NotImplementedError
@@ -164,6 +171,7 @@ class PlanCard(Card):
 
     def __init__(self, plan: Plan, names: Names, course: Optional[Course], origin: Origin) -> None:
         self.plan, self.names, self.course, self.origin, self.clock = plan, names, course, origin, Clock(plan.start)
+        self.way = plan.on_time()
         # More sentences for the head of the card and after its rows, and the departures that follow, from its maker.
         self.more: list[str] = []
         self.last: list[str] = []
@@ -181,7 +189,14 @@ class PlanCard(Card):
         if plan.promise:
             lines.append(f"Later than {time(plan.promise.moment)} {cases(plan.promise.upper)}.")
         lines.append(f"On average there at {self.clock.minute(plan.expected.middle())}.")
-        return lines + self.more
+        return [*lines, self.on_time(plan.first), *self.more]
+
+    def on_time(self, first: Leg) -> str:
+        """When one leaves and arrives if nothing is late, how long that takes, and with how many changes."""
+        last, changes = self.way[-1], len(self.way) - 1
+        often = "no change" if not changes else "1 change" if changes == 1 else f"{changes} changes"
+        return (f"If nothing is late: {self.clock.time(first.departure)} to {self.clock.time(last.arrival)}, "
+                f"{span(seconds_between(first.departure, last.arrival))}, {often}.")
 
     def promised(self, course: Course) -> str:
         """By when one arrives, in how many of 100 cases."""
@@ -207,7 +222,8 @@ class PlanCard(Card):
         if platform:
             target += [" (platform ", Name(platform), ")"]
         chance = self.course.rides.get(leg, Fraction(0)) if self.course else None
-        return Step(until, self.ride(leg, place), self.clock.time(leg.departure), target, self.clock.time(leg.arrival), chance)
+        return Step(until, self.ride(leg, place), self.clock.time(leg.departure), target, self.clock.time(leg.arrival), chance,
+                    leg in self.way)
 
     def parts(self) -> Iterator[Part]:
         if self.plan.first is None:

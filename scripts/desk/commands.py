@@ -4,20 +4,19 @@ from __future__ import annotations
 
 import argparse
 import codecs
+import datetime
 import errno
 import os
 import shutil
 import subprocess
 import sys
-from typing import Callable
+from typing import Callable, Optional, TypeVar, Union
 
-from .plans import Refused
+from .plans import Printed, moment_text, read
+from .tables import Refused
 
 # The folder of the commands.
 HERE = os.path.dirname(os.path.dirname(os.path.realpath(__file__)))
-# The options of the program whose values are paths of files, and of folders.
-FILES = ("--cut", "--delays", "--graph", "--proof")
-FOLDERS = ("--feed",)
 
 
 def read_input(encoding: str = "") -> str:
@@ -26,7 +25,7 @@ def read_input(encoding: str = "") -> str:
     try:
         return data.decode(encoding or ("utf-16" if data.startswith((codecs.BOM_UTF16_LE, codecs.BOM_UTF16_BE)) else "utf-8-sig"))
     except UnicodeDecodeError:
-        raise Refused(f"the input is not {encoding or 'UTF-8: save it as CSV UTF-8'}") from None
+        raise Refused(f"the input is not {encoding or 'UTF-8: save it as CSV UTF-8, or convert it by iconv -f WINDOWS-1252 -t UTF-8'}") from None
     except LookupError:
         raise Refused(f"there is no encoding {encoding}") from None
 
@@ -52,6 +51,9 @@ def run(name: str, work: Callable[[], int]) -> None:
         status = work()
     except Refused as fault:
         report(name, str(fault))
+        status = 1
+    except OverflowError:
+        report(name, "a moment is before the year 1 or after the year 9999")
         status = 1
     except KeyboardInterrupt:
         status = 130
@@ -87,6 +89,20 @@ def program() -> str:
     return os.path.abspath(path)
 
 
+Value = Union[str, int, datetime.datetime, None]
+# The options that are named otherwise in Python.
+NAMES = {"source": "from", "target": "to"}
+
+
+def words_of(command: str, **options: Value) -> list[str]:
+    """The words of a call: the command, and each option that has a value."""
+    words = [command]
+    for name, value in options.items():
+        if value is not None:
+            words += [f"--{NAMES.get(name, name)}", moment_text(value) if isinstance(value, datetime.datetime) else str(value)]
+    return words
+
+
 class Answer:
     """What a call of the program printed, and how it ended."""
 
@@ -108,6 +124,16 @@ def ask(words: list[str]) -> Answer:
     if ran.returncode not in (0, NO_STRATEGY):
         raise Refused(lines[-1] or f"the planner ended with status {ran.returncode}")
     return Answer(words, ran.returncode, ran.stdout.decode("utf-8"), lines[-1])
+
+
+Kind = TypeVar("Kind", bound=Printed)
+
+
+def answer_of(kind: type[Kind], words: list[str]) -> Optional[Kind]:
+    """What the program answers, read as what it is; `None` if there is no strategy."""
+    answer = ask(words)
+    found = read(answer.text) if answer.status == 0 else None
+    return found if isinstance(found, kind) else None
 
 
 def write_file(path: str, text: str) -> None:

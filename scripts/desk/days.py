@@ -6,8 +6,8 @@ import datetime
 from collections import Counter, defaultdict
 from typing import Iterator
 
-from .feeds import has_table, table_of
-from .plans import Refused
+from .feeds import Reader, has_table, rows_in
+from .tables import Refused
 
 Date = datetime.date
 ONE_DAY = datetime.timedelta(days=1)
@@ -28,17 +28,17 @@ def date_of(text: str, table: str, line: int) -> Date:
 class Services:
     """The days on which each service runs: those of its calendar, and the added ones, without the removed ones."""
 
-    def __init__(self, folder: str) -> None:
+    def __init__(self, folder: str, rows: Reader = rows_in) -> None:
         self.periods: dict[str, tuple[list[bool], Date, Date]] = {}
         self.added: dict[str, set[Date]] = defaultdict(set)
         self.removed: dict[str, set[Date]] = defaultdict(set)
         if has_table(folder, "calendar.txt"):
             columns = ["service_id", *WEEKDAYS, "start_date", "end_date"]
-            for line, (service, *flags, first, last) in table_of(folder, "calendar.txt", columns):
+            for line, (service, *flags, first, last) in rows(folder, "calendar.txt", columns):
                 period = date_of(first, "calendar.txt", line), date_of(last, "calendar.txt", line)
                 self.periods[service] = [flag == "1" for flag in flags], *period
         if has_table(folder, "calendar_dates.txt"):
-            for line, (service, date, kind) in table_of(folder, "calendar_dates.txt", ["service_id", "date", "exception_type"]):
+            for line, (service, date, kind) in rows(folder, "calendar_dates.txt", ["service_id", "date", "exception_type"]):
                 (self.added if kind == "1" else self.removed)[service].add(date_of(date, "calendar_dates.txt", line))
 
     def __contains__(self, service: str) -> bool:
@@ -67,12 +67,12 @@ class Services:
                 yield date
 
 
-def repeats_of(folder: str) -> dict[str, int]:
+def repeats_of(folder: str, rows: Reader = rows_in) -> dict[str, int]:
     """How often each trip with rows in frequencies.txt runs on a day."""
     counts: Counter[str] = Counter()
     if has_table(folder, "frequencies.txt"):
         columns = ["trip_id", "start_time", "end_time", "headway_secs"]
-        for line, (trip, start, end, headway) in table_of(folder, "frequencies.txt", columns):
+        for line, (trip, start, end, headway) in rows(folder, "frequencies.txt", columns):
             try:
                 counts[trip] += max(0, -(-(seconds_of(end) - seconds_of(start)) // int(headway)))
             except (ValueError, ZeroDivisionError):
@@ -86,10 +86,10 @@ def seconds_of(time: str) -> int:
     return 3600 * int(hours) + 60 * int(minutes) + int(seconds)
 
 
-def trips_by_service(folder: str) -> Counter[str]:
+def trips_by_service(folder: str, rows: Reader = rows_in) -> Counter[str]:
     """The number of trips of each service; a trip that repeats counts as often as it runs on a day."""
-    counts, repeats = Counter[str](), repeats_of(folder)
-    for _, (trip, service) in table_of(folder, "trips.txt", ["trip_id", "service_id"]):
+    counts, repeats = Counter[str](), repeats_of(folder, rows)
+    for _, (trip, service) in rows(folder, "trips.txt", ["trip_id", "service_id"]):
         counts[service] += repeats.get(trip, 1)
     return counts
 

@@ -1,22 +1,16 @@
-"""Reads the tables of an unpacked GTFS folder as the program does, for the scripts beside it.
-
-Tables are read one row at a time, and only the columns that are asked for are kept. Spaces around a field and a byte-order
-mark are dropped, short rows have empty fields at their end, and of two columns with one name the first one counts.
-"""
+"""Reads the tables of an unpacked GTFS folder as the program does, for the scripts beside it."""
 
 from __future__ import annotations
 
-import csv
 import functools
 import math
 import os
-import sys
 from collections import defaultdict
 from dataclasses import dataclass
-from typing import Iterable, Iterator, NamedTuple, Optional
+from typing import Callable, Iterable, Iterator, NamedTuple, Optional
 
 from .found_lines import lines_with
-from .plans import Refused
+from .tables import Refused, Table, reason_of, number_in
 
 METRES_PER_DEGREE = 111_320.0
 # The location types of stops.txt.
@@ -29,70 +23,33 @@ EXTENDED = {1: "train", 2: "coach", 3: "train", 4: "metro", 5: "metro", 6: "metr
             10: "ferry", 11: "flight", 12: "ferry", 13: "cable car", 14: "funicular", 15: "taxi"}
 
 
-class FileLines:
-    """The lines of a file, read anew by each iteration."""
-
-    def __init__(self, path: str) -> None:
-        self.path = path
-
-    def __iter__(self) -> Iterator[str]:
-        with open(self.path, encoding="utf-8-sig", errors="replace", newline="") as file:
-            yield from file
-
-
-class Table:
-    """The rows of a table with the columns that are asked for, and the number of each row; the header is row 1."""
-
-    def __init__(self, lines: Iterable[str], name: str, required: Iterable[str], optional: Iterable[str] = ()) -> None:
-        self.lines, self.name = lines, name
-        self.required, self.optional = list(required), list(optional)
-
-    @classmethod
-    def open(cls, path: str, required: Iterable[str], optional: Iterable[str] = ()) -> Table:
-        """The table of a file."""
-        return cls(FileLines(path), os.path.basename(path), required, optional)
-
-    def __iter__(self) -> Iterator[tuple[int, list[str]]]:
-        csv.field_size_limit(sys.maxsize)
-        try:
-            rows = (row for row in csv.reader(self.lines) if row)
-            header = [name.strip(" ") for name in next(rows, [])]
-            for name in self.required:
-                if name not in header:
-                    raise Refused(f"{self.name} has no column {name}")
-            indexes = [header.index(name) if name in header else len(header) for name in (*self.required, *self.optional)]
-            most = max(indexes, default=0) + 1
-            for number, row in enumerate(rows, start=2):
-                row = row[:len(header)] + [""] * (most - min(len(row), len(header)))
-                yield number, [row[index].strip(" ") for index in indexes]
-        except (OSError, csv.Error) as fault:
-            raise Refused(f"cannot read {self.name}: {reason_of(fault)}") from None
-
-
-def reason_of(fault: Exception) -> str:
-    """Why a file cannot be read, without its path."""
-    if isinstance(fault, OSError):
-        return str(fault.strerror)
-    return str(fault)
-
-
-def table_of(folder: str, name: str, required: Iterable[str], optional: Iterable[str] = ()) -> Table:
+def table_of(folder: str, name: str) -> Table:
     """A table of a feed. A file instead of the folder is refused as such."""
     if os.path.isfile(folder):
         raise Refused(f"{folder} is a file, not a folder: unpack the feed and give the folder that contains stops.txt")
-    return Table.open(os.path.join(folder, name), required, optional)
+    return Table.open(os.path.join(folder, name))
+
+
+# The rows of a table, each with its number; and what reads them, from a folder, by the name of a table and its columns.
+NumberedRows = Iterator[tuple[int, list[str]]]
+Reader = Callable[..., NumberedRows]
+
+
+def rows_in(folder: str, name: str, required: Iterable[str], optional: Iterable[str] = ()) -> NumberedRows:
+    """The rows of a table of a feed, each with its number."""
+    return table_of(folder, name).rows(required, optional)
 
 
 def rows_with(folder: str, name: str, wanted: set[str], required: list[str], optional: Iterable[str] = ()) -> Iterator[list[str]]:
     """The rows of a table whose first required column is one of these texts, by a search over its bytes where that is possible."""
-    table = table_of(folder, name, required, optional)
+    table = table_of(folder, name)
     try:
         lines = lines_with(os.path.join(folder, name), wanted)
     except OSError as fault:
         raise Refused(f"cannot read {name}: {reason_of(fault)}") from None
     if lines is not None:
         table.lines = lines
-    return (row for _, row in table if row[0] in wanted)
+    return (row for _, row in table.rows(required, optional) if row[0] in wanted)
 
 
 def has_table(folder: str, name: str) -> bool:
@@ -141,10 +98,10 @@ class Stop:
 
 
 @functools.lru_cache(maxsize=4)
-def stops_of(folder: str) -> tuple[Stop, ...]:
+def stops_of(folder: str, rows: Reader = rows_in) -> tuple[Stop, ...]:
     """The stops of a feed, which are read once."""
     optional = ("stop_name", "location_type", "parent_station", "stop_code", "platform_code", "stop_lat", "stop_lon")
-    table = table_of(folder, "stops.txt", ["stop_id"], optional)
+    table = rows(folder, "stops.txt", ["stop_id"], optional)
     return tuple(Stop(stop, name, LOCATIONS.get(kind, kind), parent, code, platform, spot_of(latitude, longitude))
                  for _, (stop, name, kind, parent, code, platform, latitude, longitude) in table)
 
@@ -169,8 +126,8 @@ class Route:
     color: str = ""
 
     def vehicle(self) -> str:
-        kind = int(self.kind) if self.kind.isascii() and self.kind.isdigit() else -1
-        return VEHICLES.get(kind, EXTENDED.get(kind // 100, "trip"))
+        kind = number_in(self.kind)
+        return "trip" if kind is None else VEHICLES.get(kind, EXTENDED.get(kind // 100, "trip"))
 
 
 def trip_of_run(run: str) -> str:
@@ -183,12 +140,12 @@ def trips_of(folder: str, wanted: Optional[set[str]] = None) -> dict[str, Trip]:
     required, optional = ["trip_id", "route_id", "service_id"], ["trip_headsign", "trip_short_name"]
     if wanted is not None:
         return {row[0]: Trip(*row) for row in rows_with(folder, "trips.txt", wanted, required, optional)}
-    return {row[0]: Trip(*row) for _, row in table_of(folder, "trips.txt", required, optional)}
+    return {row[0]: Trip(*row) for _, row in rows_in(folder, "trips.txt", required, optional)}
 
 
 def routes_of(folder: str, wanted: Optional[set[str]] = None) -> dict[str, Route]:
     """The routes with these ids, or all routes."""
-    table = table_of(folder, "routes.txt", ["route_id", "route_type"], ["route_short_name", "route_long_name", "route_color"])
+    table = rows_in(folder, "routes.txt", ["route_id", "route_type"], ["route_short_name", "route_long_name", "route_color"])
     return {row[0]: Route(*row) for _, row in table if wanted is None or row[0] in wanted}
 
 
@@ -197,15 +154,16 @@ def kept_stops(folder: str, wanted: set[str]) -> dict[str, list[str]]:
     rows: dict[str, list[tuple[int, str]]] = defaultdict(list)
     columns = ["trip_id", "stop_id", "stop_sequence", "arrival_time", "departure_time"]
     for trip, stop, sequence, arrival, departure in rows_with(folder, "stop_times.txt", wanted, columns):
-        if stop and (arrival or departure) and sequence.isascii() and sequence.isdigit():
-            rows[trip].append((int(sequence), stop))
+        number = number_in(sequence)
+        if stop and (arrival or departure) and number is not None:
+            rows[trip].append((number, stop))
     return {trip: [stop for _, stop in sorted(of)] for trip, of in rows.items()}
 
 
 def served_places(folder: str) -> set[str]:
     """The places of the stops at which trips stop at a time."""
     places = {stop.id: stop.place for stop in stops_of(folder)}
-    table = table_of(folder, "stop_times.txt", ["stop_id", "arrival_time", "departure_time"])
+    table = rows_in(folder, "stop_times.txt", ["stop_id", "arrival_time", "departure_time"])
     served = {stop for _, (stop, arrival, departure) in table if arrival or departure}
     return {places[stop] for stop in served if stop in places}
 
@@ -216,7 +174,7 @@ def links(feed: str) -> list[tuple[str, str, str]]:
         return []
     places = {stop.id: stop.place for stop in stops_of(feed)}
     optional = ["from_route_id", "to_route_id", "from_trip_id", "to_trip_id"]
-    table = table_of(feed, "transfers.txt", ["from_stop_id", "to_stop_id", "transfer_type", "min_transfer_time"], optional)
+    table = rows_in(feed, "transfers.txt", ["from_stop_id", "to_stop_id", "transfer_type", "min_transfer_time"], optional)
     found = []
     for _, (first, last, kind, seconds, *of) in table:
         if kind == "2" and seconds and not any(of) and places.get(first) != places.get(last):

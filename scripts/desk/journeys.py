@@ -2,12 +2,16 @@
 
 from __future__ import annotations
 
+import contextlib
 import datetime
+import os
 import re
-from typing import Optional
+import tempfile
+from typing import Iterator, Optional
 
-from .commands import ask
-from .plans import Departures, Latest, Moment, Refused, Safe, moment_text, read, seconds_between
+from .commands import Value, answer_of, ask, words_of, write_file
+from .plans import Departures, Latest, Moment, Safe, seconds_between
+from .tables import Refused
 
 # The greatest value of --horizon, in hours, and the least and the greatest of --alpha, in percent.
 HOURS = 72
@@ -32,48 +36,53 @@ def moment_from(text: str, day: Optional[datetime.date], option: str) -> Moment:
     raise Refused(f"{option}: {text} is not a moment; write it as 2024-06-03T08:00{', or 08:00 for today' if day else ''}")
 
 
+@contextlib.contextmanager
+def never_late() -> Iterator[str]:
+    """The path of a delay file by which nothing is ever late."""
+    with tempfile.TemporaryDirectory() as folder:
+        path = os.path.join(folder, "delays.csv")
+        write_file(path, "class,delay,weight\n*,0,10000\n")
+        yield path
+
+
 class Journey:
-    """A source, a target and a start over a feed, with the number of hours of departures to consider."""
+    """A source, a target and a start over a feed, with the number of hours of departures to consider; or over a cut file, of which
+    all are considered."""
 
     def __init__(self, feed: str, delays: str, source: str, target: str, start: Moment, horizon: int = 24) -> None:
         self.feed, self.delays, self.source, self.target = feed, delays, source, target
         self.start, self.horizon = start, horizon
 
-    def words(self, command: str) -> list[str]:
-        return [command, "--feed", self.feed, "--delays", self.delays, "--from", self.source, "--to", self.target,
-                "--at", moment_text(self.start), "--horizon", str(self.horizon)]
+    def words(self, command: str, **more: Value) -> list[str]:
+        """The words of a call about this journey. More options come after its own, or replace them."""
+        own: dict[str, Value] = {"feed": self.feed, "delays": self.delays, "source": self.source, "target": self.target,
+                                 "at": self.start, "horizon": self.horizon, **more}
+        if os.path.isfile(self.feed):
+            own = {"cut": self.feed, **own, "feed": None, "horizon": None}
+        return words_of(command, **own)
 
-    def safe(self) -> Optional[Safe]:
-        """The least worst arrival, if some strategy always arrives."""
-        answer = ask(self.words("safe"))
-        found = read(answer.text) if answer.status == 0 else None
-        return found if isinstance(found, Safe) else None
+    def safe(self, alpha: Optional[int] = None) -> Optional[Safe]:
+        """The least worst arrival and the deadline of a plan, if some strategy always arrives."""
+        return answer_of(Safe, self.words("safe", alpha=alpha))
 
     def plan(self, alpha: int) -> Optional[str]:
         """The text of a plan, if there is one."""
-        answer = ask([*self.words("plan"), "--alpha", str(alpha)])
-        return answer.text if answer.status == 0 else None
+        return ask(self.words("plan", alpha=alpha)).text or None
 
     def punctual(self, by: Moment, alpha: int) -> Optional[str]:
         """The text of the plan with the least chance of an arrival after a moment, if there is a plan."""
-        answer = ask([*self.words("punctual"), "--alpha", str(alpha), "--by", moment_text(by)])
-        return answer.text if answer.status == 0 else None
+        return ask(self.words("punctual", alpha=alpha, by=by)).text or None
 
     def departures(self, last: Moment, deadline: Moment) -> Optional[Departures]:
         """The departures up to a moment, each with what it promises by a deadline."""
-        answer = ask([*self.words("departures"), "--last", moment_text(last), "--until", moment_text(deadline)])
-        found = read(answer.text) if answer.status == 0 else None
-        return found if isinstance(found, Departures) else None
+        return answer_of(Departures, self.words("departures", last=last, until=deadline))
 
     def latest(self, deadline: Moment) -> Optional[Moment]:
         """The latest moment from the start on at which one can leave and be there by a deadline, whatever the delays. The
         departures up to the deadline are considered."""
         hours = max(1, min(HOURS, hours_to(self.start, deadline)))
-        words = self.words("latest")
-        words[words.index("--horizon") + 1] = str(hours)
-        answer = ask([*words, "--until", moment_text(deadline)])
-        found = read(answer.text) if answer.status == 0 else None
-        return found.moment if isinstance(found, Latest) else None
+        found = answer_of(Latest, self.words("latest", horizon=hours, until=deadline))
+        return found.moment if found else None
 
 
 def hours_to(first: Moment, last: Moment) -> int:

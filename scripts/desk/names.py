@@ -2,10 +2,17 @@
 
 from __future__ import annotations
 
+import re
 from typing import Optional
 
-from .feeds import ENTRANCE, NODE, Route, Stop, Trip, kept_stops, routes_of, stops_of, trip_of_run, trips_of
+from .feeds import ENTRANCE, NODE, Route, Stop, Trip, has_table, kept_stops, routes_of, rows_in, stops_of, trip_of_run, trips_of
 from .plans import Departures, Leg, Plan
+
+# A language as BCP 47 writes it, and the one that stands for several.
+LANGUAGE = re.compile("[A-Za-z]{2,8}(-[A-Za-z0-9]{1,8})*", re.ASCII)
+SEVERAL = "mul"
+# Where a feed says in which language its names are, in the order in which it counts.
+LANGUAGES = (("feed_info.txt", "feed_lang"), ("agency.txt", "agency_lang"))
 
 
 class Names:
@@ -17,8 +24,10 @@ class Names:
         self.trips: dict[str, Trip] = {}
         self.routes: dict[str, Route] = {}
         self.ridden: dict[str, list[str]] = {}
+        self.language = ""
         if folder is None:
             return
+        self.language = language_of(folder)
         has_platforms = False
         for stop in stops_of(folder):
             if stop.id in places or stop.place in places and stop.kind not in (ENTRANCE, NODE):
@@ -82,6 +91,15 @@ def line_of(trip: Trip, route: Optional[Route]) -> str:
     sign = plain(trip.sign)
     towards = "" if not sign else f" {sign}" if sign.lower().startswith("to ") else f" towards {sign}"
     return f"{vehicle} {plain(line)}{number}{towards}"
+
+
+def language_of(folder: str) -> str:
+    """The language of a feed's names, if it says one; empty if it says none, or several."""
+    for name, column in LANGUAGES:
+        found = {text for _, (text,) in rows_in(folder, name, [], [column])} if has_table(folder, name) else set()
+        if len(found) == 1:
+            return next((text for text in found if LANGUAGE.fullmatch(text) and text != SEVERAL), "")
+    return ""
 
 
 def plain(text: str) -> str:

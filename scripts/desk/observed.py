@@ -2,17 +2,14 @@
 
 from __future__ import annotations
 
-import csv
 import datetime
-import io
 import re
-import sys
 from dataclasses import dataclass
 from fractions import Fraction
 from typing import Optional
 
 from .feeds import routes_of, trips_of
-from .plans import Refused
+from .tables import Refused, Table, TextLines
 
 MOST_DELAY = 86_400
 MOST_ROUTE_TYPE = 65_534
@@ -82,7 +79,7 @@ def clock_of(text: str) -> Clock:
             return Clock(seconds_of(dotted[3], dotted[2], dotted[1], dotted[4], dotted[5], dotted[6]), has_day=True)
     except ValueError:
         pass
-    raise Bad(f"{text!r} is not a time")
+    raise Bad(f"{text!r} is not a time; write it as 08:05, 2024-06-03 08:05 or 03.06.2024 08:05, with seconds or without")
 
 
 def seconds_of(*parts: Optional[str]) -> int:
@@ -134,19 +131,19 @@ class Observations:
 
     def read(self, text: str) -> None:
         """Reads the observations of a text."""
-        csv.field_size_limit(sys.maxsize)
-        try:
-            rows = (row for row in csv.reader(io.StringIO(text, newline=""), delimiter=self.delimiter, strict=True) if row)
-            header = [name.strip(" ") for name in next(rows, [])]
-            for name in self.columns_read.needed():
-                if name not in header:
-                    raise Refused(f"there is no column {name}; the columns are {', '.join(header) or 'none'}")
-            self.prepare(header)
-            for number, row in enumerate(rows, start=2):
-                fields = [field.strip(" ") for field in row] + [""] * (len(header) - len(row))
-                self.take(number, dict(zip(reversed(header), reversed(fields[:len(header)]))))
-        except csv.Error as fault:
-            raise Refused(f"the input is not a table: {fault}") from None
+        table = Table(TextLines(text), "the input", self.delimiter, is_strict=True)
+        header = list(dict.fromkeys(table.header()))
+        for name in self.columns_read.needed():
+            if name not in header:
+                raise Refused(f"there is no column {name}; the columns are {', '.join(header) or 'none'}{self.other_delimiter(header)}")
+        self.prepare(header)
+        for number, fields in table.rows(header):
+            self.take(number, dict(zip(header, fields)))
+
+    def other_delimiter(self, header: list[str]) -> str:
+        """What to give for fields with something else between them, if the header looks like it."""
+        found = [(name, sign) for name, sign in (("tab", "\t"), ("';'", ";"), ("'|'", "|")) if len(header) == 1 and sign in header[0]]
+        return f"; give --delimiter {found[0][0]}" if found else ""
 
     def prepare(self, header: list[str]) -> None:
         """Finds the columns of the delay file that name groups, and the routes of the feed's trips."""
@@ -175,7 +172,7 @@ class Observations:
         else:
             text, hour = row[columns.late], ""
             if not NUMBER.fullmatch(text):
-                raise Bad(f"{text!r} is not a number of seconds")
+                raise Bad(f"{text!r} is not a number; write it as 90, -30 or 12.5")
             late = whole_of(text, columns.unit)
         if late < -MOST_EARLY:
             raise Bad(f"it is early by {-late} seconds, more than an hour")

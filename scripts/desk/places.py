@@ -7,7 +7,7 @@ from __future__ import annotations
 
 import difflib
 import unicodedata
-from typing import Callable, Optional
+from typing import Callable, Iterable, Optional
 
 from .feeds import BOARDING_AREA, ENTRANCE, NODE, STATION, Stop, metres, routes_of, rows_with, stops_of, trips_of
 from .names import line_of
@@ -15,6 +15,8 @@ from .plans import Refused
 
 KINDS = {STATION: "station", ENTRANCE: "entrance", NODE: "node of a station", BOARDING_AREA: "boarding area"}
 MOST_SHOWN, MOST_MEANT = 10, 3
+# How much of a word is that of another which it is like.
+LIKE = 0.6
 # Stops of one name that are at most so many metres apart are one wish: mostly the two sides of a street.
 NEAR = 150.0
 # Letters that no rule of Unicode takes apart, and pairs of letters that stand for one with two dots.
@@ -87,11 +89,29 @@ def refuse_several(folder: str, text: str, option: str, heads: list[Stop]) -> Re
     return Refused(f"{option}: {text} may mean {choices}; give the id")
 
 
+def names_like(stops: Iterable[Stop], text: str) -> list[str]:
+    """Names of stops that are like a text, at most three: each of its words may be misspelt."""
+    names = {stop.name: words_of(stop.name) for stop in stops if stop.name}
+    known = sorted({word for words in names.values() for word in words})
+    nearest = [next(iter(difflib.get_close_matches(word, known, n=1, cutoff=LIKE)), word) for word in words_of(text)]
+    found = sorted(name for name, words in names.items() if begins_words(nearest, words))
+    if found and nearest:
+        return found[:MOST_MEANT]
+    joined = {" ".join(words): name for name, words in names.items()}
+    return [joined[near] for near in difflib.get_close_matches(" ".join(words_of(text)), list(joined), n=MOST_MEANT, cutoff=LIKE)]
+
+
+def meant(stops: Iterable[Stop], text: str) -> str:
+    """A question after names that are like a text, empty if there are none."""
+    near = names_like(stops, text)
+    return f"did you mean {' or '.join(near)}?" if near else ""
+
+
 def refuse_unknown(text: str, option: str, boarded: list[Stop]) -> Refused:
     """That there is no such stop, and names that are like it."""
-    names = {" ".join(words_of(stop.name)): stop.name for stop in boarded}
-    near = difflib.get_close_matches(" ".join(words_of(text)), list(names), n=MOST_MEANT, cutoff=0.6)
-    hint = f"did you mean {' or '.join(names[name] for name in near)}?" if near else "`look FEED WORD` finds stops by a part of their name"
+    if not words_of(text):
+        return Refused(f"{option}: the name or the id of a stop is expected")
+    hint = meant(boarded, text) or "`look FEED WORD` finds stops by a part of their name"
     return Refused(f"{option}: there is no stop {text}; {hint}")
 
 

@@ -10,14 +10,14 @@ reason.
 
 from __future__ import annotations
 
-import csv
 import datetime
-import io
 import re
-import sys
 from dataclasses import dataclass, field
 from fractions import Fraction
-from typing import Callable, Iterator, NoReturn, Optional, Union
+from typing import Callable, Iterator, Optional, Union
+
+from .rows import Row, Rows
+from .tables import Refused as Refused
 
 Moment = datetime.datetime
 
@@ -31,10 +31,6 @@ NUMBER = re.compile(r"\d{1,10}", re.ASCII)
 COMMANDS = {"graph": "plan", "punctual": "punctual", "departures": "departures", "latest": "latest", "reach": "reach", "safe": "safe",
             "ride": "replay", "arrived": "replay", "expanded": "expand", "bounds": "certify", "holds": "check",
             "encloses": "check", "sample": "sample"}
-
-
-class Refused(Exception):
-    """Why something cannot be done, in words for the user."""
 
 
 @dataclass(frozen=True)
@@ -97,6 +93,15 @@ class Plan:
     def leg_after(self, place: str, arrival: Moment) -> Optional[Leg]:
         """What to take after an arrival at a place: the first row that the arrival is in time for."""
         return next((leg for other in self.places if other.name == place for leg in other.legs if leg.by >= arrival), None)
+
+    def on_time(self) -> list[Leg]:
+        """The rides if nothing is late."""
+        rides: list[Leg] = []
+        leg = self.first
+        while leg is not None and leg not in rides:
+            rides.append(leg)
+            leg = self.leg_after(leg.exit, leg.arrival) if leg.exit != self.target else None
+        return rides
 
 
 @dataclass(frozen=True)
@@ -202,45 +207,8 @@ def moment_of(text: str) -> Moment:
     return datetime.datetime.fromisoformat(text)
 
 
-class Rows:
-    """The rows of a text one after the other, each with its line. Blank lines are not rows and have no number."""
-
-    def __init__(self, text: str) -> None:
-        csv.field_size_limit(sys.maxsize)
-        try:
-            lines = csv.reader(io.StringIO(text[1:] if text.startswith("\ufeff") else text, newline=""), strict=True)
-            self.rows = [row for row in lines if row]
-        except csv.Error as fault:
-            raise Refused(f"the text is not a table: {fault}") from None
-        self.line = 0
-
-    def refuse(self, why: str) -> NoReturn:
-        raise Refused(f"line {self.line}: {why}")
-
-    def next(self, kind: str) -> list[str]:
-        """The next row, which is of this kind."""
-        self.line += 1
-        if self.line > len(self.rows):
-            self.refuse(f"the text ends where a `{kind}` row is expected")
-        row = self.rows[self.line - 1]
-        if row[0] != kind:
-            self.refuse(f"this is not a `{kind}` row")
-        return row
-
-    def kind(self) -> str:
-        """The kind of the next row, empty at the end of the text."""
-        return self.rows[self.line][0] if self.line < len(self.rows) else ""
-
-    def fields(self, row: list[str], count: int) -> list[str]:
-        if len(row) != count:
-            self.refuse(f"there are {len(row)} fields, not {count}")
-        return row
-
-    def end(self) -> None:
-        """Refuses any more rows."""
-        if self.line < len(self.rows):
-            self.line += 1
-            self.refuse("there are more rows than expected")
+class Values(Rows):
+    """Rows whose fields are read as values."""
 
     def name(self, text: str) -> str:
         if not text:
@@ -260,8 +228,8 @@ class Rows:
             self.refuse(f"{text!r} is not a bound")
         return nanoseconds_of(self.moment(found[1])) + int(found[2])
 
-    def bounds(self, lower: str, upper: str) -> Bounds:
-        found = Bounds(self.bound(lower), self.bound(upper))
+    def bounds(self, row: Row) -> Bounds:
+        found = Bounds(self.bound(row["lower"]), self.bound(row["upper"]))
         if found.lower > found.upper:
             self.refuse("the lower bound is after the upper one")
         return found
@@ -276,59 +244,69 @@ class Rows:
             self.refuse(f"{text!r} is not a chance")
         return Fraction(text)
 
+    def versioned(self, kind: str) -> Row:
+        """The next row, which is of this kind and of its first version."""
+        row = self.next(kind)
+        if row["version"] != "1":
+            self.refuse(f"this is an unknown version of `{kind}`")
+        return row
 
-def leg_of(rows: Rows, row: list[str], width: int, place: str) -> Leg:
+
+def row_of_plan(rows: Values, kind: str, has_entry: bool) -> Row:
+    """The next row, which is of this kind and of the version of its plan."""
+    row = rows.next(kind)
+    if ("entry" in row) != has_entry:
+        rows.refuse("this row is of another version than the plan")
+    return row
+
+
+def leg_of(rows: Values, row: Row, place: str) -> Leg:
     """The ride of a `start` or `leg` row, at a place."""
-    rows.fields(row, width)
-    entry = rows.name(row[8]) if width == 9 else place
-    return Leg(rows.moment(row[1]), rows.name(row[2]), rows.number(row[3]), rows.moment(row[4]), rows.number(row[5]),
-               rows.name(row[6]), rows.moment(row[7]), entry)
+    return Leg(rows.moment(row["by"]), rows.name(row["run"]), rows.number(row["entry_step"]), rows.moment(row["departure"]),
+               rows.number(row["exit_step"]), rows.name(row["exit"]), rows.moment(row["arrival"]), rows.name(row.get("entry", place)))
 
 
-def place_of(rows: Rows, width: int) -> Place:
+def place_of(rows: Values, has_entry: bool) -> Place:
     """A place with its rows."""
-    row = rows.fields(rows.next("place"), width)
-    place, count = Place(rows.name(row[1]), rows.number(row[2])), rows.number(row[3])
-    if not count or any(row[4:]):
+    row = row_of_plan(rows, "place", has_entry)
+    place, count = Place(rows.name(row["place"]), rows.number(row["change"])), rows.number(row["rows"])
+    if not count or row.get("entry"):
         rows.refuse("this is not a valid `place` row")
     for _ in range(count):
-        leg = leg_of(rows, rows.next("leg"), width, place.name)
+        leg = leg_of(rows, row_of_plan(rows, "leg", has_entry), place.name)
         if place.legs and leg.by <= place.legs[-1].by:
             rows.refuse("the rows of a place do not rise")
         place.legs.append(leg)
     return place
 
 
-def promise_of(rows: Rows) -> Promise:
-    row = rows.fields(rows.next("punctual"), 5)
-    if row[1] != "1":
-        rows.refuse("this is an unknown version of a promise")
-    promise = Promise(rows.moment(row[2]), rows.chance(row[3]), rows.chance(row[4]))
+def promise_of(rows: Values) -> Promise:
+    row = rows.versioned("punctual")
+    promise = Promise(rows.moment(row["promise"]), rows.chance(row["late_lower"]), rows.chance(row["late_upper"]))
     if promise.lower > promise.upper:
         rows.refuse("the lower chance is above the upper one")
     return promise
 
 
-def plan_of(rows: Rows) -> Plan:
+def plan_of(rows: Values) -> Plan:
     """The plan of the rows of `plan` or `punctual`."""
     promise = promise_of(rows) if rows.kind() == "punctual" else None
     row = rows.next("graph")
-    if len(row) < 2 or row[1] not in ("1", "2"):
+    if row["version"] != ("2" if "entry" in row else "1"):
         rows.refuse("this is an unknown version of a plan")
-    width = 8 if row[1] == "1" else 9
-    rows.fields(row, width)
-    plan = Plan(rows.name(row[2]), rows.name(row[3]), rows.moment(row[4]), rows.moment(row[5]), rows.bounds(row[6], row[7]),
+    has_entry = "entry" in row
+    plan = Plan(rows.name(row["from"]), rows.name(row["to"]), rows.moment(row["at"]), rows.moment(row["deadline"]), rows.bounds(row),
                 promise)
     if plan.source != plan.target:
-        plan.first = leg_of(rows, rows.next("start"), width, plan.source)
+        plan.first = leg_of(rows, row_of_plan(rows, "start", has_entry), plan.source)
         while rows.kind():
-            plan.places.append(place_of(rows, width))
+            plan.places.append(place_of(rows, has_entry))
     rows.end()
     check_whole(rows, plan)
     return plan
 
 
-def check_whole(rows: Rows, plan: Plan) -> None:
+def check_whole(rows: Values, plan: Plan) -> None:
     """Refuses a plan in which a ride leads to a place without rows that is not the target."""
     known = {place.name for place in plan.places} | {plan.target}
     for leg in plan.legs():
@@ -336,14 +314,13 @@ def check_whole(rows: Rows, plan: Plan) -> None:
             rows.refuse(f"the text ends without a row for {leg.exit}")
 
 
-def departures_of(rows: Rows) -> Departures:
-    row = rows.fields(rows.next("departures"), 8)
-    if row[1] != "1":
-        rows.refuse("this is an unknown version of departures")
-    found = Departures(rows.name(row[2]), rows.name(row[3]), rows.moment(row[4]), rows.moment(row[5]), rows.moment(row[6]), [])
-    for _ in range(rows.number(row[7])):
-        row = rows.fields(rows.next("row"), 6)
-        departure = Departure(rows.moment(row[1]), rows.name(row[2]), rows.number(row[3]), rows.bounds(row[4], row[5]))
+def departures_of(rows: Values) -> Departures:
+    row = rows.versioned("departures")
+    found = Departures(rows.name(row["from"]), rows.name(row["to"]), rows.moment(row["at"]), rows.moment(row["last"]),
+                       rows.moment(row["deadline"]), [])
+    for _ in range(rows.number(row["rows"])):
+        row = rows.next("row")
+        departure = Departure(rows.moment(row["moment"]), rows.name(row["run"]), rows.number(row["entry_step"]), rows.bounds(row))
         if found.rows and departure.moment <= found.rows[-1].moment:
             rows.refuse("the departures do not rise")
         found.rows.append(departure)
@@ -351,53 +328,53 @@ def departures_of(rows: Rows) -> Departures:
     return found
 
 
-def latest_of(rows: Rows) -> Latest:
-    row = rows.fields(rows.next("latest"), 6)
+def latest_of(rows: Values) -> Latest:
+    row = rows.next("latest")
     rows.end()
-    return Latest(rows.name(row[1]), rows.name(row[2]), rows.moment(row[3]), rows.moment(row[4]), rows.moment(row[5]))
+    return Latest(rows.name(row["from"]), rows.name(row["to"]), rows.moment(row["at"]), rows.moment(row["deadline"]),
+                  rows.moment(row["latest"]))
 
 
-def reach_of(rows: Rows) -> Reach:
-    row = rows.fields(rows.next("reach"), 6)
-    if row[1] != "1":
-        rows.refuse("this is an unknown version of reach")
-    found = Reach(rows.name(row[2]), rows.moment(row[3]), rows.moment(row[4]), [])
+def reach_of(rows: Values) -> Reach:
+    row = rows.versioned("reach")
+    found = Reach(rows.name(row["to"]), rows.moment(row["at"]), rows.moment(row["deadline"]), [])
     known = {found.target}
-    for _ in range(rows.number(row[5])):
-        row = rows.fields(rows.next("from"), 5)
-        if row[1] in known:
+    for _ in range(rows.number(row["rows"])):
+        row = rows.next("from")
+        if row["place"] in known:
             rows.refuse("a place comes twice, or the target has a row")
-        known.add(row[1])
-        found.rows.append(ReachRow(rows.name(row[1]), rows.moment(row[2]), rows.bounds(row[3], row[4])))
+        known.add(row["place"])
+        found.rows.append(ReachRow(rows.name(row["place"]), rows.moment(row["latest"]), rows.bounds(row)))
     rows.end()
     return found
 
 
-def safe_of(rows: Rows) -> Safe:
-    row = rows.fields(rows.next("safe"), 6)
+def safe_of(rows: Values) -> Safe:
+    row = rows.next("safe")
     rows.end()
-    return Safe(rows.name(row[1]), rows.name(row[2]), rows.moment(row[3]), rows.moment(row[4]), rows.moment(row[5]))
+    return Safe(rows.name(row["from"]), rows.name(row["to"]), rows.moment(row["at"]), rows.moment(row["worst"]),
+                rows.moment(row["deadline"]))
 
 
-def trip_of(rows: Rows) -> Trip:
+def trip_of(rows: Values) -> Trip:
     rides = []
     while rows.kind() == "ride":
-        row = rows.fields(rows.next("ride"), 8)
-        rides.append(Ride(rows.name(row[1]), rows.name(row[2]), rows.moment(row[3]), rows.name(row[4]), rows.moment(row[5]),
-                          rows.number(row[6]), rows.moment(row[7])))
-    row = rows.fields(rows.next("arrived"), 3)
+        row = rows.row()
+        rides.append(Ride(rows.name(row["run"]), rows.name(row["entry"]), rows.moment(row["departure"]), rows.name(row["exit"]),
+                          rows.moment(row["due"]), rows.number(row["delay"]), rows.moment(row["arrival"])))
+    row = rows.next("arrived")
     rows.end()
-    return Trip(rides, rows.name(row[1]), rows.moment(row[2]))
+    return Trip(rides, rows.name(row["to"]), rows.moment(row["arrival"]))
 
 
-READERS: dict[str, Callable[[Rows], Printed]] = {
+READERS: dict[str, Callable[[Values], Printed]] = {
     "graph": plan_of, "punctual": plan_of, "departures": departures_of, "latest": latest_of, "reach": reach_of,
     "safe": safe_of, "ride": trip_of, "arrived": trip_of}
 
 
 def read(text: str) -> Printed:
     """Reads a text by the kind of its first row."""
-    rows = Rows(text)
+    rows = Values(text)
     kind = rows.kind()
     if not kind:
         raise Refused("there is no text")
@@ -410,7 +387,7 @@ def read(text: str) -> Printed:
 
 def read_plan(text: str) -> Plan:
     """Reads the plan in the output of `plan` or `punctual`."""
-    rows = Rows(text)
+    rows = Values(text)
     kind = rows.kind()
     if not kind:
         raise Refused("there is no text")

@@ -2,16 +2,16 @@
 
 from __future__ import annotations
 
-import io
 import os
 from dataclasses import dataclass
 from typing import Iterator, NamedTuple, Optional
 
-from .commands import ask
-from .feeds import Table
-from .journeys import HOURS, hours_to, moment_from
+from .feeds import stops_of
+from .journeys import HOURS, Journey, hours_to, moment_from
+from .names import plain
 from .places import stops_meant
-from .plans import Bounds, Departures, Moment, Plan, Refused, Safe, moment_text, nanoseconds_of, read
+from .plans import Bounds, Moment, Plan, Safe, nanoseconds_of, read_plan
+from .tables import Refused, Table, TextLines
 
 
 class Wanted(NamedTuple):
@@ -57,6 +57,11 @@ class Timetable:
             raise Refused(f"{option}: {text} may mean {', '.join(stop.id for stop in stops)}; give the id")
         return stops[0].id
 
+    def name(self, place: str) -> str:
+        """The name of a place, if the timetable has names."""
+        names = (stop.name for stop in stops_of(self.path) if stop.id == place) if self.is_feed else iter(())
+        return plain(next(names, "") or place)
+
     def question(self, wanted: Wanted) -> Question:
         """A question of a table."""
         start = moment_from(wanted.start, None, "at")
@@ -65,44 +70,35 @@ class Timetable:
             raise Refused("until is before at")
         return Question(self.place(wanted.source, "from"), self.place(wanted.target, "to"), start, until)
 
-    def words(self, command: str, question: Question, hours: int) -> list[str]:
-        words = [command, "--feed" if self.is_feed else "--cut", self.path, "--delays", self.options.delays]
-        words += ["--from", question.source, "--to", question.target, "--at", moment_text(question.start)]
-        return words + (["--horizon", str(hours)] if self.is_feed else [])
+    def journey(self, question: Question) -> Journey:
+        return Journey(self.path, self.options.delays, question.source, question.target, question.start, self.options.horizon)
 
     def safe(self, question: Question) -> Optional[Safe]:
         """The least worst arrival and the deadline of a plan, if there is one."""
-        answer = ask([*self.words("safe", question, self.options.horizon), "--alpha", str(self.options.alpha)])
-        found = read(answer.text) if answer.status == 0 else None
-        return found if isinstance(found, Safe) else None
+        return self.journey(question).safe(self.options.alpha)
 
     def plan(self, question: Question, delays: Optional[str] = None) -> Optional[str]:
         """The text of the plan, if there is one; with another delay file if that is given."""
-        words = self.words("plan", question, self.options.horizon)
-        words[words.index("--delays") + 1] = delays or self.options.delays
-        answer = ask([*words, "--alpha", str(self.options.alpha)])
-        return answer.text if answer.status == 0 else None
+        journey = self.journey(question)
+        journey.delays = delays or journey.delays
+        return journey.plan(self.options.alpha)
 
     def punctual(self, question: Question, by: Moment) -> Optional[Plan]:
         """The plan with the least chance of an arrival after a moment, if there is a plan."""
-        words = self.words("punctual", question, self.options.horizon)
-        answer = ask([*words, "--alpha", str(self.options.alpha), "--by", moment_text(by)])
-        found = read(answer.text) if answer.status == 0 else None
-        return found if isinstance(found, Plan) else None
+        text = self.journey(question).punctual(by, self.options.alpha)
+        return read_plan(text) if text else None
 
     def expected(self, question: Question, until: Moment) -> Optional[Bounds]:
         """Bounds on the least expected arrival by a deadline, for a traveller who sets out at the start."""
         if question.source == question.target:
             return Bounds(nanoseconds_of(question.start), nanoseconds_of(question.start))
-        hours = max(1, min(HOURS, max(self.options.horizon, hours_to(question.start, until))))
-        words = self.words("departures", question, hours)
-        answer = ask([*words, "--last", moment_text(question.start), "--until", moment_text(until)])
-        found = read(answer.text) if answer.status == 0 else None
-        return found.rows[0].expected if isinstance(found, Departures) and found.rows else None
+        journey = self.journey(question)
+        journey.horizon = max(1, min(HOURS, max(self.options.horizon, hours_to(question.start, until))))
+        found = journey.departures(question.start, until)
+        return found.rows[0].expected if found and found.rows else None
 
 
 def wanted_of(text: str) -> Iterator[Wanted]:
     """The rows of a table of questions."""
-    for line, (source, target, start, until) in Table(io.StringIO(text, newline=""), "questions", ["from", "to", "at"], ["until"]):
-        yield Wanted(line, source, target, start, until)
-
+    for line, fields in Table(TextLines(text), "questions").rows(["from", "to", "at"], ["until"]):
+        yield Wanted(line, *fields)

@@ -14,7 +14,7 @@ sys.dont_write_bytecode = True
 TESTS = os.path.dirname(os.path.realpath(__file__))
 SCRIPTS = os.path.dirname(TESTS)
 TOP = os.path.dirname(SCRIPTS)
-sys.path.insert(0, SCRIPTS)
+sys.path[:0] = [SCRIPTS, os.path.join(SCRIPTS, "launcher")]
 
 EXAMPLES = os.path.join(TOP, "examples")
 OLD_TOWN = os.path.join(EXAMPLES, "old_town")

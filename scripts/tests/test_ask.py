@@ -30,6 +30,10 @@ class Stops(Case):
         self.is_refused(self.ask("nowhere", "AIR"), "FROM: there is no stop nowhere")
         self.is_refused(self.ask("nowhere", "airprt"), "FROM: there is no stop nowhere")
         self.is_refused(self.ask("MIL", "airprt"), "TO: there is no stop airprt; did you mean Airport?")
+        self.is_refused(self.ask("MIL", "sqaure"), "TO: there is no stop sqaure; did you mean Old Town, Square?")
+        self.is_refused(self.ask("MIL", "twn olde"), "did you mean Old Town, Square?")
+        for text in ("", ",-"):
+            self.is_refused(self.ask("MIL", text), "TO: the name or the id of a stop is expected")
         many = self.feed("many", stops="stop_id,stop_name\n" + "".join(f"S{at},Saint {at}\n" for at in range(20)))
         self.is_refused(call("ask", "", many, DELAYS, "saint", "S1", "08:00"), "and 10 more; write more of the name")
 
@@ -67,6 +71,11 @@ class By(Case):
         sooner = call("ask", "", FEED, DELAYS, "MIL", "AIR", "2024-06-04T08:01", "--by", "2024-06-04T09:30")
         self.assertIn("leave by 08:00: ask for 2024-06-04T08:00:00", sooner.errors)
         self.is_refused(call("ask", "", FEED, DELAYS, "MIL", "AIR", "2024-06-03T08:00", "--by", "2024-06-03T07:00"), "--by is before the start")
+
+    def test_where_each_plan_is_late(self) -> None:
+        self.is_refused(call("ask", "", FEED, DELAYS, "MIL", "AIR", "2024-06-03T09:00", "--by", "10:00"), "leave by 08:00: ask for 2024-06-03T08:00:00")
+        # A time alone that has passed is that of the next day.
+        self.is_refused(call("ask", "", FEED, DELAYS, "MIL", "AIR", "2024-06-03T23:30", "--by", "00:30"), "arrives by 00:30 on Tue whatever")
 
     def test_a_deadline_alone(self) -> None:
         ran = call("ask", "", FEED, DELAYS, "MIL", "AIR", "--by", "2024-06-03T12:00", "--next", "2")
@@ -146,6 +155,30 @@ class Why(Case):
         strict = self.write("strict.csv", "class,delay,weight\n*,0,5000\n*,86400,5000\n")
         line = self.why(FEED, "MIL", "AIR", delays=strict, when="2024-12-31T08:00")
         self.assertIn("if nothing were late, you would be there at 08:50", line)
+
+    def test_after_the_last_departure(self) -> None:
+        self.assertIn("nothing safe leaves any more on Mon 2024-06-03; the last left at 08:00, the next leaves at 08:00 on Tue: "
+                      "ask for 2024-06-04T08:00:00", self.why(FEED, "MIL", "AIR", when="2024-06-03T08:20"))
+        # The next one is more than 72 hours later.
+        for more in ((), ("--horizon", "72")):
+            self.assertIn("nothing safe leaves any more on Fri 2024-06-07; the last left at 08:00, the next leaves at 08:00 on Mon: "
+                          "ask for 2024-06-10T08:00:00", self.why(FEED, "MIL", "AIR", *more, when="2024-06-07T08:20"))
+        self.assertIn("the feed ends on 2024-12-31", self.why(FEED, "MIL", "AIR", when="2024-12-31T23:50"))
+
+    def test_pairs_of_near_stops(self) -> None:
+        # Trips stop at the second stop of each name only; a walk leads to the second one only, too.
+        stops = ("stop_id,stop_name,stop_lat,stop_lon\nA1,Anfang,47,8\nA2,Anfang,47.0001,8\nZ1,Ziel,48,8\nZ2,Ziel,48.0001,8\nM,Mitte,47.5,8\n"
+                 "N,Nirgends,46,8\nN2,Nirgends,46.0001,8\n")
+        times = "trip_id,stop_sequence,stop_id,arrival_time,departure_time\nt,1,A2,8:10:00,8:10:00\nt,2,{},8:20:00,8:20:00\n"
+        tables = {"stops": stops, "routes": "route_id,route_type\nR,3\n", "trips": "route_id,service_id,trip_id\nR,WK,t\n"}
+        feed = self.feed("near", **tables, stop_times=times.format("Z2"))
+        self.assertEqual(call("ask", "", feed, DELAYS, "anfang", "ziel", "2024-06-03T08:00").status, 0)
+        self.assertIn("the next leaves at 08:10 on Mon", self.why(feed, "anfang", "ziel", when="2024-06-07T08:30"))
+        self.assertIn("no trip stops at Nirgends (N, N2)", self.why(feed, "anfang", "nirgends"))
+        walk = self.feed("walk", **tables, stop_times=times.format("M"),
+                         transfers="from_stop_id,to_stop_id,transfer_type,min_transfer_time\nM,Z2,2,240\n")
+        ran = call("ask", "", walk, DELAYS, "anfang", "ziel", "2024-06-03T08:00")
+        self.assertEqual((ran.status, "From Mitte walk 4 min to Ziel." in ran.printed), (0, True), ran.errors)
 
     def test_other_refusals(self) -> None:
         self.is_refused(call("ask", "", FEED, f"{self.room}/none", "MIL", "AIR", "2024-06-03T08:00"), "delay file is missing")

@@ -16,6 +16,7 @@ CARD = """Mill to Airport
 Mon 2024-06-03, from 08:00 on.
 Whatever the delays, not later than 10:42.
 On average there at 08:55.
+If nothing is late: 08:00 to 08:50, 50 min, 1 change.
 
 At Mill
   tram 1 at 08:00 to Old Town, Square, due 08:20
@@ -57,7 +58,7 @@ class Texts(Case):
         card = call("card", PLAN, *words).printed
         self.assertIn("There by 08:50 in 99 of 100 cases and by 09:11 in all.\n", card)
         self.assertIn("(under 1 in 100)", card)
-        self.assertIn("<tr class=rare>", call("card", PLAN, *words, "--html").printed)
+        self.assertIn('<tr class="rare">', call("card", PLAN, *words, "--html").printed)
 
     def test_chances_of_a_cut_file(self) -> None:
         words = ["--cut", f"{CONNECTIONS}/change.csv", "--delays", f"{CONNECTIONS}/delays.csv"]
@@ -73,8 +74,8 @@ class Texts(Case):
 
     def test_a_walk(self) -> None:
         card = call("card", WALKED).printed
-        for line in ("  if you are there by 00:20 on Tue 2024-06-04: walk 5 min to X2, t2 at 00:25 on\n", "At X1 (a change takes 1 min 30 s)\n",
-                     "On average there at 00:40 on Tue 2024-06-04.\n"):
+        for line in ("  if you are there by 00:20 on Tue: walk 5 min to X2, t2 at 00:25 on Tue to T,\n", "At X1 (a change takes 1 min 30 s)\n",
+                     "On average there at 00:40 on Tue.\n"):
             self.assertIn(line, card)
 
     def test_departures(self) -> None:
@@ -82,6 +83,10 @@ class Texts(Case):
         self.prints(card, "Mill to Airport\nMon 2024-06-03, from 08:00 to 08:40.\nEach departure arrives by 10:42 whatever the delays.\n\n"
                           "Departures\n  08:00 tram 1, there at 08:55 on average\n\n"
                           f"Timetable {FEED}; made on 2024-06-03.\n")
+
+    def test_no_change(self) -> None:
+        plan = PLAN.split("place")[0].replace('"S,1"', "AIR")
+        self.assertIn("If nothing is late: 08:00 to 08:20, 20 min, no change.\n", call("card", plan).printed)
 
     def test_one_place(self) -> None:
         card = call("card", "graph,1,A,A,2024-06-03T08:00:00,2024-06-03T08:00:00,2024-06-03T08:00:00.000000000,"
@@ -147,7 +152,7 @@ class Names(Case):
 class Pages(Case):
     def test_a_page(self) -> None:
         page = call("card", PLAN, "--feed", f"{OLD_TOWN}/feed", "--html").printed
-        for part in ("<h2>At <bdi>Old Town, Square</bdi> (a change takes 2 min)</h2>", '<th scope="col">if you are there by</th>', "<main>",
+        for part in ('<h2>At <bdi lang="">Old Town, Square</bdi> (a change takes 2 min)</h2>', '<th scope="col">if you are there by</th>', "<main>",
                      "color-scheme: light dark", "@media print", "overflow-wrap: anywhere"):
             self.assertIn(part, page)
         self.assertNotIn("<script", page)
@@ -156,8 +161,27 @@ class Pages(Case):
         stops = "stop_id,stop_name\nA,<script>&\u202e\nT,\"</title>\"\"\"\n"
         page = call("card", CITY_PLAN, "--feed", city(self, stops=stops), "--html").printed
         self.assertIn("<title>&lt;script&gt;&amp; to &lt;/title&gt;&quot;</title>", page)
-        self.assertIn("<h1><bdi>&lt;script&gt;&amp;</bdi> to ", page)
+        self.assertIn('<h1><bdi lang="">&lt;script&gt;&amp;</bdi> to ', page)
         self.assertEqual(re.findall("<script", page), [])
+
+    def test_the_way_on_time(self) -> None:
+        page = call("card", PLAN, "--feed", FEED, "--html").printed
+        rows = re.findall('<tr(.*?)><td class="time" data-head="[^"]*">(.*?)</td>', page)
+        self.assertEqual(rows, [(' class="way"', ""), (' class="way"', "08:22"), ("", "08:38")])
+        # All tables have the same columns, so that times are below each other.
+        self.assertEqual(len(set(re.findall("<colgroup>.*?</colgroup>", page))), 1)
+
+    def test_the_language_of_names(self) -> None:
+        info, agency = "feed_publisher_name,feed_lang\nX,{}\n", "agency_name,agency_lang\n{}\n"
+        cases: list[tuple[dict[str, str], str]] = [({}, ""), ({"feed_info": info.format("de-CH")}, "de-CH"), ({"agency": agency.format("X,fr\nY,fr")}, "fr"),
+                 ({"agency": agency.format("X,fr\nY,it")}, ""), ({"feed_info": info.format("mul")}, ""),
+                 ({"feed_info": info.format('"""><b>"'), "agency": agency.format("X,nl")}, ""),
+                 ({"feed_info": "feed_publisher_name\nX\n", "agency": agency.format("X,nl")}, "")]
+        for tables, language in cases:
+            page = call("card", CITY_PLAN, "--feed", city(self, **tables), "--html").printed
+            self.assertIn(f'<h1><bdi lang="{language}">Anfang</bdi> to ', page)
+            for table in tables:
+                os.remove(f"{self.room}/city/{table}.txt")
 
     def test_departures(self) -> None:
         self.assertIn('<th scope="col">there on average</th>', call("card", DEPARTURES, "--html").printed)

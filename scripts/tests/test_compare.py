@@ -79,8 +79,10 @@ class Compare(Case):
     def test_a_summary(self) -> None:
         words = [f"{OLD_TOWN}/feed", "--without", "b200", "--delays", f"{OLD_TOWN}/delays.csv", "--summary"]
         ran = call("compare", JOURNEY, *words)
-        self.prints(ran, "2 questions\n  later: 1, by 12 min 48 s on average and 12 min 48 s at most (MIL to AIR at 2024-06-03T08:00:00)\n"
+        self.prints(ran, "2 questions\n  later: 1, by 12 min 48 s on average and 12 min 48 s at most (Mill to Airport at 2024-06-03T08:00:00)\n"
                          "  same: 1\n")
+        words = [f"{CONNECTIONS}/change.csv", "--without", "r2", "--delays", f"{CONNECTIONS}/delays.csv", "--summary"]
+        self.assertIn("(A to T at ", call("compare", QUESTION, *words).printed)
 
     def test_refusals(self) -> None:
         words = [f"{CONNECTIONS}/change.csv", "--delays", f"{CONNECTIONS}/delays.csv"]

@@ -128,23 +128,26 @@ class Columns(Case):
             self.assertIn(row, ran.printed, ran.errors)
 
     def test_bad_ones(self) -> None:
-        for text, why in (("late\n5\nx\n", "line 3: 'x' is not a number of seconds"), ("late\n5\n86401\n", "line 3: 86401 seconds are more"),
+        for text, why in (("late\n5\nx\n", "line 3: 'x' is not a number; write it as 90"), ("late\n5\n86401\n", "line 3: 86401 seconds are more"),
                           ("late\n5\n\"\"\n", "line 3: '' is not a number"), ("late,route_type\n5,-1\n", "line 2: '-1' is not a valid route_type"),
                           ("late,route_type\n5,3\n5,65535\n", "line 3: '65535'"), ("late,hour\n5,x\n", "line 2: 'x' is not a valid hour"),
                           ("late\n٣\n", "line 2: ")):
             self.is_refused(call("delays", text), why)
         ran = call("delays", "late\n5\nx\n99999\n\"\"\n", "--skip-bad")
         self.assertEqual(ran.printed, "class,delay,weight\n*,5,10000\n")
-        self.assertIn("4 observations; 3 bad and skipped, the first at line 3: 'x' is not a number of seconds", ran.errors)
+        self.assertIn("4 observations; 3 bad and skipped, the first at line 3: 'x' is not a number; write it as 90", ran.errors)
 
     def test_refusals(self) -> None:
         texts: list[tuple[Union[str, bytes], str]] = [
-            ("", "no column late"), ("a;late\n", "the columns are a;late"), ("late\n", "no observations"),
-            ('late\n"5\n', "not a table"), (b"late\n\xff\n", "not UTF-8")]
+            ("", "no column late"), ("a;late\n", "the columns are a;late; give --delimiter ';'"),
+            ("a\tlate\n", "give --delimiter tab"), ("late\n", "no observations"),
+            ('late\n"5\n', "not a table"), (b"late\n\xff\n", "not UTF-8: save it as CSV UTF-8, or convert it by iconv")]
         for text, why in texts:
             self.is_refused(call("delays", text), why)
         self.is_refused(call("delays", "late\nx\n", "--skip-bad"), "no observations")
         self.is_refused(call("delays", "due,actual\n08:61,08:00\n", "--due", "due", "--actual", "actual"), "'08:61' is not a time")
+        for text in ("6/3/2024 10:27", "8:05:00 AM"):
+            self.is_refused(call("delays", f"due,actual\n{text},{text}\n", "--due", "due", "--actual", "actual"), "write it as 08:05")
         self.is_refused(call("delays", "due,actual\n08:00,60\n", "--due", "due", "--actual", "actual"), "do not have the same form")
         self.is_refused(call("delays", "late\n5\n", "--feed", self.room), "no column trip_id")
         self.assertEqual(call("delays", "late\n5\n", "--due", "late").status, 2)

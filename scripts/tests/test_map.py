@@ -27,7 +27,7 @@ class Map(Case):
         self.assertEqual((ran.status, ran.errors), (0, "map: 1 places have a row and no coordinates, and are left out\n"))
         xml.dom.minidom.parseString(ran.printed)
         for text in ("<title>Anfang &amp; Ende: 114.7 min</title>", "<title>Mitte: 111.5 min</title>", "<title>Nirgends: none</title>",
-                     "to Ziel: expected arrival, minutes after 07:00", "grey: no row (1); the cross is the target"):
+                     ">to Ziel</text>", ">expected arrival, minutes after 07:00</text>", "grey: no row (1); the cross is the target"):
             self.assertIn(text, ran.printed)
         self.assertEqual((ran.printed.count("<circle"), ran.printed.count("the target</title>")), (3, 1))
         self.assertIn("<title>Anfang &amp; Ende: 60.0 min</title>", call("map", ROWS, self.town, "--by", "latest").printed)
@@ -42,9 +42,28 @@ class Map(Case):
         later = self.write("later.csv", ROWS.replace("08:54:42", "09:04:42"))
         ran = call("map", ROWS, self.town, "--with", later)
         xml.dom.minidom.parseString(ran.printed)
-        self.assertIn("<title>Anfang &amp; Ende: 10.0 min</title>", ran.printed)
-        self.assertIn("<title>Mitte: 0.0 min</title>", ran.printed)
-        self.assertIn("minutes later than before, expected", ran.printed)
+        for text in ("<title>Anfang &amp; Ende: 10.0 min</title>", "<title>Mitte: 0.0 min</title>", "expected arrival, minutes later than before",
+                     ">10.0 min later: Anfang &amp; Ende</text>", "▼ a row only before (0); ▲ only after (0)"):
+            self.assertIn(text, ran.printed)
+
+    def test_rows_of_one_timetable_only(self) -> None:
+        other = self.write("other.csv", ROWS.replace("from,A,", "from,X,"))
+        ran = call("map", ROWS, self.town, "--with", other)
+        xml.dom.minidom.parseString(ran.printed)
+        for text in ("<title>Anfang &amp; Ende: lost</title>", "<title>Nirgends: gained</title>", "▼ a row only before (1); ▲ only after (1)",
+                     "grey: no row (0)"):
+            self.assertIn(text, ran.printed)
+        self.assertEqual(ran.printed.count('class="shape"'), 2)
+        found = json.loads(call("map", ROWS, self.town, "--with", other, "--geojson").printed)
+        verdicts = {feature["properties"]["place"]: feature["properties"].get("verdict") for feature in found["features"]}
+        self.assertEqual(verdicts, {"A": "lost", "X": "gained", "B": "same", "T": None})
+
+    def test_no_rows_and_one_place(self) -> None:
+        empty = ROWS.split("\n")[0].replace(",3", ",0") + "\n"
+        for words in ((), ("--by", "latest"), ("--with", self.write("empty.csv", empty))):
+            xml.dom.minidom.parseString(call("map", empty, self.town, *words).printed)
+        alone = self.feed("alone", stops="stop_id,stop_lat,stop_lon\nT,1,1\n")
+        xml.dom.minidom.parseString(call("map", empty, alone).printed)
 
     def test_refusals(self) -> None:
         self.is_refused(call("map", content(f"{OLD_TOWN}/graph.csv"), self.town), "only of what `reach` prints")

@@ -57,10 +57,13 @@ latest,2024-06-03T09:21:00,
         late = self.write("late.csv", "class,delay,weight\n*,3600,10000\n")
         self.prints(call("odds", PLAN, *words, "--delays", late), "arrival,chance,by_then\nstranded,1,\n")
         self.is_refused(call("odds", PLAN, "--feed", f"{EXAMPLES}/demo_transit/feed", "--delays", f"{OLD_TOWN}/delays.csv"), "another feed")
-        for text, why in (("class,delay\n", "no column weight"), ("class,delay,weight\n*,x,1\n", "line 2: bad field"),
+        for text, why in (("class,delay\n", "no column weight"), ("class,delay,weight\n*,x,1\n", "line 2: x is no whole number"),
+                          ("class,delay,weight\n*," + 5000 * "9" + ",1\n", "line 2: 999"), ("class,delay,weight\n*,-1,1\n", "line 2: -1 is no"),
                           ("class,delay,weight\n3,0,10000\n", "class * is missing"), ("class,delay,weight\n*,0,1\n", "do not add up")):
             self.is_refused(call("odds", PLAN, *words, "--delays", self.write("bad.csv", text)), why)
         self.is_refused(call("odds", "safe,A\n", *words, "--delays", never), "`safe`")
+        day = self.write("day.csv", "class,delay,weight\n*,86400,10000\n")
+        self.is_refused(call("odds", PLAN.replace("2024-06-03T", "9999-12-31T"), *words, "--delays", day), "after the year 9999")
 
 
 class Bounds(Case):

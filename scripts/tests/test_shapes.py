@@ -21,6 +21,9 @@ TOWN = {
                   "s1,1,HB,08:12:00,08:12:00\ns1,2,FLU,08:24:00,08:24:00\ns2,1,HB,08:42:00,08:42:00\ns2,2,FLU,08:54:00,08:54:00\n",
     "transfers": "from_stop_id,to_stop_id,transfer_type,min_transfer_time\nHB,HB,2,120\n",
 }
+REACH = """reach,1,FLU,2024-06-03T07:00:00,2024-06-03T10:00:00,1
+from,BEL,2024-06-03T08:00:00,2024-06-03T08:54:42.000000000,2024-06-03T08:54:42.000000000
+"""
 Tables = dict[str, str]
 Change = Callable[[Tables], None]
 
@@ -72,6 +75,8 @@ SHAPES: list[Change] = [
     added("calendar", CALENDAR + "WK,1,1,1,1,1,0,0,20240101,x\n"), added("calendar", CALENDAR), added("calendar", CALENDAR + "WK,yes,1,1,1,1,0,0,20240101,20241231\n"),
     added("frequencies", "trip_id,start_time,end_time,headway_secs\na1,08:00:00,09:00:00,0\n"),
     added("frequencies", "trip_id,start_time,end_time,headway_secs\na1,8,9,600\n"), added("frequencies", "trip_id,start_time,end_time,headway_secs\na1,08:00:00,09:00:00,600\n"),
+    added("calendar", ""), lambda tables: tables.update(calendar="", calendar_dates="service_id,date,exception_type\nWK,20240603,1\n"),
+    swapped("stops", "47.3667", "nan"), swapped("transfers", "HB,HB,2,120", "HB,FLU,2,-5"), added("feed_info", "feed_lang\n\"de"),
     swapped("stop_times", "\n", "\r\n"), swapped("stop_times", "\n", "\r"), swapped("stops", "stop_id", "\ufeffstop_id"), swapped("trips", ",", ";"),
 ]
 
@@ -85,6 +90,7 @@ class Shapes(Case):
 
     def scripts(self, feed: str, name: str) -> list[Ran]:
         delays = self.write(f"delays{name}.csv", USUAL)
+        reach = self.write(f"reach{name}.csv", REACH.replace("from,BEL,", "from,HB,"))
         plan = f"{OLD_TOWN}/graph.csv"
         with open(plan, encoding="utf-8") as file:
             text = file.read().replace("t100", "a1").replace("b200", "s1").replace("b201", "s2")
@@ -95,7 +101,7 @@ class Shapes(Case):
                 call("card", text, "--feed", feed, "--delays", delays, "--html"), call("odds", text, "--feed", feed, "--delays", delays),
                 call("compare", f"from,to,at\nBEL,FLU,{when}\nx,FLU,{when}\n", feed, "--without", "a1", "--delays", delays),
                 call("slice", "", feed, "2024-06-03", f"{self.room}/out{name}"), call("walks", "", feed),
-                call("trial", "", feed, delays, "--questions", "2"),
+                call("trial", "", feed, delays, "--questions", "2"), call("map", REACH, feed), call("map", REACH, feed, "--with", reach, "--geojson"),
                 call("delays", "trip_id,late\na1,30\nzz,x\n", "--feed", feed, "--skip-bad")]
 
     def test_no_traceback(self) -> None:

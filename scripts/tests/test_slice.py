@@ -29,9 +29,10 @@ class Slice(Case):
                                   "OLD,1,1,1,1,1,1,1,20240101,20240520\nNOW,1,1,1,1,1,1,1,20240101,20240521\n",
                          trips="route_id,service_id,trip_id\nR,OLD,o\nR,NOW,n\nR,OLD,f\n",
                          stop_times='trip_id,stop_sequence,stop_id\no,1,A\n"n",1,A\nf,1,A\nn,2,B\n',
-                         frequencies="trip_id,start_time,end_time,headway_secs\nf,8:00:00,9:00:00,600\n")
+                         frequencies="trip_id,start_time,end_time,headway_secs\nf,8:00:00,9:00:00,600\n", feed_info="feed_lang\nde\n")
         # Fourteen days before the fourth of June is the twenty-first of May.
         self.prints(call("slice", "", feed, "2024-06-04", f"{self.room}/out"), "trips.txt: 2 of 3 rows\nstop_times.txt: 3 of 4 rows\n")
+        self.assertEqual(content(f"{self.room}/out/feed_info.txt"), "feed_lang\nde\n")
         self.assertEqual(content(f"{self.room}/out/stop_times.txt"), "trip_id,stop_sequence,stop_id\nn,1,A\nf,1,A\nn,2,B\n")
 
     def test_refusals(self) -> None:
