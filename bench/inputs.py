@@ -1,25 +1,16 @@
-"""The inputs that bench/measure.py runs the program on, each made by a stated rule, so that every machine
-measures the same bytes.
+"""The inputs that the scripts of this folder run the program on, each made by a stated rule, so that every machine measures the
+same bytes.
 
-A feed of n lines is that of `sample --size n`, whose rule is in docs/FORMATS.md: n lines between ten hubs, each of
-96 runs a day with 21 stop times. It also has a stop `X`, which no trip serves and from which no strategy is safe.
+A feed of n lines is that of `sample --size n`, whose rule is in docs/FORMATS.md: n lines between ten hubs, each of 96 runs a day
+with 21 stop times. It also has a stop `X`, which no trip serves and from which no strategy is safe. The same feed with links has
+a `transfers.txt`: from each stop of a line, links lead to the stops at the same position of the next four lines, and from each hub
+to the next four hubs, in a ring; they take 120, 180, 240 and 300 seconds. So four links lead into each place but `X`.
 
-A short feed is the same feed with shorter names, so that 2^25 stop times fit in a file of 2^30 bytes: the names of its trips,
-and of the stops of its lines, are numbers in base 36.
-
-The same feed with links has a `transfers.txt`: from each stop of a line, links lead to the stops at the same position
-of the next four lines, and from each hub to the next four hubs, in a ring; they take 120, 180, 240 and 300 seconds.
-So four links lead into each place but `X`.
-
-A cut file of n rows comes from the sequence x -> (6364136223846793005 * x + 1442695040888963407) mod 2^64 from
-x = 1, of which a number below m is the upper 32 bits of x, mod m:
-
-- It has max(200, n / 50) places in a ring, S0, S1 and on, and n / 10 runs of ten rows each. A row of a run goes
-  from one place of the ring to its next.
-- Run 0 begins at S0 at 08:00:00. Each other run begins at a random place, at a random second of the twelve hours
-  from then on. A hop takes 60 to 359 seconds, and a stop before the next one 0 to 59 seconds.
-
-So run 0 goes from S0 to S10 without a change, and a safe strategy exists at each size.
+A cut file of n rows comes from the sequence x -> (6364136223846793005 * x + 1442695040888963407) mod 2^64 from x = 1, of which a
+number below m is the upper 32 bits of x, mod m. It has max(200, n / 50) places in a ring, S0, S1 and on, and n / 10 runs of ten
+rows each. A row of a run goes from one place of the ring to its next. Run 0 begins at S0 at 08:00:00. Each other run begins at a
+random place, at a random second of the twelve hours from then on. A hop takes 60 to 359 seconds, and a stop before the next one
+0 to 59 seconds. So run 0 goes from S0 to S10 without a change, and a safe strategy exists at each size.
 """
 
 from __future__ import annotations
@@ -30,17 +21,14 @@ from typing import Callable, Iterable, Iterator
 
 RUNS = 96
 HOPS = 20
-FEED_DELAYS = ("class,delay,weight\n*,0,8000\n*,300,1500\n*,900,500\n1,0,9000\n1,60,1000\n"
-               "2,0,7000\n2,120,2000\n2,600,1000\n")
+DELAYS = "class,delay,weight\n*,0,8000\n*,300,1500\n*,900,500\n"
+FEED_DELAYS = DELAYS + "1,0,9000\n1,60,1000\n2,0,7000\n2,120,2000\n2,600,1000\n"
 LINK_SECONDS = (120, 180, 240, 300)
 CALENDAR = ("service_id,monday,tuesday,wednesday,thursday,friday,saturday,sunday,start_date,end_date\n"
             "D,1,1,1,1,1,1,1,20240101,20241231\n")
 UNSERVED = "X"
-DIGITS = "0123456789abcdefghijklmnopqrstuvwxyz"
-
 CUT_START = datetime.datetime(2024, 6, 3, 8, 0, 0)
 CUT_HOPS = 10
-CUT_DELAYS = "class,delay,weight\n*,0,8000\n*,300,1500\n*,900,500\n"
 
 
 def stop_times_of(lines: int) -> int:
@@ -48,48 +36,13 @@ def stop_times_of(lines: int) -> int:
     return lines * RUNS * (HOPS + 1)
 
 
-def connections_of(lines: int, hours: int) -> int:
-    """How many connections a feed with these lines has in a window of these hours."""
-    return lines * RUNS * HOPS * hours // 24
-
-
-def base_36(number: int) -> str:
-    """The digits of a number in base 36."""
-    text = DIGITS[number % 36]
-    while number >= 36:
-        number //= 36
-        text = DIGITS[number % 36] + text
-    return text
-
-
-class Names:
-    """The names of the trips of a feed, and of its stops."""
-
-    def trip(self, number: int, run: int) -> str:
-        """The trip of a run of a line."""
-        return f"T{number}_{run}"
-
-    def inner(self, number: int, place: int) -> str:
-        """The stop at a place of a line, if it is no hub."""
-        return f"L{number}_{place}"
-
-    def stop(self, number: int, place: int) -> str:
-        """The stop at a place of a line."""
-        if place == 0:
-            return f"H{number % 10}"
-        if place == HOPS:
-            return f"H{(number + 1 + number // 10 % 3) % 10}"
-        return self.inner(number, place)
-
-
-class ShortNames(Names):
-    """The names of a short feed."""
-
-    def trip(self, number: int, run: int) -> str:
-        return base_36(number * RUNS + run)
-
-    def inner(self, number: int, place: int) -> str:
-        return base_36(number * HOPS + place)
+def stop_of(number: int, place: int) -> str:
+    """The stop at a place of a line."""
+    if place == 0:
+        return f"H{number % 10}"
+    if place == HOPS:
+        return f"H{(number + 1 + number // 10 % 3) % 10}"
+    return f"L{number}_{place}"
 
 
 def clock(seconds: int) -> str:
@@ -103,29 +56,27 @@ def write(folder: str, name: str, pieces: Iterable[str]) -> None:
         file.writelines(pieces)
 
 
-def stop_times(lines: int, names: Names) -> Iterator[str]:
+def stop_times(lines: int) -> Iterator[str]:
     """Each run of each line at its 21 stops."""
     yield "trip_id,arrival_time,departure_time,stop_id,stop_sequence\n"
     for number in range(lines):
         hop = 60 + 5 * (number % 7)
-        stops = [names.stop(number, place) for place in range(HOPS + 1)]
+        stops = [stop_of(number, place) for place in range(HOPS + 1)]
         for run in range(RUNS):
             begin = 900 * run + 35 * number % 900
-            trip = names.trip(number, run)
             for place, stop in enumerate(stops):
                 time = clock(begin + place * hop)
-                yield f"{trip},{time},{time},{stop},{place + 1}\n"
+                yield f"T{number}_{run},{time},{time},{stop},{place + 1}\n"
 
 
-def write_feed(folder: str, lines: int, names: Names = Names()) -> None:
+def write_feed(folder: str, lines: int) -> None:
     """Writes the tables of a feed with this number of lines, and a delay file beside them."""
     write(folder, "stops.txt", ["stop_id\n"] + [f"H{hub}\n" for hub in range(10)] + [UNSERVED + "\n"]
-          + [names.inner(number, place) + "\n" for number in range(lines) for place in range(1, HOPS)])
-    write(folder, "routes.txt",
-          ["route_id,route_type\n"] + [f"R{number},{number % 4}\n" for number in range(lines)])
+          + [stop_of(number, place) + "\n" for number in range(lines) for place in range(1, HOPS)])
+    write(folder, "routes.txt", ["route_id,route_type\n"] + [f"R{number},{number % 4}\n" for number in range(lines)])
     write(folder, "trips.txt", ["route_id,service_id,trip_id\n"]
-          + [f"R{number},D,{names.trip(number, run)}\n" for number in range(lines) for run in range(RUNS)])
-    write(folder, "stop_times.txt", stop_times(lines, names))
+          + [f"R{number},D,T{number}_{run}\n" for number in range(lines) for run in range(RUNS)])
+    write(folder, "stop_times.txt", stop_times(lines))
     write(folder, "calendar.txt", [CALENDAR])
     write(folder, "delays.csv", [FEED_DELAYS])
 
@@ -159,39 +110,26 @@ def numbers() -> Callable[[int], int]:
     return below
 
 
-def moments() -> Callable[[int], str]:
-    """Gives the text of a moment by its seconds after the start."""
-    days: dict[int, str] = {}
-
-    def text(seconds: int) -> str:
-        day, rest = divmod(CUT_START.hour * 3600 + seconds, 86400)
-        if day not in days:
-            days[day] = (CUT_START.date() + datetime.timedelta(days=day)).isoformat()
-        return f"{days[day]}T{clock(rest)}"
-
-    return text
+def moment(seconds: int) -> str:
+    """The text of a moment, so many seconds after the start."""
+    day, rest = divmod(CUT_START.hour * 3600 + seconds, 86400)
+    return f"{(CUT_START.date() + datetime.timedelta(days=day)).isoformat()}T{clock(rest)}"
 
 
 def cut_rows(rows: int) -> Iterator[str]:
     """The lines of a cut file with this number of rows."""
-    below = numbers()
-    text = moments()
-    places = max(200, rows // 50)
+    below, places = numbers(), max(200, rows // 50)
     yield "run,step,from,to,dep,arr\n"
-    written = 0
-    run = 0
-    while written < rows:
+    for run in range(-(-rows // CUT_HOPS)):
         place = 0 if run == 0 else below(places)
         at = 0 if run == 0 else below(12 * 3600)
-        for step in range(min(CUT_HOPS, rows - written)):
+        for step in range(min(CUT_HOPS, rows - run * CUT_HOPS)):
             arrival = at + 60 + below(300)
-            yield f"r{run},{step},S{(place + step) % places},S{(place + step + 1) % places},{text(at)},{text(arrival)}\n"
+            yield f"r{run},{step},S{(place + step) % places},S{(place + step + 1) % places},{moment(at)},{moment(arrival)}\n"
             at = arrival + below(60)
-            written += 1
-        run += 1
 
 
-def write_cut(folder: str, rows: int) -> None:
-    """Writes a cut file with this number of rows, and a delay file beside it."""
-    write(folder, "cut.csv", cut_rows(rows))
-    write(folder, "delays.csv", [CUT_DELAYS])
+def write_cut(folder: str, rows: Iterable[str], delays: str = DELAYS) -> None:
+    """Writes a cut file of these lines, and a delay file beside it."""
+    write(folder, "cut.csv", rows)
+    write(folder, "delays.csv", [delays])
