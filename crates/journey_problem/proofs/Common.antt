@@ -28,7 +28,6 @@ pub use Rattle.file_ports.specs.Ports.{FileMap, FilesState, file_at}
 pub use Rattle.gtfs_tables.specs.Feeds.{FeedParts, IsFeed, IsFeedOf, Tables, tables_from}
 unfoldable pub use Rattle.gtfs_tables.specs.Feeds.{tables_in}
 pub use Rattle.journey_model.specs.Faults.{IsFirst, MayBeUnread, is_unread_input, unread_input}
-pub use Rattle.journey_model.specs.Stages.{IsOfInput, IsStageBeforeSearch, stage_of_input}
 pub use Rattle.journey_model.specs.declared.faults.Fault.{Fault}
 pub use Rattle.journey_model.specs.declared.faults.Fault.TheVariants.{Delays, Limit, Missing, NoMemory, Read, UnknownStop}
 pub use Rattle.journey_model.specs.declared.faults.Input.{Input}
@@ -46,7 +45,7 @@ pub use Rattle.service_days.specs.Services.{ServiceParts, runs}
 pub use Rattle.journey_problem.specs.CutProblems.{HasCutTimetable, IsCutProblem, IsNamed, cut_problem_fault, is_among, stop_fault}
 pub use Rattle.journey_problem.specs.FeedProblems.{GtfsFolder, HasFeedTimetable, IsFaultAfterFolder, IsFeedProblem, IsFeedProblemFault, IsFolder, IsFolderFault, IsLaterTableFault, IsSoundFolder}
 pub use Rattle.journey_problem.specs.FeedProblems.{IsWindowFault, feed_as, feed_stop_fault, window_fault_of}
-pub use Rattle.journey_problem.specs.Files.{Finds, HasCauses, Records, bytes_of, bytes_present, path_by}
+pub use Rattle.journey_problem.specs.Files.{Finds, HasCauses, Records, bytes_of, bytes_present, path_by, IsOfInput}
 pub use Rattle.journey_problem.specs.Folders.{gtfs_folder_of}
 pub use Rattle.journey_problem.specs.InputTables.{AreDelaysOf, HasCut, IsCutOf, IsCutOfSome, cut_as, cut_fault, cut_records, delay_fault, delay_records, fault_in}
 pub use Rattle.journey_problem.specs.Problems.{HasTimetable, IsProblem, IsProblemFault, IsProblemFaultOver, IsProblemOver}

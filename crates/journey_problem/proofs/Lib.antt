@@ -1,7 +1,6 @@
 mod Common
 pub mod Causes
 pub mod Loads
-pub mod FactsBeforeSearch
 pub mod TableSteps
 pub mod GraphFiles
 pub mod CertificateFiles

@@ -11,9 +11,8 @@ use Rattle.journey_model.specs.declared.faults.Input.TheVariants as input
 use Rattle.journey_model.specs.declared.faults.Fault.{Fault}
 use Rattle.journey_model.specs.declared.faults.Fault.TheVariants.{ProofFile}
 use Rattle.journey_model.specs.Faults.{unread_input}
-use Rattle.journey_model.specs.Stages.{IsOfInput}
 use Rattle.journey_model.specs.declared.problem.Problem.{Problem}
-use Rattle.journey_problem.specs.Files.{bytes_of}
+use Rattle.journey_problem.specs.Files.{bytes_of, IsOfInput}
 
 -- a text has this query and this certificate, of the problem's source and target and from a start on
 abbrev pub IsCertificateText : Problem → ℕ → List ℕ → Query → LowerBounds → Type 0

@@ -1,4 +1,7 @@
 -- The faults of a journey's timetable, of its delays, of its stops and of its window.
+use Rattle.std.specs.Prelude.{◌≡◌, ◌≢◌}
+use Rattle.csv_rows.specs.declared.limits.Limits.{Limits}
+use Rattle.delay_table.specs.declared.faults.DelayFault.TheVariants as delay
 use Rattle.journey_model.specs.declared.faults.Input.{Input}
 use Rattle.journey_model.specs.declared.faults.Input.TheVariants as input
 use Rattle.journey_model.specs.declared.faults.LimitKind.{LimitKind}
@@ -6,8 +9,9 @@ use Rattle.journey_model.specs.declared.faults.LimitKind.TheVariants.{Bytes, Row
 use Rattle.journey_model.specs.declared.faults.Fault.{Fault}
 use Rattle.journey_model.specs.declared.faults.Fault.TheVariants.{Words, Feed, Cut, Missing, Delays, UnknownStop, Limit, Read, NoSafe, GraphFile, Replay, ProofFile, ProofFails, Unsafe, Write}
 use Rattle.journey_model.specs.declared.faults.Fault.TheVariants.{NoMemory}
-use Rattle.journey_model.specs.Stages.{stage_of, IsStageBeforeSearch, IsOfText}
 use Rattle.command_line.specs.Jobs.{SourceModel, CutFile, FeedFolder}
+use Rattle.journey_problem.specs.InputTables.{cut_as}
+use Rattle.journey_problem.specs.FeedProblems.{feed_as}
 
 -- the timetable is a cut file
 abbrev pub IsOfCutFile : SourceModel → Type 0
@@ -35,28 +39,23 @@ IsLimitOf timetable CutRows = IsOfCutFile timetable
 IsLimitOf timetable Connections = IsOfFeed timetable
 IsLimitOf timetable Entries = IsOfFeed timetable
 
--- if it is of an input, a timetable or a limit, this is one of a journey over this timetable
-abbrev pub IsOfTimetable : SourceModel → Fault → Type 0
-IsOfTimetable timetable (Words fault) = Unit {0}
-IsOfTimetable timetable (Feed fault) = IsOfFeed timetable
-IsOfTimetable timetable (Cut fault) = IsOfCutFile timetable
-IsOfTimetable timetable (Missing input) = IsInputOf timetable input
-IsOfTimetable timetable (Delays fault) = Unit {0}
-IsOfTimetable timetable (UnknownStop which) = Unit {0}
-IsOfTimetable timetable (Limit kind count) = IsLimitOf timetable kind
-IsOfTimetable timetable (Read input) = IsInputOf timetable input
-IsOfTimetable timetable NoSafe = Unit {0}
-IsOfTimetable timetable (GraphFile fault) = Unit {0}
-IsOfTimetable timetable (Replay fault) = Unit {0}
-IsOfTimetable timetable (ProofFile fault) = Unit {0}
-IsOfTimetable timetable (ProofFails connection) = Unit {0}
-IsOfTimetable timetable (Unsafe place moment) = Unit {0}
-IsOfTimetable timetable Write = Unit {0}
-IsOfTimetable timetable NoMemory = Unit {0}
-
--- it is a fault of the timetable, of its delays, of the stops of a journey or of the window; or there was no memory. A fault
--- that is known of a file is about what it contains
-pub record IsBeforeSearch (timetable : SourceModel) (fault : Fault) : Type 0 where
-  pub stage : IsStageBeforeSearch (stage_of fault)
-  pub of_timetable : IsOfTimetable timetable fault
-  pub of_text : IsOfText fault
+-- it comes before the files of a command and after the words: it is a fault of the timetable, of its delays, of the stops of a
+-- journey or of the window; or there was no memory. A fault of a feed, of a cut file or of the delays is about what they contain:
+-- that they cannot be read, are too long or have too many rows, and want of memory, are faults of the run by themselves
+abbrev pub IsBeforeSearch : SourceModel → Fault → Type 0
+IsBeforeSearch timetable (Words fault) = ⊥
+IsBeforeSearch timetable (Feed fault) = IsOfFeed timetable × ((limits : Limits) → feed_as limits fault ≡ Feed fault)
+IsBeforeSearch timetable (Cut fault) = IsOfCutFile timetable × (cut_as fault ≡ Cut fault)
+IsBeforeSearch timetable (Missing input) = IsInputOf timetable input
+IsBeforeSearch timetable (Delays fault) = fault ≢ delay.NoMemory
+IsBeforeSearch timetable (UnknownStop which) = Unit {0}
+IsBeforeSearch timetable (Limit kind count) = IsLimitOf timetable kind
+IsBeforeSearch timetable (Read input) = IsInputOf timetable input
+IsBeforeSearch timetable NoSafe = ⊥
+IsBeforeSearch timetable (GraphFile fault) = ⊥
+IsBeforeSearch timetable (Replay fault) = ⊥
+IsBeforeSearch timetable (ProofFile fault) = ⊥
+IsBeforeSearch timetable (ProofFails connection) = ⊥
+IsBeforeSearch timetable (Unsafe place moment) = ⊥
+IsBeforeSearch timetable Write = ⊥
+IsBeforeSearch timetable NoMemory = Unit {0}

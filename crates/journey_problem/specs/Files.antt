@@ -7,11 +7,14 @@ use Rattle.csv_rows.specs.FeedTables.{path_of as table_path}
 use Rattle.csv_rows.specs.Tables.{table_of}
 use Rattle.csv_rows.specs.declared.feed_tables.Table.{Table}
 use Rattle.command_line.specs.Jobs.{SourceModel, CutFile, FeedFolder, JourneyModel}
+use Rattle.graph_text.specs.declared.reader.TextFault.TheVariants as text
+use Rattle.lower_proof.specs.declared.reader.ProofFault.TheVariants as certificate
 use Rattle.journey_model.specs.declared.faults.Input.{Input}
 use Rattle.journey_model.specs.declared.faults.Input.TheVariants as input
 use Rattle.journey_model.specs.declared.faults.LimitKind.TheVariants.{Bytes}
 use Rattle.journey_model.specs.declared.faults.Fault.{Fault}
-use Rattle.journey_model.specs.declared.faults.Fault.TheVariants.{Missing, Limit, Read, NoMemory}
+use Rattle.journey_model.specs.declared.faults.Fault.TheVariants.{Words, Feed, Cut, Missing, Delays, UnknownStop, Limit, Read, NoSafe, GraphFile, Replay, ProofFile, ProofFails, Unsafe, Write}
+use Rattle.journey_model.specs.declared.faults.Fault.TheVariants.{NoMemory}
 use Rattle.journey_model.specs.Faults.{unread_input, is_unread_input}
 
 -- the records of a table, of which the first is the header
@@ -83,3 +86,22 @@ Finds shown wanted (Err fault) = fault ≢ NoMemory → wanted (unread_input fau
 -- own path rose too; and always if it grew
 abbrev pub HasCauses : {T : Type 0} (path : Input → Option (List ℕ)) (before now : FilesState) → Result T Fault → Type 0
 HasCauses path before now result = HasCausesOf (λ input. IsErrAnd result (λ fault. fault ≡ Read input)) path before now
+
+-- it is of this graph file or certificate file: that it cannot be read, is missing or too long, or of what it contains
+abbrev pub IsOfInput : Input → Fault → Type 0
+IsOfInput file (Words fault) = ⊥
+IsOfInput file (Feed fault) = ⊥
+IsOfInput file (Cut fault) = ⊥
+IsOfInput file (Missing other) = other ≡ file
+IsOfInput file (Delays fault) = ⊥
+IsOfInput file (UnknownStop which) = ⊥
+IsOfInput file (Limit kind count) = kind ≡ Bytes file
+IsOfInput file (Read other) = other ≡ file
+IsOfInput file NoSafe = ⊥
+IsOfInput file (GraphFile fault) = (file ≡ input.Graph) × (fault ≢ text.NoMemory)
+IsOfInput file (Replay fault) = ⊥
+IsOfInput file (ProofFile fault) = (file ≡ input.Proof) × (fault ≢ certificate.NoMemory)
+IsOfInput file (ProofFails connection) = ⊥
+IsOfInput file (Unsafe place moment) = ⊥
+IsOfInput file Write = ⊥
+IsOfInput file NoMemory = ⊥

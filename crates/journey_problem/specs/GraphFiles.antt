@@ -15,9 +15,8 @@ use Rattle.journey_model.specs.declared.faults.Input.TheVariants as input
 use Rattle.journey_model.specs.declared.faults.Fault.{Fault}
 use Rattle.journey_model.specs.declared.faults.Fault.TheVariants.{GraphFile, NoMemory}
 use Rattle.journey_model.specs.Faults.{unread_input}
-use Rattle.journey_model.specs.Stages.{IsOfInput}
 use Rattle.journey_model.specs.declared.problem.Problem.{Problem}
-use Rattle.journey_problem.specs.Files.{bytes_of}
+use Rattle.journey_problem.specs.Files.{bytes_of, IsOfInput}
 
 -- a fault of a graph's text as one of the run
 abbrev pub text_as : TextFault → Fault

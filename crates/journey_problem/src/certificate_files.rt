@@ -1,8 +1,7 @@
 //! The certificate that a command reads.
 ghost use Rattle.std.specs.Prelude.{◌≡◌, ◌≢◌, Some, None, IfOk, IfErr};
 ghost use Rattle.journey_model.specs.Faults.{MayBeUnread, unread_input};
-ghost use Rattle.journey_model.specs.Stages.{IsOfInput};
-ghost use Rattle.journey_problem.specs.Files.{HasCauses};
+ghost use Rattle.journey_problem.specs.Files.{HasCauses, IsOfInput};
 ghost use Rattle.journey_problem.specs.CertificateFiles.{IsCertificateText, FailsText, IsCertificateFile, FailsCertificate};
 
 use crate::inputs::load_bytes;

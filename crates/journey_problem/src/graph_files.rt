@@ -6,8 +6,7 @@ ghost use Rattle.graph_text.specs.Reading.{graph_of};
 ghost use Rattle.file_ports.specs.Ports.{file_at};
 ghost use Rattle.journey_model.specs.Faults.{MayBeUnread, unread_input};
 ghost use Rattle.journey_model.specs.Sites.{last_printable};
-ghost use Rattle.journey_model.specs.Stages.{IsOfInput};
-ghost use Rattle.journey_problem.specs.Files.{Finds, HasCauses};
+ghost use Rattle.journey_problem.specs.Files.{Finds, HasCauses, IsOfInput};
 ghost use Rattle.journey_problem.specs.GraphFiles.{graph_as, graph_in};
 
 use crate::inputs::load_bytes;

@@ -4,10 +4,9 @@ ghost use Rattle.csv_rows.specs.Tables.{table_of};
 ghost use Rattle.delay_table.specs.Slots.{AreDelays};
 ghost use Rattle.file_ports.specs.Ports.{file_at};
 ghost use Rattle.journey_model.specs.Faults.{MayBeUnread, unread_input};
-ghost use Rattle.journey_problem.specs.Files.{bytes_of, records_of, Finds, HasCauses};
+ghost use Rattle.journey_problem.specs.Files.{bytes_of, records_of, Finds, HasCauses, IsOfInput};
 ghost use Rattle.command_line.specs.Jobs.{SourceModel, CutFile};
 ghost use Rattle.journey_problem.specs.FaultsBeforeSearch.{IsBeforeSearch, IsInputOf};
-ghost use Rattle.journey_model.specs.Stages.{IsOfInput};
 ghost use Rattle.journey_problem.specs.InputTables.{cut_as, CutAgrees, DelayAgrees, IsCutOfSome};
 
 use csv_rows::{Column, Limits, Rows, RowsFault};

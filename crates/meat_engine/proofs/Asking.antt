@@ -1,16 +1,19 @@
 -- Answers and faults, one from another.
-use Rattle.meat_engine.proofs.Common.{arith, ◌≡◌, ℕ, List, Option, None, Result, inl, inr, refl, subst, ◌≢◌, RoseAt, FilesState, SourceModel, JourneyModel, AskModel, Safe, Expand, Plan, Replay}
-use Rattle.meat_engine.proofs.Common.{Certify, CheckProof, CheckGraph, Punctual, Departures, Latest, Reach, Input, Fault, Read, NoSafe, NoMemory, unread_input, NamedParts, HasSite, IsStageBeforeSearch}
+use Rattle.meat_engine.proofs.Common.{arith, ◌≡◌, ℕ, List, Option, None, Result, inl, inr, ap, refl, subst, sym, ◌≢◌, RoseAt, FilesState, SourceModel, JourneyModel, AskModel, Safe, Expand, Plan, Replay}
+use Rattle.meat_engine.proofs.Common.{Certify, CheckProof, CheckGraph, Punctual, Departures, Latest, Reach, Input, Fault, Read, NoSafe, NoMemory, unread_input, NamedParts, HasSite}
 use Rattle.meat_engine.proofs.Common.{path_of, HasCauses, OrNoMemory, own_paths, IsRefusalBy}
 use Rattle.journey_model.specs.declared.faults.Input.TheVariants as input
-use Rattle.journey_model.proofs.Sited.{has_site}
+use Rattle.journey_model.specs.declared.faults.Fault.TheVariants as faults
 use Rattle.journey_problem.specs.FaultsBeforeSearch.{IsBeforeSearch}
 use Rattle.meat_engine.specs.declared.refusal.Refusal.{Refusal}
 use Rattle.journey_problem.specs.Paths.{graph_path, certificate_path}
 
 -- an early fault is at no site
 pub early_has_site : (known : Option NamedParts) (timetable : SourceModel) (fault : Fault) → IsBeforeSearch timetable fault → HasSite known fault
-early_has_site known timetable fault early = has_site known fault (λ at. subst IsStageBeforeSearch at early.stage)
+early_has_site known timetable (faults.Replay stop) early = absurd early
+early_has_site known timetable (faults.ProofFails connection) early = absurd early
+early_has_site known timetable (faults.Unsafe place moment) early = absurd early
+early_has_site known timetable _ early = tt
 
 -- nor is that there are no strategies: what holds where it fails only as no strategy is safe, or there was no memory
 pub record IsUnsafeReported (Fails : Fault → Type 0) (known : Option NamedParts) (fault : Fault) : Type 0 where
@@ -20,13 +23,15 @@ pub record IsUnsafeReported (Fails : Fault → Type 0) (known : Option NamedPart
 
 pub unsafe_reported : (Fails : Fault → Type 0) → ((fault : Fault) → Fails fault → fault ≡ NoSafe) → (known : Option NamedParts) (fault : Fault)
     → OrNoMemory Fails fault → IsUnsafeReported Fails known fault
-unsafe_reported Fails unsafe known fault (inl why) = grind (arith, has_site)
-unsafe_reported Fails unsafe known fault (inr memory) = grind (arith, has_site)
+unsafe_reported Fails unsafe known fault (inl why) =
+    record { why = λ _. why; has_site = subst (HasSite known) (sym (unsafe fault why)) tt; unread = ap unread_input (unsafe fault why) }
+unsafe_reported Fails unsafe known fault (inr memory) =
+    record { why = λ other. absurd (other memory); has_site = subst (HasSite known) (sym memory) tt; unread = ap unread_input memory }
 
 -- a refusal before there is a problem
 pub plain_refusal : (cause : Option NamedParts → Fault → Type 0) (r : Refusal) (fault : Fault) → r.fault ≡ fault → r.problem ≡ None → HasSite None fault
     → (fault ≢ NoMemory → cause None fault) → IsRefusalBy cause r
-plain_refusal cause r fault is none reports holds = grind (arith, has_site)
+plain_refusal cause r fault is none reports holds = grind arith
 
 -- where no file fails to be read
 pub never_unread : (fault : Fault) → ((input : Input) → fault ≡ Read input → ⊥) → unread_input fault ≡ None

@@ -13,7 +13,6 @@ pub use Rattle.journey_model.specs.FaultLines.{IsFormatted, line_of}
 pub use Rattle.journey_model.specs.Faults.{IsUndisturbed, status_of, unread_input}
 pub use Rattle.journey_model.specs.Known.{parts_of}
 pub use Rattle.journey_model.specs.Sites.{HasSite, NamedParts}
-pub use Rattle.journey_model.specs.Stages.{IsStageBeforeSearch, stage_of_input, stage_of_limit}
 pub use Rattle.journey_model.specs.Wants.{OrNoMemory}
 pub use Rattle.journey_model.specs.declared.faults.Fault.{Fault}
 pub use Rattle.journey_model.specs.declared.faults.Fault.TheVariants.{Limit, Missing, NoMemory, NoSafe, Read, Words, Write}
@@ -28,6 +27,6 @@ pub use Rattle.journey_report.specs.declared.report.Report.{Report}
 pub use Rattle.meat_engine.specs.Asks.{AnswersAsk, EndsAsk, FailsAsk, FailsCheck, FailsJourney, FailsReplay, FailsScore, own_paths}
 pub use Rattle.journey_problem.specs.Paths.{no_path}
 pub use Rattle.meat_engine.specs.Ends.{EndsByCertificateFile, EndsByGraphFile, EndsBySafety, EndsByScore}
-pub use Rattle.meat_engine.specs.Received.{AnswersJob, Ending, FailsJob, IsExplained, IsLineWritten, IsRefused, IsRefusedWith, IsWritten, Outcome, OutcomeBy, Refused, ending_at, ending_of, path_in}
+pub use Rattle.meat_engine.specs.Received.{AnswersJob, Ending, FailsJob, IsExplained, IsLineWritten, IsRefused, IsRefusedWith, IsWritten, Outcome, OutcomeBy, Refused, ending_of, path_in}
 pub use Rattle.meat_engine.specs.Refusals.{IsRefusalBy, known_of}
 pub use Rattle.meat_engine.specs.Samples.{AnswersSampled, FailsSample, sample_alpha, sample_journey}

@@ -1,30 +1,12 @@
 -- What a run comes to.
 use Rattle.meat_engine.proofs.Common.{arith, ◌≡◌, ℕ, List, Option, Some, None, Ok, inl, inr, refl, sym, subst, ⊎_elim, ◌∙◌, ◌≢◌, ◌⊎◌, Keeps, FileMap, Limits, AskModel, Safe, Expand, Plan, Replays}
 use Rattle.meat_engine.proofs.Common.{Certify, CheckProof, CheckGraph, Punctual, Departures, Latest, Reach, JobModel, Ask, Sample, job_of, Input, Fault, Missing, Limit, Read, Write, NoMemory, line_of}
-use Rattle.meat_engine.proofs.Common.{IsFormatted, NamedParts, stage_of_input, stage_of_limit, Problem, Report, FailsAsk, Findings, findings_of, no_findings, Refused, ending_at, ending_of}
+use Rattle.meat_engine.proofs.Common.{IsFormatted, NamedParts, Problem, Report, FailsAsk, Findings, findings_of, no_findings, Refused, ending_of}
 use Rattle.meat_engine.proofs.Common.{AnswersJob, FailsJob, IsExplained, IsRefused, IsRefusedWith, IsWritten, IsLineWritten, Outcome}
 use Rattle.std.proofs.lemmas.Option.{same_Some}
-use Rattle.journey_model.specs.declared.faults.Input.TheVariants as input
-use Rattle.journey_model.specs.declared.faults.LimitKind.{LimitKind}
-use Rattle.journey_model.specs.declared.faults.LimitKind.TheVariants.{Bytes}
 
--- a fault of an input ends a run with nothing but the fault
-of_input : (file : Input) → ending_at (stage_of_input file) ≡ Refused
-of_input (input.Feed table) = refl
-of_input input.Cut = refl
-of_input input.Delays = refl
-of_input input.Graph = refl
-of_input input.Proof = refl
-
-of_limit : (kind : LimitKind) → ending_at (stage_of_limit kind) ≡ Refused
-of_limit (Bytes file) = of_input file
-of_limit _ = refl
-
--- and so does each fault but that the answer cannot be written
+-- each fault ends a run with nothing but the fault, but that the answer cannot be written
 pub refused_ending : (fault : Fault) → fault ≢ Write → ending_of (Some fault) ≡ Refused
-refused_ending (Missing file) other = of_input file
-refused_ending (Read file) other = of_input file
-refused_ending (Limit kind count) other = of_limit kind
 refused_ending Write other = absurd (other refl)
 refused_ending _ other = refl
 
@@ -38,12 +20,12 @@ module _ (contents : Option FileMap) (limits : Limits) (words : List (List ℕ))
   ask_write start p (Safe alpha) (is, none) = cc
   ask_write start p (Expand alpha) (is, none) = cc
   ask_write start p (Plan alpha) (is, none) = cc
-  ask_write start p (Replays graph late) (inl of) = cc of.0.0
+  ask_write start p (Replays graph late) (inl of) = absurd of.0
   ask_write start p (Replays graph late) (inr (head, more, file, trip)) = cc trip.fault_is
   ask_write start p (Certify alpha) (is, none) = cc
-  ask_write start p (CheckProof certificate) (inl of) = cc of.0.0
+  ask_write start p (CheckProof certificate) (inl of) = absurd of.0
   ask_write start p (CheckProof certificate) (inr (q, bounds, file, (connection, is, last))) = cc
-  ask_write start p (CheckGraph graph) (inl of) = cc of.0.0
+  ask_write start p (CheckGraph graph) (inl of) = absurd of.0
   ask_write start p (CheckGraph graph) (inr (head, more, file, (place, moment, is, unsafe))) = cc
   ask_write start p (Punctual alpha promise) (is, none) = cc
   ask_write start p (Departures until last) (is, none) = cc
@@ -52,9 +34,9 @@ module _ (contents : Option FileMap) (limits : Limits) (words : List (List ℕ))
 
   pub write_fails : (wanted : JobModel) (known : Option NamedParts) → FailsJob contents limits wanted known Write → ⊥
   write_fails (Ask j ask) known (inl (p, sound, problem, (is, why))) = ask_write j.start p ask why
-  write_fails (Ask j ask) known (inr early) = early.0.stage
+  write_fails (Ask j ask) known (inr early) = early.0
   write_fails (Sample size) known (read, (files, same, inl (p, sound, problem, (is, why)))) = cc why.0
-  write_fails (Sample size) known (read, (files, same, inr early)) = early.0.stage
+  write_fails (Sample size) known (read, (files, same, inr early)) = early.0
 
   -- why a job fails is why there is no answer to its words
   pub job_cause : (wanted : JobModel) (known : Option NamedParts) → job_of words ≡ Ok wanted → (fault : Fault) → (fault ≢ NoMemory → FailsJob contents limits wanted known fault)

@@ -9,10 +9,10 @@ use Rattle.command_line.specs.declared.job.WordsFault.{WordsFault}
 use Rattle.command_line.specs.Jobs.{JobModel, Ask, Sample, job_of}
 use Rattle.journey_model.specs.declared.faults.Input.{Input}
 use Rattle.journey_model.specs.declared.faults.Fault.{Fault}
-use Rattle.journey_model.specs.declared.faults.Fault.TheVariants.{Words, NoMemory}
+use Rattle.journey_model.specs.declared.faults.Fault.TheVariants.{Words, Feed, Cut, Missing, Delays, UnknownStop, Limit, Read, NoSafe, GraphFile, Replay, ProofFile, ProofFails, Unsafe, Write}
+use Rattle.journey_model.specs.declared.faults.Fault.TheVariants.{NoMemory}
 use Rattle.journey_model.specs.FaultLines.{line_of, IsFormatted}
 use Rattle.journey_model.specs.Sites.{NamedParts}
-use Rattle.journey_model.specs.Stages.{Stage, stage_of, AtWords, AtTimetable, AtDelays, AtStops, AtWindow, AtGraphFile, AtCertificateFile, AtOutcome, AtOutput, AtMemory}
 use Rattle.journey_problem.specs.Files.{path_of}
 use Rattle.journey_problem.specs.Paths.{no_path}
 use Rattle.journey_problem.specs.Problems.{InProblem}
@@ -63,22 +63,24 @@ pub data Ending : Type 0 where
   Torn : Ending
   Refused : Ending
 
--- where a fault comes from this stage
-abbrev pub ending_at : Stage → Ending
-ending_at AtWords = Refused
-ending_at AtTimetable = Refused
-ending_at AtDelays = Refused
-ending_at AtStops = Refused
-ending_at AtWindow = Refused
-ending_at AtGraphFile = Refused
-ending_at AtCertificateFile = Refused
-ending_at AtOutcome = Refused
-ending_at AtOutput = Torn
-ending_at AtMemory = Refused
-
 abbrev pub ending_of : Option Fault → Ending
 ending_of None = Whole
-ending_of (Some fault) = ending_at (stage_of fault)
+ending_of (Some (Words fault)) = Refused
+ending_of (Some (Feed fault)) = Refused
+ending_of (Some (Cut fault)) = Refused
+ending_of (Some (Missing input)) = Refused
+ending_of (Some (Delays fault)) = Refused
+ending_of (Some (UnknownStop which)) = Refused
+ending_of (Some (Limit kind count)) = Refused
+ending_of (Some (Read input)) = Refused
+ending_of (Some NoSafe) = Refused
+ending_of (Some (GraphFile fault)) = Refused
+ending_of (Some (Replay fault)) = Refused
+ending_of (Some (ProofFile fault)) = Refused
+ending_of (Some (ProofFails connection)) = Refused
+ending_of (Some (Unsafe place moment)) = Refused
+ending_of (Some Write) = Torn
+ending_of (Some NoMemory) = Refused
 
 -- an answer to the words, of whose text this holds
 abbrev pub HasAnswer : Option FileMap → Limits → List (List ℕ) → Report → (List ℕ → Type 0) → Type 0

@@ -279,7 +279,7 @@ module _ (limits : Limits) (r s : RunModel) (first : IsRunWithin limits r) (seco
       by_cause known why
     where
       by_cause : (known : Option NamedParts) → FailsJourney (Some files) limits j (Safe alpha) known fault.NoSafe → OrStatus9 s (s.report.status.0 ≡ 1)
-      by_cause known (inr early) = absurd (early.0.stage)
+      by_cause known (inr early) = absurd early.0
       by_cause known (inl (p, has, is, (named, fails))) =
           or_nine s (never_latest p j.start until s.report.status.0 fails.1) (second_ends files others j (Safe alpha) (Latest until) both p is)
 
@@ -448,7 +448,7 @@ module _ (limits : Limits) (r s : RunModel) (first : IsRunWithin limits r) (seco
     of_journey : (known : Option NamedParts) → IsProblem limits files j p → FailsJourney (Some files) limits j (CheckGraph path) known (fault.GraphFile f)
         → file_at files path ≡ Some text → length text ≤ limits.bytes → IsFirst
     of_journey known is (inl (q, has, also, (named, fails))) there small = grind (arith, of_score)
-    of_journey known is (inr early) there small = absurd (early.0.stage)
+    of_journey known is (inr early) there small = absurd early.0
 
   pub first_fault : FaultsAreReported → FaultIsFirst limits r
   first_fault reported files j path text p f calm asks is there small fails = grind (arith, job_fails, of_journey)

@@ -6,7 +6,8 @@ use Rattle.run_laws.proofs.Common.{OutcomeBy, WritesLine, sample_journey, sample
 use Rattle.std.proofs.Common.{append-nil}
 use Rattle.command_line.specs.declared.job.WordsFault.{WordsFault}
 use Rattle.journey_model.specs.Known.{parts_of}
-use Rattle.journey_model.specs.Stages.{stage_of, IsStageBeforeSearch}
+use Rattle.command_line.specs.Jobs.{SourceModel}
+use Rattle.journey_problem.specs.FaultsBeforeSearch.{IsBeforeSearch}
 use Rattle.journey_model.specs.FaultLines.{line_of}
 use Rattle.journey_problem.proofs.OneProblem.{one_problem}
 use Rattle.run_laws.specs.OneRun.{EndAlikeOver, FormsEndAlike}
@@ -20,11 +21,11 @@ use Rattle.run_laws.proofs.Framed.{CarriesWords, carried_bytes, carried_records,
 use Rattle.run_laws.proofs.Queries.{not_none}
 
 -- a fault that comes before the search is at no site, so its line is one whatever timetable is known
-line_before : (known other : Option NamedParts) (fault : Fault) → IsStageBeforeSearch (stage_of fault) → line_of known fault ≡ line_of other fault
-line_before known other (Replay stop) before = absurd before
-line_before known other (ProofFails connection) before = absurd before
-line_before known other (Unsafe place moment) before = absurd before
-line_before known other _ before = refl
+line_before : (known other : Option NamedParts) (timetable : SourceModel) (fault : Fault) → IsBeforeSearch timetable fault → line_of known fault ≡ line_of other fault
+line_before known other timetable (Replay stop) before = absurd before
+line_before known other timetable (ProofFails connection) before = absurd before
+line_before known other timetable (Unsafe place moment) before = absurd before
+line_before known other timetable _ before = refl
 
 -- the two faults are one, with one line
 pub record IsOneFault (known other : Option NamedParts) (a b : Fault) : Type 0 where
