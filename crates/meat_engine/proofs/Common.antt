@@ -2,6 +2,7 @@
 pub use Rattle.std.proofs.Common.{Err, IfErr, IfOk, IsSome, List, None, Ok, OnErr, OnOk, Option, Result, Some, ap, arith, inl, inr, length, map, refl, string_bytes, subst, sym, ℕ, ⊎_elim, ◌<◌, ◌∙◌}
 pub use Rattle.std.proofs.Common.{◌≡◌, ◌≢◌, ◌⊎◌}
 pub use Rattle.std.specs.Io.KnownBytes.{Appends, Keeps}
+pub use Rattle.file_ports.specs.Loading.{AppendsFront}
 pub use Rattle.command_line.specs.Jobs.{Ask, AskModel, Certify, CheckGraph, CheckProof, Departures, Expand, JobModel, JourneyModel, Latest, Plan, Punctual, Reach, Replay, Replay as Replays, Safe, Sample}
 pub use Rattle.command_line.specs.Jobs.{SourceModel, job_of}
 pub use Rattle.command_line.specs.Shown.{ask_shown, journey_shown, wanted_job}
@@ -27,6 +28,6 @@ pub use Rattle.journey_report.specs.declared.report.Report.{Report}
 pub use Rattle.meat_engine.specs.Asks.{AnswersAsk, EndsAsk, FailsAsk, FailsCheck, FailsJourney, FailsReplay, FailsScore, own_paths}
 pub use Rattle.journey_problem.specs.Paths.{no_path}
 pub use Rattle.meat_engine.specs.Ends.{EndsByCertificateFile, EndsByGraphFile, EndsBySafety, EndsByScore}
-pub use Rattle.meat_engine.specs.Received.{AnswersJob, Ending, FailsJob, IsExplained, IsLineWritten, IsRefused, IsRefusedWith, IsWritten, Outcome, OutcomeBy, Refused, ending_of, path_in}
+pub use Rattle.meat_engine.specs.Received.{AnswersJob, FailsJob, HasAnswer, IsExplained, IsLineWritten, IsRefused, IsRefusedWith, IsWritten, Outcome, path_in}
 pub use Rattle.meat_engine.specs.Refusals.{IsRefusalBy, known_of}
 pub use Rattle.meat_engine.specs.Samples.{AnswersSampled, FailsSample, sample_alpha, sample_journey}

@@ -1,14 +1,9 @@
 -- What a run comes to.
 use Rattle.meat_engine.proofs.Common.{arith, ◌≡◌, ℕ, List, Option, Some, None, Ok, inl, inr, refl, sym, subst, ⊎_elim, ◌∙◌, ◌≢◌, ◌⊎◌, Keeps, FileMap, Limits, AskModel, Safe, Expand, Plan, Replays}
 use Rattle.meat_engine.proofs.Common.{Certify, CheckProof, CheckGraph, Punctual, Departures, Latest, Reach, JobModel, Ask, Sample, job_of, Input, Fault, Missing, Limit, Read, Write, NoMemory, line_of}
-use Rattle.meat_engine.proofs.Common.{IsFormatted, NamedParts, Problem, Report, FailsAsk, Findings, findings_of, no_findings, Refused, ending_of}
-use Rattle.meat_engine.proofs.Common.{AnswersJob, FailsJob, IsExplained, IsRefused, IsRefusedWith, IsWritten, IsLineWritten, Outcome}
+use Rattle.meat_engine.proofs.Common.{IsFormatted, NamedParts, Problem, Report, FailsAsk, Findings, findings_of, no_findings}
+use Rattle.meat_engine.proofs.Common.{AnswersJob, Appends, AppendsFront, HasAnswer, FailsJob, IsExplained, IsRefused, IsRefusedWith, IsWritten, IsLineWritten, Outcome}
 use Rattle.std.proofs.lemmas.Option.{same_Some}
-
--- each fault ends a run with nothing but the fault, but that the answer cannot be written
-pub refused_ending : (fault : Fault) → fault ≢ Write → ending_of (Some fault) ≡ Refused
-refused_ending Write other = absurd (other refl)
-refused_ending _ other = refl
 
 pub no_memory_or_not : (fault : Fault) → (fault ≡ NoMemory) ⊎ (fault ≢ NoMemory)
 no_memory_or_not NoMemory = inl refl
@@ -46,7 +41,11 @@ module _ (contents : Option FileMap) (limits : Limits) (words : List (List ℕ))
 
   module _ (report : Report) (old new : Option (List ℕ)) (IsLine : List ℕ → Type 0) where
     outcome_by : (fault : Fault) → fault ≢ Write → Keeps old new → IsRefused contents limits words report IsLine fault → Outcome contents limits words report old new IsLine (Some fault)
-    outcome_by fault other keeps refused = grind (arith, refused_ending)
+    outcome_by fault other keeps refused = record {
+      whole = λ none. absurd (cc);
+      torn = λ write. absurd (other (same_Some _ _ write));
+      refused = λ found is never. (keeps, subst (IsRefused contents limits words report IsLine) (same_Some _ _ is) refused);
+    }
 
   -- a refusal whose line was written
   pub refused_outcome : (report : Report) (old new before after : Option (List ℕ)) (was now : ℕ) (known : Option NamedParts) (wanted : Fault) (found : Option Fault)
@@ -68,10 +67,14 @@ module _ (contents : Option FileMap) (limits : Limits) (words : List (List ℕ))
       → job_of words ≡ Ok wanted → findings_of report ≡ answer
       → AnswersJob contents limits wanted answer text → IsWritten old new text found → ((known : Option NamedParts) → found ≡ Some Write → IsLine (line_of known Write))
       → Outcome contents limits words report old new IsLine found
-  answered_outcome wanted answer report text old new IsLine None is same answers written reports = grind arith
-  answered_outcome wanted answer report text old new IsLine (Some Write) is same answers written reports =
-      ((text, (wanted, is, subst (λ (f : Findings). AnswersJob contents limits wanted f text) (sym same) answers), written), λ known. reports known refl)
-  answered_outcome wanted answer report text old new IsLine (Some other) is same answers written reports = grind (arith, refused_ending)
+  answered_outcome wanted answer report text old new IsLine found is same answers written reports = record {
+    whole = λ none. has (λ (t : List ℕ). Appends old new t) (subst (IsWritten old new text) none written);
+    torn = λ write. (has (λ (t : List ℕ). AppendsFront old new t) (subst (IsWritten old new text) write written).1, λ known. reports known write);
+    refused = λ other some never. absurd (never (subst (IsWritten old new text) some written).0);
+  }
+    where
+      has : (P : List ℕ → Type 0) → P text → HasAnswer contents limits words report P
+      has P holds = (text, (wanted, is, subst (λ (f : Findings). AnswersJob contents limits wanted f text) (sym same) answers), holds)
 
 module _ (before after : Option (List ℕ)) (was now : ℕ) (known : Option NamedParts) where
   pub refused_some : (wanted : Fault) (found : Option Fault) → IsRefusedWith before after was now known wanted found → found ≡ None → ⊥

@@ -1,15 +1,11 @@
 -- What an outcome says, where no file failed to be read and the answer was written.
-use Rattle.meat_engine.proofs.Common.{◌≡◌, ℕ, subst, inl, inr, List, Option, Some, None, Ok, ◌≢◌, FileMap, Limits, JobModel, job_of, Report, Fault, Write, NoMemory, NamedParts, findings_of, Ending}
-use Rattle.meat_engine.proofs.Common.{AnswersJob, FailsJob, IsExplained, IsRefused, Outcome, OutcomeBy}
-use Rattle.meat_engine.proofs.Outcomes.{refused_ending}
+use Rattle.meat_engine.proofs.Common.{◌≡◌, ℕ, refl, subst, inl, inr, List, Option, Some, None, Ok, ◌≢◌, FileMap, Limits, JobModel, job_of, Report, Fault, Write, NoMemory, NamedParts, findings_of}
+use Rattle.meat_engine.proofs.Common.{AnswersJob, FailsJob, IsExplained, Outcome}
 
 pub one_job : (words : List (List ℕ)) (a b : JobModel) → job_of words ≡ Ok a → job_of words ≡ Ok b → a ≡ b
 one_job words a b h k = cc
 
 module _ (contents : Option FileMap) (limits : Limits) (words : List (List ℕ)) (report : Report) (old new : Option (List ℕ)) (Reports : List ℕ → Type 0) where
-  refused : (fault : Fault) → Outcome contents limits words report old new Reports (Some fault) → fault ≢ Write → IsRefused contents limits words report Reports fault
-  refused fault o n = (subst (λ (e : Ending). OutcomeBy e contents limits words report old new Reports (Some fault)) (refused_ending fault n) o).1
-
   caused : (fault : Fault) → fault ≢ NoMemory → (wanted : JobModel) → job_of words ≡ Ok wanted → (known : Option NamedParts)
       → IsExplained contents limits words known fault → FailsJob contents limits wanted known fault
   caused fault m wanted h known (inl e) = absurd (m e)
@@ -18,7 +14,9 @@ module _ (contents : Option FileMap) (limits : Limits) (words : List (List ℕ))
 
   pub fails : (fault : Fault) → Outcome contents limits words report old new Reports (Some fault) → fault ≢ Write → fault ≢ NoMemory
       → (wanted : JobModel) → job_of words ≡ Ok wanted → (known : Option NamedParts) × FailsJob contents limits wanted known fault
-  fails fault o n m wanted h = let r = (refused fault o n).1 in (r.0, caused fault m wanted h r.0 r.1)
+  fails fault o n m wanted h = let r = (o.refused fault refl n).1.1 in (r.0, caused fault m wanted h r.0 r.1)
 
   pub answered : Outcome contents limits words report old new Reports None → (wanted : JobModel) → job_of words ≡ Ok wanted → (text : List ℕ) × AnswersJob contents limits wanted (findings_of report) text
-  answered (text, (other, k, answers), written) wanted h = (text, subst (λ (w : JobModel). AnswersJob contents limits w (findings_of report) text) (one_job words other wanted k h) answers)
+  answered o wanted h =
+      let (text, (other, k, answers), written) = o.whole refl in
+      (text, subst (λ (w : JobModel). AnswersJob contents limits w (findings_of report) text) (one_job words other wanted k h) answers)

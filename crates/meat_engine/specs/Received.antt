@@ -1,5 +1,5 @@
 -- What a run comes to, by its fault, and what the two sinks received.
-use Rattle.std.specs.Prelude.{◌≡◌, ◌⊎◌, ℕ, List, Option, None, Some, IfSome, Ok, Err}
+use Rattle.std.specs.Prelude.{◌≡◌, ◌≢◌, ◌⊎◌, ℕ, List, Option, None, Some, Ok, Err}
 use Rattle.std.specs.Io.KnownBytes.{Appends, Keeps}
 use Rattle.file_ports.specs.Counts.{Rose}
 use Rattle.file_ports.specs.Loading.{AppendsFront}
@@ -9,8 +9,7 @@ use Rattle.command_line.specs.declared.job.WordsFault.{WordsFault}
 use Rattle.command_line.specs.Jobs.{JobModel, Ask, Sample, job_of}
 use Rattle.journey_model.specs.declared.faults.Input.{Input}
 use Rattle.journey_model.specs.declared.faults.Fault.{Fault}
-use Rattle.journey_model.specs.declared.faults.Fault.TheVariants.{Words, Feed, Cut, Missing, Delays, UnknownStop, Limit, Read, NoSafe, GraphFile, Replay, ProofFile, ProofFails, Unsafe, Write}
-use Rattle.journey_model.specs.declared.faults.Fault.TheVariants.{NoMemory}
+use Rattle.journey_model.specs.declared.faults.Fault.TheVariants.{Words, Write, NoMemory}
 use Rattle.journey_model.specs.FaultLines.{line_of, IsFormatted}
 use Rattle.journey_model.specs.Sites.{NamedParts}
 use Rattle.journey_problem.specs.Files.{path_of}
@@ -57,60 +56,27 @@ abbrev pub IsRefused : Option FileMap → Limits → List (List ℕ) → Report 
 IsRefused contents limits words report Reports fault =
     (findings_of report ≡ no_findings) × ((known : Option NamedParts) × IsExplained contents limits words known fault × Reports (line_of known fault))
 
--- how a run ends: with the whole of its answer; with a front of it; or with nothing but a fault
-pub data Ending : Type 0 where
-  Whole : Ending
-  Torn : Ending
-  Refused : Ending
-
-abbrev pub ending_of : Option Fault → Ending
-ending_of None = Whole
-ending_of (Some (Words fault)) = Refused
-ending_of (Some (Feed fault)) = Refused
-ending_of (Some (Cut fault)) = Refused
-ending_of (Some (Missing input)) = Refused
-ending_of (Some (Delays fault)) = Refused
-ending_of (Some (UnknownStop which)) = Refused
-ending_of (Some (Limit kind count)) = Refused
-ending_of (Some (Read input)) = Refused
-ending_of (Some NoSafe) = Refused
-ending_of (Some (GraphFile fault)) = Refused
-ending_of (Some (Replay fault)) = Refused
-ending_of (Some (ProofFile fault)) = Refused
-ending_of (Some (ProofFails connection)) = Refused
-ending_of (Some (Unsafe place moment)) = Refused
-ending_of (Some Write) = Torn
-ending_of (Some NoMemory) = Refused
-
 -- an answer to the words, of whose text this holds
 abbrev pub HasAnswer : Option FileMap → Limits → List (List ℕ) → Report → (List ℕ → Type 0) → Type 0
 HasAnswer contents limits words report P = (text : List ℕ) × AnswersWords contents limits words (findings_of report) text × P text
 
--- what a run comes to, by its fault: the answer with its text, written whole, or only a front of it if writing failed; or
--- the fault's cause and its line, and then nothing is written
-abbrev pub OutcomeBy : Ending → Option FileMap → Limits → List (List ℕ) → Report → Option (List ℕ) → Option (List ℕ) → (List ℕ → Type 0)
-    → Option Fault → Type 0
-OutcomeBy Whole contents limits words report old new Reports fault = HasAnswer contents limits words report (Appends old new)
-OutcomeBy Torn contents limits words report old new Reports fault =
-    HasAnswer contents limits words report (AppendsFront old new) × ((known : Option NamedParts) → IfSome fault (λ f. Reports (line_of known f)))
-OutcomeBy Refused contents limits words report old new Reports fault = Keeps old new × IfSome fault (IsRefused contents limits words report Reports)
-
-abbrev pub Outcome : Option FileMap → Limits → List (List ℕ) → Report → Option (List ℕ) → Option (List ℕ) → (List ℕ → Type 0)
-    → Option Fault → Type 0
-Outcome contents limits words report old new Reports fault = OutcomeBy (ending_of fault) contents limits words report old new Reports fault
+-- how a run ends, by its fault
+pub record Outcome (contents : Option FileMap) (limits : Limits) (words : List (List ℕ)) (report : Report) (old new : Option (List ℕ)) (Reports : List ℕ → Type 0) (fault : Option Fault) : Type 0 where
+  -- with the whole of its answer, if there is no fault
+  pub whole : fault ≡ None → HasAnswer contents limits words report (Appends old new)
+  -- with a front of it and the line of the fault, if it could not be written
+  pub torn : fault ≡ Some Write → HasAnswer contents limits words report (AppendsFront old new) × ((known : Option NamedParts) → Reports (line_of known Write))
+  -- and otherwise with nothing but the line of the fault, which has a cause
+  pub refused : (other : Fault) → fault ≡ Some other → other ≢ Write → Keeps old new × IsRefused contents limits words report Reports other
 
 -- a front of a line was received, the whole of it if the sink's count did not rise
 abbrev pub IsLineWritten : Option (List ℕ) → Option (List ℕ) → ℕ → ℕ → List ℕ → Type 0
 IsLineWritten old new before now line = AppendsFront old new line × (¬ Rose before now → Appends old new line)
 
 -- a text was written whole, or a front of it if writing failed
-abbrev pub IsWrittenBy : Ending → Option (List ℕ) → Option (List ℕ) → List ℕ → Type 0
-IsWrittenBy Whole old new text = Appends old new text
-IsWrittenBy Torn old new text = AppendsFront old new text
-IsWrittenBy Refused old new text = ⊥
-
 abbrev pub IsWritten : Option (List ℕ) → Option (List ℕ) → List ℕ → Option Fault → Type 0
-IsWritten old new text fault = IsWrittenBy (ending_of fault) old new text
+IsWritten old new text None = Appends old new text
+IsWritten old new text (Some fault) = (fault ≡ Write) × AppendsFront old new text
 
 -- the line of the fault was written, or that there is no memory for it
 abbrev pub IsRefusedWith : Option (List ℕ) → Option (List ℕ) → ℕ → ℕ → Option NamedParts → Fault → Option Fault → Type 0

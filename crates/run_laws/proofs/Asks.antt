@@ -1,5 +1,5 @@
 -- The answers of two runs are one.
-use Rattle.run_laws.proofs.Common.{arith, ◌≡◌, ℕ, List, None, Some, sym, subst, ◌∙◌, Appends, FileMap, Limits, Moment, Query, JobModel, Ask, Sample, AskModel, Safe, Expand, Plan}
+use Rattle.run_laws.proofs.Common.{arith, ◌≡◌, ℕ, List, Option, None, Some, sym, subst, ◌∙◌, Appends, FileMap, Limits, Moment, Query, JobModel, Ask, Sample, AskModel, Safe, Expand, Plan}
 use Rattle.run_laws.proofs.Common.{Certify, CheckProof, CheckGraph, Punctual, Departures, Latest, Reach, Problem, HasOneProblem, agree_all, own_problem, Findings, findings_of, query_until, AnswersAsk}
 use Rattle.run_laws.proofs.Common.{AnswersJob, AnswersWords, HasAnswer, sample_journey, sample_alpha, AnswersSampled, IsSampled, WritesLine, IsOneAnswer, RunModel, IsRunWithin, HasOneRun}
 use Rattle.command_line.specs.Jobs.{Replay}
@@ -52,12 +52,13 @@ module _ (found others : Findings) (text other : List ℕ) where
 -- what a run comes to, by what the files hold
 pub outcome_of : (limits : Limits) (files : FileMap) (r : RunModel) → IsRunWithin limits r → r.before.files.files ≡ Some files
     → Outcome (Some files) limits r.words r.report r.before.out.written r.after.out.written (WritesLine r.before.err r.after.err) r.report.fault
-outcome_of limits files r run reports = grind arith
+outcome_of limits files r run reports =
+    subst (λ (contents : Option FileMap). Outcome contents limits r.words r.report r.before.out.written r.after.out.written (WritesLine r.before.err r.after.err) r.report.fault) reports run.outcome
 
 -- the answer of a run that ends without a fault
 pub answer_of : (limits : Limits) (files : FileMap) (r : RunModel) → IsRunWithin limits r → r.before.files.files ≡ Some files → r.report.fault ≡ None
     → HasAnswer (Some files) limits r.words r.report (Appends r.before.out.written r.after.out.written)
-answer_of limits files r run reports none = grind (arith, outcome_of)
+answer_of limits files r run reports none = (outcome_of limits files r run reports).whole none
 
 -- the answers to the same words over files that agree at their paths are one
 pub one_answer : HasOneProblem → (limits : Limits) (files others : FileMap) (r s : RunModel) (text other : List ℕ) → r.words ≡ s.words → CarriesWords limits files others r.words

@@ -56,7 +56,7 @@ pub use Rattle.lower_proof.specs.declared.LowerBounds.{LowerBounds}
 pub use Rattle.lower_proof.specs.declared.reader.ProofFault.{ProofFault}
 pub use Rattle.meat_engine.specs.Asks.{AnswersAsk, EndsAsk, FailsAsk, FailsCheck, FailsJourney, FailsReplay, FailsScore, own_paths}
 pub use Rattle.meat_engine.specs.Ends.{EndsByCertificateFile, EndsByDepartures, EndsByGraphFile, EndsByLatest, EndsByScore, EndsByVerdict, EndsByWalk, HasLater}
-pub use Rattle.meat_engine.specs.Received.{AnswersJob, AnswersWords, Ending, FailsJob, HasAnswer, IsExplained, IsRefused, OutcomeBy, path_in}
+pub use Rattle.meat_engine.specs.Received.{AnswersJob, AnswersWords, FailsJob, HasAnswer, IsExplained, IsRefused, path_in}
 pub use Rattle.meat_engine.specs.RunPromises.{WritesLine}
 pub use Rattle.meat_engine.specs.Samples.{AnswersSampled, IsSampled, sample_alpha, sample_journey}
 pub use Rattle.meat_scan.specs.Rules.{IsByRules, Kept, kept_after, kept_leg}

@@ -1,8 +1,8 @@
 -- Two runs that nothing disturbs end in one way.
 use Rattle.run_laws.proofs.Common.{arith, ◌≡◌, ◌≢◌, ℕ, ◌⊎◌, List, [], Option, None, Some, Ok, Err, inl, inr, refl, sym, subst, ap, ◌∙◌, Appends, Keeps, FileMap, file_at, Limits, JobModel, Ask, Sample}
 use Rattle.run_laws.proofs.Common.{JourneyModel, AskModel, Plan, job_of, Fault, Replay, ProofFails, Unsafe, Write, NoMemory, Problem, status_of, NamedParts, HasOneProblem, no_fault}
-use Rattle.run_laws.proofs.Common.{agree_all, IsNoSafe, Findings, findings_of, no_findings, FailsJourney, Ending, AnswersJob, AnswersWords, FailsJob, IsExplained, IsRefused}
-use Rattle.run_laws.proofs.Common.{OutcomeBy, WritesLine, sample_journey, sample_alpha, RunModel, IsRunWithin, IsUntroubled, IsOneEnd, EndAlike}
+use Rattle.run_laws.proofs.Common.{agree_all, IsNoSafe, Findings, findings_of, no_findings, FailsJourney, AnswersJob, AnswersWords, FailsJob, IsExplained, IsRefused}
+use Rattle.run_laws.proofs.Common.{WritesLine, sample_journey, sample_alpha, RunModel, IsRunWithin, IsUntroubled, IsOneEnd, EndAlike}
 use Rattle.std.proofs.Common.{append-nil}
 use Rattle.command_line.specs.declared.job.WordsFault.{WordsFault}
 use Rattle.journey_model.specs.Known.{parts_of}
@@ -13,7 +13,6 @@ use Rattle.journey_problem.proofs.OneProblem.{one_problem}
 use Rattle.run_laws.specs.OneRun.{EndAlikeOver, FormsEndAlike}
 use Rattle.run_laws.specs.Runs.{AgreeOn, ReadAlikeOn}
 use Rattle.meat_engine.specs.Received.{Outcome}
-use Rattle.meat_engine.proofs.Outcomes.{refused_ending}
 use Rattle.run_laws.proofs.Asks.{one_answer, outcome_of}
 use Rattle.run_laws.proofs.AskFaults.{one_ask_fault, answered_or_not}
 use Rattle.run_laws.proofs.FirstFaults.{NotRead, one_first_fault}
@@ -146,7 +145,7 @@ module _ (limits : Limits) (files : FileMap) (r : RunModel) where
     Reports = WritesLine r.before.err r.after.err
 
     outcome : (fault : Option Fault) → r.report.fault ≡ fault → Outcome (Some files) limits r.words r.report r.before.out.written r.after.out.written Reports fault
-    outcome fault is = grind (arith, outcome_of)
+    outcome fault is = subst (λ (f : Option Fault). Outcome (Some files) limits r.words r.report r.before.out.written r.after.out.written Reports f) is (outcome_of limits files r run calm.reports)
 
     reports_err : (text : List ℕ) → Reports text → Appends r.before.err.written r.after.err.written text
     reports_err text reports = reports.1 calm.err_calm
@@ -158,9 +157,11 @@ module _ (limits : Limits) (files : FileMap) (r : RunModel) where
     not_write fault is write = calm.out_calm (run.write (is ∙ ap (λ (f : Fault). Some f) write))
 
     pub settled : (fault : Option Fault) → r.report.fault ≡ fault → Answers ⊎ Refuses
-    settled None is = grind (arith, outcome)
+    settled None is =
+        let (text, answers, written) = (outcome None is).whole refl in
+        inl (record { none = is; text = text; answers = answers; out = written; err = run.quiet is })
     settled (Some fault) is =
-        let both = subst (λ (e : Ending). OutcomeBy e (Some files) limits r.words r.report r.before.out.written r.after.out.written Reports (Some fault)) (refused_ending fault (not_write fault is)) (outcome (Some fault) is) in
+        let both = (outcome (Some fault) is).refused fault refl (not_write fault is) in
         let refused : IsRefused (Some files) limits r.words r.report Reports fault = both.1 in
         inr (record {
           fault = fault;
