@@ -1,17 +1,15 @@
 -- The causes of a step after others.
-use Rattle.journey_problem.proofs.Common.{◌≡◌, ℕ, List, Option, None, Result, Ok, Err, sym, ap, subst, IfErr, IsErrAnd, FilesState, causes-of, causes-idle, causes-silent, causes-next, Input, Fault}
-use Rattle.journey_problem.proofs.Common.{Read, unread_input, MayBeUnread, HasCauses}
+use Rattle.journey_problem.proofs.Common.{arith, ◌≡◌, ℕ, List, Option, None, Result, Ok, sym, ap, IfErr, IsErrAnd, FilesState, causes-of, causes-idle, causes-silent, causes-next, Input, Fault, Read}
+use Rattle.journey_problem.proofs.Common.{unread_input, MayBeUnread, HasCauses}
 use Rattle.file_ports.specs.Counts.{HasCausesOf}
 
 -- whose fault is not that a file cannot be read
 not_read : {T : Type 0} (r : Result T Fault) → IfErr r (λ fault. unread_input fault ≡ None) → (input : Input) → IsErrAnd r (λ fault. fault ≡ Read input) → ⊥
-not_read (Ok x) quiet input is = is
-not_read (Err fault) quiet input is = absurd (let read = ap unread_input is in cc)
+not_read r quiet input is = grind arith
 
 -- the file that cannot be read is this one
 own_file : {T : Type 0} (r : Result T Fault) (mine file : Input) → IfErr r (MayBeUnread mine) → IsErrAnd r (λ fault. fault ≡ Read file) → file ≡ mine
-own_file (Ok x) mine file own is = absurd is
-own_file (Err fault) mine file own is = subst (MayBeUnread mine) is own
+own_file r mine file own is = grind arith
 
 module _ {path : Input → Option (List ℕ)} {before now : FilesState} where
   -- a step that reads nothing

@@ -20,11 +20,9 @@ module _ (contents : Option FileMap) (limits : Limits) (start : ℕ) (path : Lis
 
   module _ (text same : List ℕ) (is : same ≡ text) (there : IfSome contents (λ files. bytes_of limits.bytes input.Proof None (file_at files path) ≡ Ok text)) where
     pub read : (r : Result (Query × LowerBounds) Fault) → IfOk r (λ f. IsCertificateText p start same f.0 f.1) → IfOk r (λ f. IsCertificateFile contents limits start path p f.0 f.1)
-    read (Ok f) reports = record { text = text; reads = there; reports = subst (λ (bytes : List ℕ). IsCertificateText p start bytes f.0 f.1) is reports }
-    read (Err fault) reports = tt
+    read r reports = grind arith
 
     pub unread : (r : Result (Query × LowerBounds) Fault) → IfErr r (λ fault. fault ≢ NoMemory → FailsText p start same fault)
         → IfErr r (λ fault. fault ≢ NoMemory → IsOfInput input.Proof fault) → IfErr r (λ fault. unread_input fault ≡ None)
         → IfErr r (λ fault. fault ≢ NoMemory → FailsCertificate contents limits start path p fault)
-    unread (Ok f) fails of none = tt
-    unread (Err fault) fails of none = grind arith
+    unread r fails of none = grind arith

@@ -12,7 +12,7 @@ pub use Rattle.command_line.specs.Jobs.{CutFile, FeedFolder, JourneyModel, Sourc
 pub use Rattle.command_line.specs.Shown.{journey_shown, source_shown}
 pub use Rattle.connections.specs.Cut.{IsNetworkFrom, connection_count, entry_count}
 pub use Rattle.csv_rows.proofs.FaultLemmas.{if_raised}
-pub use Rattle.csv_rows.specs.FeedTables.{path_of, rank_of, unread_table}
+pub use Rattle.csv_rows.specs.FeedTables.{path_of, unread_table}
 pub use Rattle.csv_rows.specs.Tables.{row_count, table_of}
 pub use Rattle.csv_rows.specs.declared.feed_tables.FeedFault.{FeedFault}
 pub use Rattle.csv_rows.specs.declared.limits.Limits.{Limits}

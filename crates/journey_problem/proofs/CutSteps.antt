@@ -1,7 +1,7 @@
 -- The steps of reading a cut file, put together.
-use Rattle.journey_problem.proofs.Common.{arith, ◌≡◌, ℕ, List, Option, Some, None, Result, Ok, Err, sym, subst, ◌≢◌, IfOk, IfErr, OnOk, IfSome, FileMap, file_at, Limits, IsCutNetwork, CutParts}
-use Rattle.journey_problem.proofs.Common.{IsCutRead, DelayLists, AreDelays, NameLists, NetworkModel, Timetable, JourneyModel, source_or_target, Input, Fault, NoMemory, IsFirst, MayBeUnread, unread_input, Problem}
-use Rattle.journey_problem.proofs.Common.{Records, HasCut, cut_fault, delay_fault, IsCutOfSome, AreDelaysOf, stop_fault, cut_problem_fault, IsNamed, IsCutProblem, HasCutTimetable}
+use Rattle.journey_problem.proofs.Common.{arith, ◌≡◌, ℕ, List, Option, Some, None, Result, ◌≢◌, IfOk, IfErr, OnOk, IfSome, FileMap, file_at, Limits, IsCutNetwork, CutParts, IsCutRead, DelayLists}
+use Rattle.journey_problem.proofs.Common.{AreDelays, NameLists, NetworkModel, Timetable, JourneyModel, source_or_target, Input, Fault, NoMemory, IsFirst, MayBeUnread, unread_input, Problem, Records}
+use Rattle.journey_problem.proofs.Common.{HasCut, cut_fault, delay_fault, IsCutOfSome, AreDelaysOf, stop_fault, cut_problem_fault, IsNamed, IsCutProblem, HasCutTimetable}
 use Rattle.journey_model.specs.declared.faults.Input.TheVariants as input
 
 -- what holds of a network and its names, holds of the problem of them
@@ -19,8 +19,7 @@ module _ (j : JourneyModel) (cut : CutParts) (lists : DelayLists) where
   pub cut_timetable : (r : Result Problem Fault) → IsCutOfSome cut → AreDelays lists → IfOk r (IsNetworkOf cut lists)
       → IfOk r (λ p. IsNamed p.timetable.names p.source.0 (source_or_target j)) → IfOk r (λ p. IsNamed p.timetable.names p.target.0 j.to)
       → IfOk r (HasCutTimetable j)
-  cut_timetable (Ok p) (table, is, read) are network source target = grind arith
-  cut_timetable (Err fault) some are network source target = tt
+  cut_timetable r some are network source target = grind arith
 
   module _ (limits : Limits) (files : FileMap) where
     -- the problem of a cut file and a delay file
@@ -30,21 +29,18 @@ module _ (j : JourneyModel) (cut : CutParts) (lists : DelayLists) where
         → IfOk r (λ p. IsNamed p.timetable.names p.source.0 (source_or_target j)) → IfOk r (λ p. IsNamed p.timetable.names p.target.0 j.to)
         → OnOk r (stop_fault cut.places j.from j.to ≡ None)
         → IfOk r (λ p. (path : List ℕ) → HasCut limits (file_at files path) cut → IsCutProblem limits files path j p)
-    cut_file_problem (Ok p) (no_delays, are) network source target stops = grind arith
-    cut_file_problem (Err fault) delays network source target stops = tt
+    cut_file_problem r delays network source target stops = grind arith
 
     -- the fault of a stop after two files with none
     pub stop_first : (r : Result Problem Fault) → delay_fault limits (file_at files j.delays) None ≡ None
         → IfErr r (λ fault. fault ≢ NoMemory → stop_fault cut.places j.from j.to ≡ Some fault) → IfErr r (λ fault. unread_input fault ≡ None)
         → IfErr r (λ fault. (path : List ℕ) → HasCut limits (file_at files path) cut → IsFirst (cut_problem_fault limits files path j) fault)
-    stop_first (Ok p) delays why quiet = tt
-    stop_first (Err fault) delays why quiet = grind arith
+    stop_first r delays why quiet = grind arith
 
 -- the cut file has no fault where the delay file could not be read
 no_fault_beside : (limits : Limits) (file : Option (List ℕ)) (u : Option Input)
     → IfSome u (λ other. other ≡ input.Delays) → cut_fault limits file None ≡ None → cut_fault limits file u ≡ None
-no_fault_beside limits file None own none = none
-no_fault_beside limits file (Some other) own none = subst (λ (i : Input). cut_fault limits file (Some i) ≡ None) (sym own) none
+no_fault_beside limits file u own none = grind arith
 
 -- the fault of the delay file after a cut file with none
 pub delay_first : (limits : Limits) (files : FileMap) (path : List ℕ) (j : JourneyModel) (cut : CutParts) (fault : Fault) → HasCut limits (file_at files path) cut

@@ -1,5 +1,5 @@
 -- The head and the graph of a graph file, from its bytes.
-use Rattle.journey_problem.proofs.Common.{arith, ◌≡◌, ℕ, List, Option, None, Result, Ok, Err, ap, ◌∙◌, refl, ◌≢◌, IfErr, IfOk, Limits, Input, Fault, NoMemory, unread_input, Problem, bytes_of, Finds}
+use Rattle.journey_problem.proofs.Common.{arith, ◌≡◌, ℕ, List, Option, None, Result, Ok, Err, ◌≢◌, IfErr, IfOk, Limits, Input, Fault, NoMemory, unread_input, Problem, bytes_of, Finds}
 use Rattle.plan_graph.specs.declared.PlanGraph.{PlanGraph}
 use Rattle.graph_text.specs.declared.Head.{Head}
 use Rattle.graph_text.specs.Reading.{graph_of}
@@ -14,5 +14,4 @@ module _ (limits : Limits) (p : Problem) (start : ℕ) (file : Option (List ℕ)
   pub graph_finds : (r : Result (Head × PlanGraph) Fault) → IfOk r (λ f. graph_of text p.timetable.network p.timetable.names p.source.0 p.target.0 start ≡ Ok (f.0, f.1))
       → IfErr r (λ fault. fault ≢ NoMemory → graph_as (graph_of text p.timetable.network p.timetable.names p.source.0 p.target.0 start) ≡ Err fault)
       → IfErr r (λ fault. unread_input fault ≡ None) → Finds (λ f. (f.0, f.1)) (λ unread. graph_in limits p start unread file) r
-  graph_finds (Ok f) ok err none = read_of None refl ∙ ap graph_as ok
-  graph_finds (Err fault) ok err none = λ other. read_of (unread_input fault) none ∙ err other
+  graph_finds r ok err none = grind (arith, read_of)

@@ -1,22 +1,15 @@
 -- What a loaded file gives.
-use Rattle.journey_problem.proofs.Common.{◌≡◌, ℕ, List, Option, Some, None, Err, Bool, true, arith, refl, ap, IfSome, ◌==◌, if◌then◌else◌, rank_of, Input, Read, is_unread_input, bytes_of}
-use Rattle.journey_problem.proofs.Common.{bytes_present}
+use Rattle.journey_problem.proofs.Common.{◌≡◌, ℕ, List, Option, Some, Err, Bool, true, arith, ap, IfSome, ◌==◌, if◌then◌else◌, Input, Read, is_unread_input, bytes_of, bytes_present}
 use Rattle.std.proofs.lemmas.Bool.Decides.{nat_tests}
-use Rattle.journey_model.specs.declared.faults.Input.TheVariants as input
 
 pub if_some_any : {A : Type 0} (o : Option A) (P : A → Type 0) → ((a : A) → P a) → IfSome o P
-if_some_any None P f = tt
-if_some_any (Some a) P f = f a
+if_some_any o P f = grind arith
 
 same_rank : (n : ℕ) → (n == n) ≡ true
 same_rank n = grind (arith, nat_tests)
 
 own_unread : (file : Input) → is_unread_input (Some file) file ≡ true
-own_unread (input.Feed table) = same_rank (rank_of table)
-own_unread input.Cut = refl
-own_unread input.Delays = refl
-own_unread input.Graph = refl
-own_unread input.Proof = refl
+own_unread file = grind (arith, same_rank)
 
 -- a file that cannot be read
 pub bytes_of-unread : (most : ℕ) (file : Input) (bytes : Option (List ℕ)) → bytes_of most file (Some file) bytes ≡ Err (Read file)

@@ -1,6 +1,6 @@
 -- Files of which a problem is made have no fault.
-use Rattle.journey_problem.proofs.Common.{arith, unwrap_or, ◌≡◌, ℕ, refl, inl, inr, List, Option, Some, None, Result, Ok, Err, ◌≢◌, IsOkAnd, FileMap, file_at, Limits, FeedFault, unread_table, FeedParts, Tables}
-use Rattle.journey_problem.proofs.Common.{tables_in, IsFeedOf, place_of_stop, SourceModel, CutFile, FeedFolder, JourneyModel, source_or_target, Input, Fault, Read, NoMemory, unread_input, cut_problem_fault}
+use Rattle.journey_problem.proofs.Common.{arith, unwrap_or, ◌≡◌, ℕ, refl, List, Option, Some, None, Result, Err, ◌≢◌, IsOkAnd, FileMap, file_at, Limits, FeedFault, unread_table, FeedParts, Tables}
+use Rattle.journey_problem.proofs.Common.{IsFeedOf, place_of_stop, SourceModel, CutFile, FeedFolder, JourneyModel, source_or_target, Input, Fault, Read, NoMemory, unread_input, cut_problem_fault}
 use Rattle.journey_problem.proofs.Common.{delay_fault, feed_as, GtfsFolder, IsFolder, IsFolderFault, IsLaterTableFault, IsFaultAfterFolder, IsWindowFault, IsFeedProblem, IsFeedProblemFault}
 use Rattle.journey_problem.proofs.Common.{feed_stop_fault, window_fault_of, IsProblem, IsProblemOver, IsProblemFault, IsProblemFaultOver}
 use Rattle.csv_rows.specs.declared.feed_tables.FeedFault.TheVariants as feed
@@ -12,8 +12,7 @@ abbrev NotRead : Fault → Type 0
 NotRead fault = (i : Input) → fault ≡ Read i → ⊥
 
 pub none_unread : (fault : Fault) → ((i : Input) → fault ≡ Read i → ⊥) → unread_input fault ≡ None
-none_unread (Read i) n = absurd (n i refl)
-none_unread fault n = refl
+none_unread fault n = grind arith
 
 pub table_read : (limits : Limits) (g : FeedFault) → ((i : Input) → feed_as limits g ≡ Read i → ⊥) → unread_table g ≡ None
 table_read limits (feed.Read table) n = absurd (n (input.Feed table) refl)
@@ -23,12 +22,10 @@ not_both : {A : Type 0} (o : Option A) (x : A) → o ≡ None → o ≡ Some x �
 not_both o x h k = cc
 
 not_err : {A E : Type 0} (r : Result A E) (P : A → Type 0) (e : E) → IsOkAnd r P → r ≡ Err e → ⊥
-not_err (Ok a) P e h k = cc
-not_err (Err f) P e h k = h
+not_err r P e h k = grind arith
 
 pub not_feed : (r : Result Tables FeedFault) (f : FeedParts) (e : FeedFault) → IsFeedOf r f → r ≡ Err e → ⊥
-not_feed (Ok t) f e h k = cc
-not_feed (Err g) f e h k = h
+not_feed r f e h k = grind arith
 
 no_cut_fault : (limits : Limits) (files : FileMap) (path : List ℕ) (j : JourneyModel) (fault : Fault) → cut_problem_fault limits files path j None ≡ None
     → NotRead fault → cut_problem_fault limits files path j (unread_input fault) ≡ Some fault → ⊥
@@ -39,28 +36,23 @@ no_stop f from to a b fault h k e = grind arith
 
 module _ (limits : Limits) (files : FileMap) (folder : List ℕ) (h : GtfsFolder) (is : IsFolder limits files folder h) where
   no_later : (f : FeedParts) (g : FeedFault) → f ≡ h.feed → unread_table g ≡ None → IsLaterTableFault limits files folder f g → ⊥
-  no_later f g e u (inl k) = grind (arith, not_err)
-  no_later f g e u (inr (ok, k)) = grind (arith, not_err)
+  no_later f g e u h = grind (arith, not_err)
 
   pub no_folder_fault : (g : FeedFault) → unread_table g ≡ None → IsFolderFault limits files folder g → ⊥
-  no_folder_fault g u (inl k) = grind (arith, not_feed)
-  no_folder_fault g u (inr (f, feed, later)) = no_later f g (one_feed_of (tables_in files folder limits None) f h.feed feed is.feed) u later
+  no_folder_fault g u h = grind (arith, not_feed, no_later, one_feed_of)
 
 no_window : (limits : Limits) (horizon : ℕ) (j : JourneyModel) (h : GtfsFolder) (a b : ℕ) (fault : Fault) → place_of_stop h.feed (source_or_target j) ≡ Some a → place_of_stop h.feed j.to ≡ Some b
     → window_fault_of limits horizon j h ≡ None → IsWindowFault limits horizon j h fault → ⊥
-no_window limits horizon j h a b fault from to sound (inl e) = no_stop h.feed j.from j.to a b fault from to e
-no_window limits horizon j h a b fault from to sound (inr (none, is)) = not_both (window_fault_of limits horizon j h) fault sound is
+no_window limits horizon j h a b fault from to sound is = grind (arith, no_stop, not_both)
 
 no_after : (limits : Limits) (files : FileMap) (horizon : ℕ) (j : JourneyModel) (h : GtfsFolder) (a b : ℕ) (fault : Fault) → NotRead fault → delay_fault limits (file_at files j.delays) None ≡ None
     → place_of_stop h.feed (source_or_target j) ≡ Some a → place_of_stop h.feed j.to ≡ Some b → window_fault_of limits horizon j h ≡ None
     → IsFaultAfterFolder limits files horizon j h fault → ⊥
-no_after limits files horizon j h a b fault n none from to sound (inl e) = grind (arith, not_both, none_unread)
-no_after limits files horizon j h a b fault n none from to sound (inr (ok, w)) = no_window limits horizon j h a b fault from to sound w
+no_after limits files horizon j h a b fault n none from to sound is = grind (arith, not_both, none_unread, no_window)
 
 no_feed_fault : (limits : Limits) (files : FileMap) (folder : List ℕ) (horizon : ℕ) (j : JourneyModel) (p : _) (fault : Fault) → IsFeedProblem limits files folder horizon j p
     → NotRead fault → IsFeedProblemFault limits files folder horizon j fault → ⊥
-no_feed_fault limits files folder horizon j p fault a n (inl (g, is, why)) = grind (arith, no_folder_fault, table_read)
-no_feed_fault limits files folder horizon j p fault a n (inr (h, is, why)) = grind (arith, one_folder, one_window_fault, no_after)
+no_feed_fault limits files folder horizon j p fault a n h = grind (arith, no_folder_fault, table_read, one_folder, one_window_fault, no_after)
 
 no_fault_over : (limits : Limits) (files : FileMap) (timetable : SourceModel) (j : JourneyModel) (p : _) (fault : Fault) → IsProblemOver limits files timetable j p → NotRead fault
     → IsProblemFaultOver limits files timetable j fault → ⊥

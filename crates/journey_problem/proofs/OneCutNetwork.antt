@@ -1,6 +1,6 @@
 -- A cut file with delays makes one network.
-use Rattle.journey_problem.proofs.Common.{◌≡◌, ℕ, ◌<◌, ◌⊎◌, inl, inr, sym, ◌∙◌, subst, arith, List, [], length, get_or, ext_get_or, slice_get-get_or, NameLists, AreDistinct, NetworkModel, same_parts}
-use Rattle.journey_problem.proofs.Common.{change_of, connection, count, no_connection, IsValid, row_count, DelayLists, row, IsRide, IsCutNetwork, runs_distinct, places_distinct, one_number}
+use Rattle.journey_problem.proofs.Common.{◌≡◌, ℕ, ◌<◌, ◌⊎◌, sym, ◌∙◌, subst, arith, List, [], length, get_or, ext_get_or, slice_get-get_or, NameLists, AreDistinct, NetworkModel, same_parts, change_of}
+use Rattle.journey_problem.proofs.Common.{connection, count, no_connection, IsValid, row_count, DelayLists, row, IsRide, IsCutNetwork, runs_distinct, places_distinct, one_number}
 use Rattle.plan_model.specs.declared.model.Connection.{Connection}
 use Rattle.cut_file.specs.CutRows.{Row}
 use Rattle.journey_problem.proofs.OneOrder.{Enumerates, agree, same_size}
@@ -10,10 +10,7 @@ abbrev pub Precedes : Connection → Connection → Type 0
 Precedes c d = (c.run.0 < d.run.0) ⊎ ((c.run.0 ≡ d.run.0) × (c.step < d.step))
 
 never_both : (c d : Connection) → Precedes c d → Precedes d c → ⊥
-never_both c d (inl h) (inl k) = omega (arith, h, k)
-never_both c d (inl h) (inr k) = omega (arith, h, k.0)
-never_both c d (inr h) (inl k) = omega (arith, h.0, k)
-never_both c d (inr h) (inr k) = omega (arith, h.1, k.1)
+never_both c d h is = grind arith
 
 module _ (names : NameLists) (delays : DelayLists) (runs : AreDistinct names.runs) (places : AreDistinct names.places) where
   -- a row has one connection

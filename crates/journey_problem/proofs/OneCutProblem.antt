@@ -1,6 +1,6 @@
 -- A cut file with a delay file has one problem.
-use Rattle.journey_problem.proofs.Common.{◌≡◌, ℕ, refl, sym, ap, ◌∙◌, subst, List, Option, Some, Result, Ok, slice_get, FileMap, file_at, Limits, NameLists, AreDistinct, DelayLists, delays_of}
-use Rattle.journey_problem.proofs.Common.{IsCutNetwork, one_number, JourneyModel, source_or_target, Problem, Records, AreDelaysOf, IsCutProblem, IsNamed}
+use Rattle.journey_problem.proofs.Common.{◌≡◌, ℕ, refl, sym, ap, ◌∙◌, subst, List, Option, Some, Result, Ok, slice_get, FileMap, Limits, NameLists, AreDistinct, DelayLists, delays_of, IsCutNetwork}
+use Rattle.journey_problem.proofs.Common.{arith, one_number, JourneyModel, source_or_target, Problem, AreDelaysOf, IsCutProblem, IsNamed}
 use Rattle.journey_problem.proofs.OneCutNetwork.{one_network, same_names, runs_apart, places_apart}
 use Rattle.journey_problem.proofs.SameProblem.{same_problem}
 
@@ -20,12 +20,7 @@ module _ (limits : Limits) (files : FileMap) (path : List ℕ) (j i : JourneyMod
   first = a.timetable.is_network
 
   other : IsCutNetwork a.table a.lists q.timetable.network q.timetable.names
-  other =
-      let table : b.table ≡ a.table = same_ok _ b.table a.table b.is_table a.is_table in
-      let lists : b.lists ≡ a.lists = delays_of_one limits (file_at files j.delays) b.lists a.lists
-      (subst (λ (at : List ℕ). AreDelaysOf limits (file_at files at) b.lists) delays b.are_delays) a.are_delays in
-      subst (λ (t : Records). IsCutNetwork t a.lists q.timetable.network q.timetable.names) table
-      (subst (λ (d : DelayLists). IsCutNetwork b.table d q.timetable.network q.timetable.names) lists b.timetable.is_network)
+  other = grind (arith, same_ok, delays_of_one)
 
   pub one_cut_names : p.timetable.names ≡ q.timetable.names
   one_cut_names = sym (same_names a.table a.lists a.lists q.timetable.network p.timetable.network q.timetable.names p.timetable.names other first)

@@ -1,6 +1,5 @@
 -- The tables of a feed make one feed.
-use Rattle.journey_problem.proofs.Common.{◌≡◌, ℕ, ◌<◌, sym, ap, ◌∙◌, arith, List, [], length, Some, Result, Ok, Err, true, is_some, ext_get_or, row_count, FeedFault, FeedParts, Tables, IsFeed}
-use Rattle.journey_problem.proofs.Common.{IsFeedOf}
+use Rattle.journey_problem.proofs.Common.{◌≡◌, ℕ, ◌<◌, sym, ap, ◌∙◌, arith, List, [], length, Some, Result, true, is_some, ext_get_or, row_count, FeedFault, FeedParts, Tables, IsFeed, IsFeedOf}
 use Rattle.stop_times.specs.declared.rows.StopRow.{StopRow}
 use Rattle.stop_times.specs.StopTimes.{row_at, is_kept, timed_rows}
 use Rattle.feed_lists.specs.Stops.{stop_ids, stop_places}
@@ -53,5 +52,4 @@ one_feed t f g a b =
     }
 
 pub one_feed_of : (r : Result Tables FeedFault) (f g : FeedParts) → IsFeedOf r f → IsFeedOf r g → f ≡ g
-one_feed_of (Ok t) f g a b = one_feed t f g a b
-one_feed_of (Err fault) f g a b = absurd a
+one_feed_of r f g a b = grind (arith, one_feed)

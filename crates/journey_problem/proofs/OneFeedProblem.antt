@@ -1,7 +1,7 @@
 -- A folder with a delay file has one problem.
-use Rattle.journey_problem.proofs.Common.{◌≡◌, ℕ, refl, sym, ap, ◌∙◌, subst, arith, List, Some, Result, Ok, Err, IsOkAnd, cases_lt, FileMap, file_at, Limits, FeedFault, DelayLists, FeedParts, ServiceParts}
-use Rattle.journey_problem.proofs.Common.{runs, Calendars, RunsBy, ChangeParts, AreCollectedChanges, place_seconds, links_of, place_of_stop, IsNetworkFrom, JourneyModel, source_or_target, Problem, AreDelaysOf, GtfsFolder, IsFolder}
-use Rattle.journey_problem.proofs.Common.{IsFeedProblem, window_fault_of}
+use Rattle.journey_problem.proofs.Common.{◌≡◌, ℕ, refl, sym, ap, ◌∙◌, subst, arith, List, Some, Result, IsOkAnd, cases_lt, FileMap, file_at, Limits, FeedFault, DelayLists, FeedParts, ServiceParts}
+use Rattle.journey_problem.proofs.Common.{runs, Calendars, RunsBy, ChangeParts, AreCollectedChanges, place_seconds, links_of, place_of_stop, IsNetworkFrom, JourneyModel, source_or_target, Problem}
+use Rattle.journey_problem.proofs.Common.{AreDelaysOf, GtfsFolder, IsFolder, IsFeedProblem, window_fault_of}
 use Rattle.std.proofs.lemmas.List.{get_or_past}
 use Rattle.table_files.specs.Required.{Records}
 use Rattle.journey_problem.proofs.OneCutProblem.{delays_of_one}
@@ -17,17 +17,14 @@ pub record SameGtfsFolder (g h : GtfsFolder) : Type 0 where
   pub links : (place : ℕ) → links_of g.changes place ≡ links_of h.changes place
 
 same_days : (r : Result Calendars FeedFault) (s t : ServiceParts) → IsOkAnd r (RunsBy (runs s)) → IsOkAnd r (RunsBy (runs t)) → SameDays s t
-same_days (Ok c) s t a b = λ service day. a service day ∙ sym (b service day)
-same_days (Err fault) s t a b = absurd a
+same_days r s t a b = grind arith
 
 same_changes : (r : Result Records FeedFault) (f : FeedParts) (c d : ChangeParts) → IsOkAnd r (AreCollectedChanges f c) → IsOkAnd r (AreCollectedChanges f d) → (place : ℕ)
     → place_seconds c place ≡ place_seconds d place
-same_changes (Ok t) f c d a b = λ place. a.seconds place ∙ sym (b.seconds place)
-same_changes (Err fault) f c d a b = absurd a
+same_changes r f c d a b = grind arith
 
 same_links : (r : Result Records FeedFault) (f : FeedParts) (c d : ChangeParts) → IsOkAnd r (AreCollectedChanges f c) → IsOkAnd r (AreCollectedChanges f d) → (place : ℕ) → links_of c place ≡ links_of d place
-same_links (Ok t) f c d a b = grind (arith, get_or_past, cases_lt)
-same_links (Err fault) f c d a b = absurd a
+same_links r f c d a b = grind (arith, get_or_past, cases_lt)
 
 module _ (limits : Limits) (files : FileMap) (folder : List ℕ) where
   -- a folder is read in one way
@@ -61,8 +58,7 @@ module _ (limits : Limits) (files : FileMap) (folder : List ℕ) where
 
     -- a stop has one place
     pub one_feed_stop : (name same : List ℕ) → same ≡ name → (x y : ℕ) → place_of_stop a.parts.feed name ≡ Some x → place_of_stop b.parts.feed same ≡ Some y → x ≡ y
-    one_feed_stop name same is x y here there =
-        one_place a.parts.feed b.parts.feed one_folder_of.feed name x y here (subst (λ (n : List ℕ). place_of_stop b.parts.feed n ≡ Some y) is there)
+    one_feed_stop name same is x y here there = grind (arith, one_place)
 
   -- a folder and a delay file have one problem of a journey
   pub one_feed_problem : (horizon : ℕ) (j : JourneyModel) (p q : _) → IsFeedProblem limits files folder horizon j p → IsFeedProblem limits files folder horizon j q → p ≡ q

@@ -1,21 +1,20 @@
 -- Files that agree at the paths of a journey, or have the same records there, have the same problems and the same faults.
-use Rattle.journey_problem.proofs.Common.{◌≡◌, ℕ, ◌≤◌, refl, ap, sym, subst, ◌∙◌, List, length, Bool, true, false, if◌then◌else◌, Option, None, Some, Result, Err, IfSome, IsOk, IsOkAnd, option_map, inl, inr, fun_ext}
-use Rattle.journey_problem.proofs.Common.{FileMap, file_at, Limits, path_of, unread_table, FeedFault, FeedParts, tables_in, tables_from, IsFeedOf, calendars_in, RunsBy, runs, AreCollectedChanges, table_of}
-use Rattle.journey_problem.proofs.Common.{SourceModel, CutFile, FeedFolder, JourneyModel, Problem, Fault, Read, Delays, Input, unread_input, is_unread_input, DelayLists, AreDelaysOf, delay_fault}
-use Rattle.journey_problem.proofs.Common.{first_cut_fault, first_delay_fault, fault_in, cut_as, stop_fault, cut_records, delay_records, cut_problem_fault, Records, bytes_present, path_by, arith}
-use Rattle.journey_problem.proofs.Common.{GtfsFolder, IsFolder, IsFeedProblem, IsCutProblem, IsFolderFault, IsLaterTableFault, IsFaultAfterFolder, IsFeedProblemFault, IsProblem, IsProblemOver, IsProblemFault, IsProblemFaultOver}
+use Rattle.journey_problem.proofs.Common.{◌≡◌, ℕ, ◌≤◌, ap, sym, subst, ◌∙◌, List, length, Bool, false, if◌then◌else◌, Option, None, Result, Err, IfSome, IsOkAnd, option_map, inl, inr, fun_ext}
+use Rattle.journey_problem.proofs.Common.{FileMap, file_at, Limits, path_of, unread_table, FeedFault, FeedParts, tables_in, tables_from, IsFeedOf, calendars_in, RunsBy, runs, AreCollectedChanges}
+use Rattle.journey_problem.proofs.Common.{table_of, SourceModel, CutFile, FeedFolder, JourneyModel, Problem, Fault, Read, Delays, Input, unread_input, is_unread_input, DelayLists, AreDelaysOf}
+use Rattle.journey_problem.proofs.Common.{delay_fault, first_cut_fault, first_delay_fault, fault_in, cut_as, stop_fault, cut_records, delay_records, cut_problem_fault, Records, bytes_present, path_by}
+use Rattle.journey_problem.proofs.Common.{arith, GtfsFolder, IsFolder, IsFeedProblem, IsCutProblem, IsFolderFault, IsLaterTableFault, IsFaultAfterFolder, IsFeedProblemFault, IsProblem, IsProblemOver}
+use Rattle.journey_problem.proofs.Common.{IsProblemFault, IsProblemFaultOver}
 use Rattle.std.proofs.Common.{ap₂, nat_lt}
 use Rattle.std.proofs.lemmas.Bool.Decides.{nat_tests}
 use Rattle.std.specs.Option.{option_or}
 use Rattle.csv_rows.specs.declared.feed_tables.Table.{Table}
-use Rattle.csv_rows.specs.declared.feed_tables.Table.TheVariants.{Calendar, CalendarDates, Transfers}
-use Rattle.csv_rows.specs.declared.feed_tables.FeedFault.TheVariants.{TooLong, Read as UnreadTable}
+use Rattle.csv_rows.specs.declared.feed_tables.Table.TheVariants.{Transfers}
+use Rattle.csv_rows.specs.declared.feed_tables.FeedFault.TheVariants.{Read as UnreadTable}
 use Rattle.csv_rows.specs.FeedTables.{is_unread_table}
-use Rattle.csv_rows.specs.Limits.{rows_of}
 use Rattle.plan_model.specs.Results.{and_then}
 use Rattle.table_files.specs.declared.loading.Loaded.{Loaded}
-use Rattle.table_files.specs.Loading.{load_of, loaded_file, loaded_from}
-use Rattle.service_days.specs.Calendars.{calendars_from, calendar_from, dates_from}
+use Rattle.table_files.specs.Loading.{load_of, loaded_file}
 use Rattle.change_times.specs.Changes.{transfers_from, transfers_in}
 use Rattle.journey_model.specs.declared.faults.Input.TheVariants as input
 use Rattle.journey_problem.specs.CutProblems.{places_in}
@@ -23,30 +22,24 @@ use Rattle.journey_problem.specs.Files.{AgreeAt, ReadAlikeAt, HaveSameRecords, r
 use Rattle.journey_problem.specs.Paths.{AgreeFor, ReadAlike, no_path}
 
 agree_some : (path : Option (List ℕ)) (files other : FileMap) → ((path : List ℕ) → file_at files path ≡ file_at other path) → IfSome path (λ at. file_at files at ≡ file_at other at)
-agree_some None files other same = tt
-agree_some (Some path) files other same = same path
+agree_some path files other same = grind arith
 
 -- files that are the same at all paths are so at some
 pub agree_all : (paths : Input → Option (List ℕ)) (files other : FileMap) → ((path : List ℕ) → file_at files path ≡ file_at other path) → AgreeAt paths files other
 agree_all paths files other same input = agree_some (paths input) files other same
 
 agree_back : (path : Option (List ℕ)) (files other : FileMap) → IfSome path (λ at. file_at files at ≡ file_at other at) → IfSome path (λ at. file_at other at ≡ file_at files at)
-agree_back None files other same = tt
-agree_back (Some path) files other same = sym same
+agree_back path files other same = grind arith
 
 pub agree_sym : (paths : Input → Option (List ℕ)) (files other : FileMap) → AgreeAt paths files other → AgreeAt paths other files
 agree_sym paths files other same input = agree_back (paths input) files other (same input)
 
 records_back : (most : ℕ) (file other : Option (List ℕ)) → HaveSameRecords most file other → HaveSameRecords most other file
-records_back most None None same = tt
-records_back most None (Some b) same = absurd same
-records_back most (Some a) None same = absurd same
-records_back most (Some a) (Some b) same = (same.1, same.0, sym same.2)
+records_back most file other same = grind arith
 
 alike_back : (most : ℕ) (path : Option (List ℕ)) (files other : FileMap) → IfSome path (λ at. HaveSameRecords most (file_at files at) (file_at other at))
     → IfSome path (λ at. HaveSameRecords most (file_at other at) (file_at files at))
-alike_back most None files other same = tt
-alike_back most (Some path) files other same = records_back most (file_at files path) (file_at other path) same
+alike_back most path files other same = grind (arith, records_back)
 
 pub alike_sym : (most : ℕ) (paths : Input → Option (List ℕ)) (files other : FileMap) → ReadAlikeAt most paths files other → ReadAlikeAt most paths other files
 alike_sym most paths files other same input = alike_back most (paths input) files other (same input)
@@ -58,11 +51,7 @@ module _ (limits : Limits) where
   few file small = grind (arith, nat_tests)
 
   loaded_alike : (table : Table) (file other : Option (List ℕ)) → HaveSameRecords limits.bytes file other → loaded_file limits table file ≡ loaded_file limits table other
-  loaded_alike table None None same = refl
-  loaded_alike table None (Some b) same = absurd same
-  loaded_alike table (Some a) None same = absurd same
-  loaded_alike table (Some a) (Some b) same =
-      ap₂ (λ (long : Bool) (t : Records). if long then Err (TooLong table) else loaded_from table (rows_of limits table) t) (few a same.0 ∙ sym (few b same.1)) same.2
+  loaded_alike table file other same = grind (arith, few)
 
   load_alike : (unread : Option Table) (table : Table) (file other : Option (List ℕ)) → HaveSameRecords limits.bytes file other → load_of unread limits table file ≡ load_of unread limits table other
   load_alike unread table file other same =
@@ -70,10 +59,7 @@ module _ (limits : Limits) where
 
   present_alike : (kind : Input) (headless : Fault) (file other : Option (List ℕ)) → HaveSameRecords limits.bytes file other
       → and_then (bytes_present limits.bytes kind file) (λ bytes. with_header headless (table_of bytes)) ≡ and_then (bytes_present limits.bytes kind other) (λ bytes. with_header headless (table_of bytes))
-  present_alike kind headless None None same = refl
-  present_alike kind headless None (Some b) same = absurd same
-  present_alike kind headless (Some a) None same = absurd same
-  present_alike kind headless (Some a) (Some b) same = rw (few a same.0, few b same.1) (ap (with_header headless) same.2)
+  present_alike kind headless file other same = grind (arith, few)
 
   records_alike : (kind : Input) (headless : Fault) (unread : Option Input) (file other : Option (List ℕ)) → HaveSameRecords limits.bytes file other
       → records_of limits.bytes kind headless unread file ≡ records_of limits.bytes kind headless unread other
@@ -82,8 +68,7 @@ module _ (limits : Limits) where
       by_read : (b : Bool)
           → and_then (if b then Err (Read kind) else bytes_present limits.bytes kind file) (λ bytes. with_header headless (table_of bytes))
           ≡ and_then (if b then Err (Read kind) else bytes_present limits.bytes kind other) (λ bytes. with_header headless (table_of bytes))
-      by_read true = refl
-      by_read false = present_alike kind headless file other same
+      by_read b = grind (arith, present_alike)
 
 -- ---- what is loaded alike has the same problems and the same faults
 
@@ -111,8 +96,7 @@ module _ (limits : Limits) (files other : FileMap) where
 
     same_calendars : (unread : Option Table) → calendars_in files folder limits unread ≡ calendars_in other folder limits unread
     unfolding calendars_in
-    same_calendars unread =
-        ap₂ (λ (calendar dates : Result Loaded FeedFault). calendars_from (calendar_from calendar) (dates_from dates)) (loads unread Calendar) (loads unread CalendarDates)
+    same_calendars unread = grind arith
 
     same_transfers : (unread : Option Table) (feed : FeedParts) → transfers_in files folder limits unread feed ≡ transfers_in other folder limits unread feed
     same_transfers unread feed = ap (transfers_from feed) (loads unread Transfers)
@@ -125,8 +109,7 @@ module _ (limits : Limits) (files other : FileMap) where
     }
 
     same_later_fault : (f : FeedParts) (fault : FeedFault) → IsLaterTableFault limits files folder f fault → IsLaterTableFault limits other folder f fault
-    same_later_fault f fault (inl is) = inl (sym (same_calendars (unread_table fault)) ∙ is)
-    same_later_fault f fault (inr (ok, is)) = inr (subst (λ r. IsOk r) (same_calendars None) ok, sym (same_transfers (unread_table fault) f) ∙ is)
+    same_later_fault f fault h = grind (arith, same_calendars, same_transfers)
 
     same_folder_fault : (fault : FeedFault) → IsFolderFault limits files folder fault → IsFolderFault limits other folder fault
     same_folder_fault fault (inl is) = inl (sym (same_tables (unread_table fault)) ∙ is)
@@ -145,8 +128,7 @@ module _ (limits : Limits) (files other : FileMap) where
       }
 
       same_fault_after : (h : GtfsFolder) (fault : Fault) → IsFaultAfterFolder limits files horizon j h fault → IsFaultAfterFolder limits other horizon j h fault
-      same_fault_after h fault (inl is) = inl (sym (same_delay_fault j delays (unread_input fault)) ∙ is)
-      same_fault_after h fault (inr (none, window)) = inr (sym (same_delay_fault j delays None) ∙ none, window)
+      same_fault_after h fault is = grind (arith, same_delay_fault)
 
       same_feed_fault : (fault : Fault) → IsFeedProblemFault limits files folder horizon j fault → IsFeedProblemFault limits other folder horizon j fault
       same_feed_fault fault (inl (table, is, fails)) = inl (table, is, same_folder_fault table fails)
@@ -178,8 +160,7 @@ module _ (limits : Limits) (files other : FileMap) where
   LoadAlike (FeedFolder folder horizon) j = LoadsTables folder × LoadsDelays j
 
   over : (timetable : SourceModel) (j : JourneyModel) (p : Problem) → LoadAlike timetable j → IsProblemOver limits files timetable j p → IsProblemOver limits other timetable j p
-  over (CutFile path) j p same a = same_cut_problem path j same.0 same.1 p a
-  over (FeedFolder folder horizon) j p same a = same_feed_problem folder same.0 horizon j same.1 p a
+  over timetable j p same a = grind (arith, same_cut_problem, same_feed_problem)
 
   fault_over : (timetable : SourceModel) (j : JourneyModel) (fault : Fault) → LoadAlike timetable j → IsProblemFaultOver limits files timetable j fault
       → IsProblemFaultOver limits other timetable j fault

@@ -1,4 +1,4 @@
-use Rattle.journey_problem.proofs.Common.{if_raised}
+use Rattle.journey_problem.proofs.Common.{arith, if_raised}
 use Rattle.journey_model.specs.declared.faults.Input.TheVariants as input
 use Rattle.journey_problem.proofs.Causes.{causes-quiet}
 use Rattle.journey_problem.proofs.FeedSteps.{none_unread_of}
@@ -6,19 +6,13 @@ use Rattle.journey_problem.proofs.CertificateFiles.{unloaded, read, unread}
 use Rattle.journey_problem.proofs.certificate_files.read_certificate_file.Goals as goal
 
 pub returns-in_err-bytes-clause-fault : goal.returns-in_err-bytes-clause-fault
-returns-in_err-bytes-clause-fault g c = if_raised _ c.from_residual.result c.from_residual.ensures
-    (unloaded (g.F.Files.state c.args.files.now).files c.args.limits.now c.args.start.0 c.args.path.now c.args.problem.now _
-    c.in_err-bytes.ensures.stage c.in_err-bytes.ensures.bytes)
+returns-in_err-bytes-clause-fault g c = grind (arith, if_raised, unloaded)
 
 pub returns-clause-certificate : goal.returns-clause-certificate
-returns-clause-certificate g c =
-    read (g.F.Files.state c.args.files.now).files c.args.limits.now c.args.start.0 c.args.path.now c.args.problem.now c.in_ok-bytes.bytes.items c.as_slice.result.now
-    c.as_slice.ensures.value c.in_ok-bytes.ensures.bytes c.certificate_of_bytes.result c.certificate_of_bytes.ensures.certificate
+returns-clause-certificate g c = grind (arith, read)
 
 pub returns-clause-fault : goal.returns-clause-fault
-returns-clause-fault g c =
-    unread (g.F.Files.state c.args.files.now).files c.args.limits.now c.args.start.0 c.args.path.now c.args.problem.now c.in_ok-bytes.bytes.items c.as_slice.result.now
-    c.as_slice.ensures.value c.in_ok-bytes.ensures.bytes c.certificate_of_bytes.result c.certificate_of_bytes.ensures.fault c.certificate_of_bytes.ensures.stage c.certificate_of_bytes.ensures.read
+returns-clause-fault g c = grind (arith, unread)
 
 pub returns-clause-own : goal.returns-clause-own
 returns-clause-own g c = none_unread_of input.Proof c.certificate_of_bytes.result c.certificate_of_bytes.ensures.read

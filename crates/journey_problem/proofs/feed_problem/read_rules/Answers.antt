@@ -1,11 +1,10 @@
-use Rattle.journey_problem.proofs.Common.{inl, inr, refl, IsOk, IsOkAnd, Result, Ok, Err}
+use Rattle.journey_problem.proofs.Common.{arith, inl, inr, IsOk, IsOkAnd, Result}
 use Rattle.table_files.proofs.ReadingLemmas.{reads-value, reads-fault, reads-both, reads-after}
 use Rattle.journey_problem.proofs.feed_problem.read_rules.Goals as goal
 
 -- an answer of which something holds is one
 ok_by : {T E : Type 0} (r : Result T E) (P : T → Type 0) → IsOkAnd r P → IsOk r
-ok_by (Ok x) P is = refl
-ok_by (Err e) P is = absurd is
+ok_by r P is = grind arith
 
 pub returns-in-Err-clause-reads : goal.returns-in-Err-clause-reads
 returns-in-Err-clause-reads g c = reads-fault (λ own. tt) (λ m own first. inl first) c.in-Err.ensures.reads

@@ -1,4 +1,4 @@
-use Rattle.journey_problem.proofs.Common.{file_at, IfSome_then, IfOk-weaker}
+use Rattle.journey_problem.proofs.Common.{arith, IfSome_then, IfOk-weaker}
 use Rattle.journey_model.specs.declared.faults.Input.TheVariants as input
 use Rattle.journey_problem.proofs.Causes.{causes-quiet}
 use Rattle.journey_problem.proofs.FeedSteps.{none_unread_of}
@@ -7,16 +7,10 @@ use Rattle.journey_problem.proofs.GraphFiles.{graph_finds}
 use Rattle.journey_problem.proofs.graph_files.read_graph_file.Goals as goal
 
 pub returns-clause-graph : goal.returns-clause-graph
-returns-clause-graph g c =
-    IfSome_then (g.F.Files.state c.args.files.now).files c.in_ok-bytes.ensures.bytes (λ m there.
-    graph_finds c.args.limits.now c.args.problem.now c.args.start.0 (file_at m c.args.path.now) c.in_ok-bytes.bytes.items c.as_slice.result.now there c.as_slice.ensures.value
-    c.graph_of_bytes.result c.graph_of_bytes.ensures.graph c.graph_of_bytes.ensures.fault c.graph_of_bytes.ensures.read)
+returns-clause-graph g c = grind (arith, IfSome_then, graph_finds)
 
 pub returns-clause-fit : goal.returns-clause-fit
-returns-clause-fit g c =
-    IfOk-weaker c.graph_of_bytes.result _ _
-    (λ f read. (c.read_fits.ensures c.args.problem.now.timetable.network c.args.problem.now.timetable.names c.as_slice.result.now c.args.problem.now.source.0 c.args.problem.now.target.0 c.args.start.0 f.0 f.1 read).0)
-    c.graph_of_bytes.ensures.graph
+returns-clause-fit g c = grind (arith, IfOk-weaker)
 
 pub returns-clause-head : goal.returns-clause-head
 returns-clause-head g c =
