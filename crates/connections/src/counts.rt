@@ -1,14 +1,14 @@
 //! What the connections of a window add up to, before any of them is made.
-ghost use Rattle.std.specs.Prelude.{◌≡◌, ◌<◌, ◌^◌, ◌-◌, length, min};
+ghost use Rattle.std.specs.Prelude.{◌≡◌, ◌^◌, ◌-◌, length, min};
 ghost use Rattle.gtfs_tables.specs.TripRepeats.{IsFrequency};
 ghost use Rattle.connections.specs.Counts.{each_of, steps_sum, row_sum, rows_sum, runs_sum, trip_sum, day_sum, window_sum, HaveWays};
 
-use crate::feed_window::{FeedWindow, TripWindow};
+use crate::feed_window::{DAYS, FeedTrip, FeedWindow, TripWindow};
 use crate::origins::{Origin, ServiceDay};
 use crate::reach::may_run_on;
 use crate::repeats::leaving;
 use crate::runs::{leaves, may_run};
-use crate::window::{DAYS, Window};
+use crate::window::Window;
 use change_times::Changes;
 use gtfs_tables::{FrequencyRow, StopRow};
 use plan_model::PlaceId;
@@ -105,16 +105,15 @@ fn sum_runs(changes: &Changes, counted: Counted, trip: &TripWindow<'_>) -> u64
 }
 
 /// What the connections of a trip count for on a day.
-fn sum_trip(trips: &FeedWindow<'_>, counted: Counted, trip: u32, day: ServiceDay) -> u64
-    requires { trip < length trips.now.feed.now.trip_ids }
-    ensures { result ≡ min (trip_sum (each_of trips.now.changes.now counted) trips.now.feed.now
-        trips.now.days.now.services trips.now.window day trip) (2 ^ 64 - 1) }
+fn sum_trip(trip: &FeedTrip<'_>, counted: Counted, day: ServiceDay) -> u64
+    ensures { result ≡ min (trip_sum (each_of trip.now.trips.now.changes.now counted) trip.now.trips.now.feed.now
+        trip.now.trips.now.days.now.services trip.now.trips.now.window day trip.now.number) (2 ^ 64 - 1) }
 {
-    let runs = trips.trip(trip, day);
-    if !may_run(&runs) || !trips.is_active(trip, day) {
+    let runs = trip.on(day);
+    if !may_run(&runs) || !trip.is_active(day) {
         return 0;
     }
-    sum_runs(trips.changes, counted, &runs)
+    sum_runs(trip.trips.changes, counted, &runs)
 }
 
 /// What the connections of all trips count for on a day.
@@ -127,8 +126,12 @@ fn sum_day(trips: &FeedWindow<'_>, counted: Counted, day: ServiceDay) -> u64
         return 0;
     }
     let mut sum = 0u64;
-    for trip in 0..trips.trips {
-        sum = sum.saturating_add(sum_trip(trips, counted, trip, day));
+    for number in 0..trips.trips {
+        let trip = FeedTrip {
+            trips: &*trips,
+            number,
+        };
+        sum = sum.saturating_add(sum_trip(&trip, counted, day));
     }
     sum
 }
@@ -141,7 +144,7 @@ pub(crate) fn sum_window(trips: &FeedWindow<'_>, counted: Counted) -> u64
 {
     let mut sum = 0u64;
     for d in 0..DAYS {
-        let day = sum_day(trips, counted, trips.window.day(d));
+        let day = sum_day(trips, counted, trips.day(d));
         sum = sum.saturating_add(day);
     }
     sum

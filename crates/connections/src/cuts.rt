@@ -6,7 +6,6 @@ ghost use Rattle.change_times.specs.Changes.{place_seconds, links_of, LinksComeF
 ghost use Rattle.plan_model.specs.Bounds.{first_start, last_start, most_connections};
 ghost use Rattle.plan_model.specs.NameLists.{NamesFit};
 ghost use Rattle.connections.specs.Window.{most_hours};
-ghost use Rattle.connections.specs.FeedRuns.{AreRunsOf, HaveConnections};
 ghost use Rattle.connections.specs.FeedNetworks.{connections_below, AreChanges, AreRunNames, IsNetworkOf};
 ghost use Rattle.connections.specs.Cut.{IsNetworkFrom, connection_count, fault_from};
 ghost use Rattle.connections.specs.Faults.{window_fault};
@@ -15,10 +14,11 @@ ghost use Rattle.connections.specs.Counts.{count_in, entries_in};
 use crate::counts::{Counted, most_ways, sum_window};
 use crate::feed_window::FeedWindow;
 use crate::names::names_of;
-use crate::runs::{Run, runs_of};
+use crate::runs::runs_of;
 use crate::trip_days::TripDays;
-use crate::window::Window;
+use crate::window::Horizon;
 use crate::window_connections::connections_of;
+use crate::window_runs::WindowRuns;
 use change_times::Changes;
 use csv_rows::Limits;
 use delay_table::DelayTable;
@@ -38,35 +38,13 @@ pub enum WindowFault {
     NoMemory,
 }
 
-/// The network of the connections of these runs in the window, and its names.
-fn network_of_runs(
-    alloc: Global,
-    trips: &FeedWindow<'_>,
-    change: List<u32>,
-    delays: &DelayTable,
-    runs: &[Run],
-    room: u64,
-) -> Result<(Network, Names), NoMemory>
-    requires runs { AreRunsOf trips.now.feed.now runs.now }
-    requires some { HaveConnections trips.now.feed.now trips.now.window runs.now }
-    requires few { length (connections_below trips.now.feed.now delays.now trips.now.window runs.now
-        (length runs.now)) ≤ most_connections }
-    requires places { length change ≡ length trips.now.feed.now.stop_ids }
-    requires change { AreChanges change }
-    ensures connections { IfOk result (λ r. r.0.connections
-        ≡ connections_below trips.now.feed.now delays.now trips.now.window runs.now (length runs.now)) }
-    ensures change { IfOk result (λ r. r.0.change ≡ change) }
-    ensures classes { IfOk result (λ r. r.0.classes ≡ delays.now.classes) }
-    ensures links { IfOk result (λ r. r.0.links ≡ []) }
-    ensures places { IfOk result (λ r. r.1.places ≡ trips.now.feed.now.stop_ids) }
-    ensures runs { IfOk result (λ r.
-        AreRunNames trips.now.feed.now runs.now (length runs.now) r.1.runs) }
-    ensures fit { IfOk result (λ r. NamesFit r.1 r.0) }
-{
-    let classes = delays.classes(alloc)?;
-    let names = names_of(alloc, trips, runs)?;
-    let connections = connections_of(alloc, trips, delays, runs, room)?;
-    Ok((Network::from_parts(connections, change, classes), names))
+/// A window with the count of its connections, which a network can have.
+#[derive(Clone, Copy)]
+struct CountedWindow<'a> {
+    trips: &'a FeedWindow<'a>,
+    count: u64,
+    ghost exact: { count ≡ count_in trips.now.feed.now trips.now.days.now.services trips.now.window },
+    ghost few: { count ≤ most_connections },
 }
 
 /// How many connections a window has.
@@ -76,28 +54,32 @@ fn connections_within(trips: &FeedWindow<'_>) -> u64
     sum_window(trips, Counted::Connections)
 }
 
-/// How many entries a window has, of no more than the most connections.
-fn entries_within(trips: &FeedWindow<'_>) -> u64
-    requires { count_in trips.now.feed.now trips.now.days.now.services trips.now.window ≤ most_connections }
-    ensures { result ≡ entries_in trips.now.feed.now trips.now.days.now.services trips.now.changes.now
-        trips.now.window }
-{
-    sum_window(trips, Counted::Entries)
+impl<'a> CountedWindow<'a> {
+    /// How many entries it has.
+    fn entries(&self) -> u64
+        ensures { result ≡ entries_in self.now.trips.now.feed.now self.now.trips.now.days.now.services
+            self.now.trips.now.changes.now self.now.trips.now.window }
+    {
+        sum_window(self.trips, Counted::Entries)
+    }
+
+    /// Whether it cannot have too many entries, since few ways lead into each place.
+    fn has_few_entries(&self, limits: &Limits) -> bool
+        ensures { result ≡ true → entries_in self.now.trips.now.feed.now self.now.trips.now.days.now.services
+            self.now.trips.now.changes.now self.now.trips.now.window ≤ limits.now.entries }
+    {
+        let most = most_ways(self.trips.changes, self.trips.stops);
+        self.count.saturating_mul(most) <= limits.entries
+    }
 }
 
-/// Whether a window of this many connections cannot have too many entries, since few ways lead into each place.
-fn has_few_entries(trips: &FeedWindow<'_>, limits: &Limits, count: u64) -> bool
-    requires { count ≡ count_in trips.now.feed.now trips.now.days.now.services trips.now.window }
-    ensures { result ≡ true → entries_in trips.now.feed.now trips.now.days.now.services trips.now.changes.now
-        trips.now.window ≤ limits.now.entries }
-{
-    let most = count.saturating_mul(most_ways(trips.changes, trips.stops));
-    most <= limits.entries
-}
-
-/// How many connections a window has, or its first fault.
-fn count_within(trips: &FeedWindow<'_>, limits: &Limits) -> Result<u64, WindowFault>
-    ensures { result_err result ≡ window_fault limits.now
+/// A window with the count of its connections, or its first fault.
+fn count_within<'a>(
+    trips: &'a FeedWindow<'a>,
+    limits: &Limits,
+) -> Result<CountedWindow<'a>, WindowFault>
+    ensures trips { IfOk result (λ counted. counted.trips.now ≡ trips.now) }
+    ensures fault { result_err result ≡ window_fault limits.now
         (count_in trips.now.feed.now trips.now.days.now.services trips.now.window)
         (entries_in trips.now.feed.now trips.now.days.now.services trips.now.changes.now trips.now.window) }
 {
@@ -105,14 +87,15 @@ fn count_within(trips: &FeedWindow<'_>, limits: &Limits) -> Result<u64, WindowFa
     if limits.connections < count {
         return Err(WindowFault::TooMany(count));
     }
-    if has_few_entries(trips, limits, count) {
-        return Ok(count);
+    let counted = CountedWindow { trips, count };
+    if counted.has_few_entries(limits) {
+        return Ok(counted);
     }
-    let entries = entries_within(trips);
+    let entries = counted.entries();
     if limits.entries < entries {
         return Err(WindowFault::TooManyEntries(entries));
     }
-    Ok(count)
+    Ok(counted)
 }
 
 /// The change seconds of each place.
@@ -141,30 +124,54 @@ fn links_of(alloc: Global, changes: &Changes, places: u32) -> Result<List<List<W
     Ok(links)
 }
 
-/// The network of the connections that depart in the window, and the names of its places and runs. Room for `room`
+/// The network of the connections of these runs, without links, and its names.
+fn network_of_runs(
+    alloc: Global,
+    runs: &WindowRuns<'_>,
+    delays: &DelayTable,
+    room: u64,
+) -> Result<(Network, Names), NoMemory>
+    ensures connections { IfOk result (λ r. r.0.connections ≡ connections_below runs.now.trips.now.feed.now
+        delays.now runs.now.trips.now.window runs.now.list.now (length runs.now.list.now)) }
+    ensures change { IfOk result (λ r. r.0.change ≡ list_below (place_seconds runs.now.trips.now.changes.now)
+        (length runs.now.trips.now.feed.now.stop_ids)) }
+    ensures classes { IfOk result (λ r. r.0.classes ≡ delays.now.classes) }
+    ensures links { IfOk result (λ r. r.0.links ≡ []) }
+    ensures places { IfOk result (λ r. r.1.places ≡ runs.now.trips.now.feed.now.stop_ids) }
+    ensures runs { IfOk result (λ r.
+        AreRunNames runs.now.trips.now.feed.now runs.now.list.now (length runs.now.list.now) r.1.runs) }
+    ensures fit { IfOk result (λ r. NamesFit r.1 r.0) }
+{
+    let change = changes_of(alloc, runs.trips.changes, runs.trips.stops)?;
+    let classes = delays.classes(alloc)?;
+    let names = names_of(alloc, runs)?;
+    let connections = connections_of(alloc, runs, delays, room)?;
+    Ok((Network::from_parts(connections, change, classes), names))
+}
+
+/// The network of the connections that depart in the window, and the names of its places and runs. Room for all
 /// connections is taken at once.
 #[tactic(auto, using(crate::proofs::JoinLemmas::list_steps))]
 fn network_of(
     alloc: Global,
-    trips: &FeedWindow<'_>,
+    counted: &CountedWindow<'_>,
     delays: &DelayTable,
-    room: u64,
 ) -> Result<(Network, Names), NoMemory>
-    requires few { count_in trips.now.feed.now trips.now.days.now.services trips.now.window
-        ≤ most_connections }
-    requires links { LinksComeFrom (length trips.now.feed.now.stop_ids) trips.now.changes.now }
-    ensures network { IfOk result (λ r. IsNetworkOf trips.now.feed.now trips.now.days.now.services
-        (list_below (place_seconds trips.now.changes.now) (length trips.now.feed.now.stop_ids))
-        (list_below (links_of trips.now.changes.now) (length trips.now.feed.now.stop_ids))
-        delays.now trips.now.window r.0 r.1) }
+    requires { LinksComeFrom (length counted.now.trips.now.feed.now.stop_ids) counted.now.trips.now.changes.now }
+    ensures network { IfOk result (λ r. IsNetworkOf counted.now.trips.now.feed.now
+        counted.now.trips.now.days.now.services
+        (list_below (place_seconds counted.now.trips.now.changes.now) (length counted.now.trips.now.feed.now.stop_ids))
+        (list_below (links_of counted.now.trips.now.changes.now) (length counted.now.trips.now.feed.now.stop_ids))
+        delays.now counted.now.trips.now.window r.0 r.1) }
     ensures fit { IfOk result (λ r. NamesFit r.1 r.0) }
-    ensures count { IfOk result (λ r. length r.0.connections
-        ≡ count_in trips.now.feed.now trips.now.days.now.services trips.now.window) }
+    ensures count { IfOk result (λ r. length r.0.connections ≡ counted.now.count) }
 {
-    let runs = runs_of(alloc, trips)?;
-    let change = changes_of(alloc, trips.changes, trips.stops)?;
+    let trips = counted.trips;
+    let found = runs_of(alloc, trips)?;
     let links = links_of(alloc, trips.changes, trips.stops)?;
-    let (network, names) = network_of_runs(alloc, trips, change, delays, runs.as_slice(), room)?;
+    let list = found.as_slice();
+    let runs = WindowRuns { trips, list };
+    let (network, names) = network_of_runs(alloc, &runs, delays, counted.count)?;
     Ok((network.with_links(links), names))
 }
 
@@ -206,9 +213,13 @@ pub fn cut(
         → fault_from limits.now feed.now services.now changes.now start.0 horizon ≡ Some f) }
 {
     let days = TripDays::of(alloc, feed, services)?;
-    let trips = FeedWindow::new(&days, changes, Window::new(start.0, horizon));
-    let count = count_within(&trips, limits)?;
-    Ok(network_of(alloc, &trips, delays, count)?)
+    let hours = Horizon {
+        start: start.0,
+        hours: horizon,
+    };
+    let trips = FeedWindow::new(&days, changes, hours);
+    let counted = count_within(&trips, limits)?;
+    Ok(network_of(alloc, &counted, delays)?)
 }
 
 impl From<NoMemory> for WindowFault {

@@ -7,7 +7,7 @@ ghost use Rattle.csv_rows.specs.Limits.{standard};
 ghost use Rattle.change_times.specs.Changes.{links_of};
 ghost use Rattle.gtfs_tables.specs.TripRepeats.{AreRepeats, AreRepeating, IsSmall};
 ghost use Rattle.gtfs_tables.specs.Timed.{IsTimed, rows_of};
-ghost use Rattle.connections.specs.Window.{IsWindow};
+ghost use Rattle.connections.specs.Window.{IsWindow, window_of, day_at};
 ghost use Rattle.connections.specs.Steps.{DepartOnDay, is_active_trip};
 ghost use Rattle.connections.specs.TripRuns.{frequencies_of};
 ghost use Rattle.connections.specs.Reach.{AreOverBy};
@@ -15,10 +15,16 @@ ghost use Rattle.connections.specs.Reach.{AreOverBy};
 use crate::origins::ServiceDay;
 use crate::reach::latest_of;
 use crate::trip_days::TripDays;
-use crate::window::Window;
+use crate::window::{Horizon, Window};
 use change_times::Changes;
 use gtfs_tables::{Feed, FrequencyRow, StopRow};
-use plan_model::PlaceId;
+use plan_model::{PlaceId, SECONDS_PER_DAY};
+
+/// How many service days a window has: from 14 before the date of its start to 3 after it.
+pub(crate) const DAYS: u8 = 18;
+
+/// How many of them are before the date of its start.
+const DAYS_BEFORE: i32 = 14;
 
 /// The trips of a feed with the days on which their services are active and the changes at its places, and the window in which
 /// their runs are looked for.
@@ -52,6 +58,16 @@ pub(crate) struct FeedWindow<'a> {
     pub(crate) ghost linked: { (to : ℕ) → AreLinksInto (2 ^ 32) to (links_of changes.now to) },
 }
 
+/// A trip of a feed.
+#[derive(Clone, Copy)]
+pub(crate) struct FeedTrip<'a> {
+    /// The trips of the feed.
+    pub(crate) trips: &'a FeedWindow<'a>,
+    /// The number of the trip.
+    pub(crate) number: u32,
+    pub(crate) ghost inside: { number < length trips.now.feed.now.trip_ids },
+}
+
 /// A trip of a feed on a service day, and the window in which its runs are looked for.
 #[derive(Clone, Copy)]
 pub(crate) struct TripWindow<'a> {
@@ -73,13 +89,12 @@ impl<'a> FeedWindow<'a> {
     pub(crate) fn new(
         days: &'a TripDays<'a>,
         changes: &'a Changes,
-        window: Window,
+        horizon: Horizon,
     ) -> FeedWindow<'a>
-        requires { IsWindow window }
         ensures feed { result.feed.now ≡ days.now.feed }
         ensures days { result.days.now ≡ days.now }
         ensures changes { result.changes.now ≡ changes.now }
-        ensures window { result.window ≡ window }
+        ensures window { result.window ≡ window_of horizon.start horizon.hours }
     {
         let feed = days.feed();
         let _links = changes.links_into(PlaceId(0));
@@ -87,34 +102,46 @@ impl<'a> FeedWindow<'a> {
             feed,
             days,
             changes,
-            window,
+            window: horizon.window(),
             stops: feed.stop_count(),
             trips: feed.trip_count(),
             latest: latest_of(feed),
         }
     }
 
-    /// Whether the service of a trip is active on a day.
-    pub(crate) fn is_active(&self, trip: u32, day: ServiceDay) -> bool
-        requires { trip < length self.now.feed.now.trip_ids }
-        ensures { result ≡ is_active_trip self.now.feed.now self.now.days.now.services day trip }
+    /// A service day whose trips may depart in the window, the first of which is 14 days before the date of the start.
+    pub(crate) fn day(&self, d: u8) -> ServiceDay
+        ensures { result ≡ day_at self.now.window d }
     {
-        self.days.is_active(trip, day)
+        let start = (self.window.start / u64::from(SECONDS_PER_DAY)) as i32;
+        ServiceDay {
+            number: start + i32::from(d) - DAYS_BEFORE,
+        }
+    }
+}
+
+impl<'a> FeedTrip<'a> {
+    /// Whether its service is active on a day.
+    pub(crate) fn is_active(&self, day: ServiceDay) -> bool
+        ensures { result ≡ is_active_trip self.now.trips.now.feed.now self.now.trips.now.days.now.services day
+            self.now.number }
+    {
+        self.trips.days.is_active(self.number, day)
     }
 
-    /// A trip on a service day.
-    pub(crate) fn trip(&self, trip: u32, day: ServiceDay) -> TripWindow<'a>
-        requires { trip < length self.now.feed.now.trip_ids }
-        ensures rows { result.rows.now ≡ rows_of self.now.feed.now trip }
-        ensures frequencies { result.frequencies.now ≡ frequencies_of self.now.feed.now trip }
+    /// The trip on a service day.
+    pub(crate) fn on(&self, day: ServiceDay) -> TripWindow<'a>
+        ensures rows { result.rows.now ≡ rows_of self.now.trips.now.feed.now self.now.number }
+        ensures frequencies { result.frequencies.now ≡ frequencies_of self.now.trips.now.feed.now self.now.number }
         ensures day { result.day ≡ day }
-        ensures window { result.window ≡ self.now.window }
+        ensures window { result.window ≡ self.now.trips.now.window }
     {
+        let feed = self.trips.feed;
         TripWindow {
-            rows: self.feed.stop_times(trip),
-            frequencies: self.feed.frequencies(trip),
+            rows: feed.stop_times(self.number),
+            frequencies: feed.frequencies(self.number),
             day,
-            window: self.window,
+            window: self.trips.window,
         }
     }
 }

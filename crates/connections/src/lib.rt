@@ -15,5 +15,6 @@ mod runs;
 mod trip_days;
 mod window;
 mod window_connections;
+mod window_runs;
 
 pub use cuts::{WindowFault, cut};

@@ -1,17 +1,17 @@
 //! The runs that depart in a window.
-ghost use Rattle.std.specs.Prelude.{◌≡◌, ◌<◌, ◌++◌, length, map, [], false, All, IfOk, OnOk};
-ghost use Rattle.stop_times.specs.StopTimeBounds.{end_of_times};
+ghost use Rattle.std.specs.Prelude.{◌≡◌, ◌<◌, ◌++◌, length, map, [], false, IfOk, OnOk};
 ghost use Rattle.connections.specs.Joins.{only_if};
 ghost use Rattle.connections.specs.Window.{holds};
 ghost use Rattle.connections.specs.Origins.{origin_of_day};
 ghost use Rattle.connections.specs.Steps.{departs, has_connection, steps_of};
+ghost use Rattle.connections.specs.RepeatedRuns.{rows_repeats, in_order};
 ghost use Rattle.connections.specs.TripRuns.{own_run, repeat_run, runs_of_trip, trip_runs, day_runs, window_runs};
 
-use crate::feed_window::{FeedWindow, TripWindow};
+use crate::feed_window::{DAYS, FeedTrip, FeedWindow, TripWindow};
 use crate::origins::{Origin, ServiceDay};
 use crate::reach::may_run_on;
 use crate::repeats::{Repeat, origin_at, repeats_of};
-use crate::window::{DAYS, Window};
+use crate::window::Window;
 use gtfs_tables::StopRow;
 use plan_model::NoMemory;
 use std::alloc::Global;
@@ -103,18 +103,19 @@ fn add_own(runs: &mut Vec<Run>, trip: &TripWindow<'_>, number: u32) -> Result<()
     Ok(())
 }
 
-/// Adds these runs of a trip that repeats.
+/// Adds the runs of a trip that repeats which depart in the window.
 fn add_repeats(
+    alloc: Global,
     runs: &mut Vec<Run>,
     trip: &TripWindow<'_>,
     number: u32,
-    repeats: &[Repeat],
 ) -> Result<(), NoMemory>
-    requires some { 0 < length repeats.now → 0 < length trip.now.rows.now }
-    requires early { All (λ r. r.departure < end_of_times) repeats.now }
-    ensures { OnOk result (runs.new.items
-        ≡ runs.old.items ++ map (repeat_run trip.now.rows.now trip.now.day number) repeats.now) }
+    ensures { OnOk result (runs.new.items ≡ runs.old.items
+        ++ map (repeat_run trip.now.rows.now trip.now.day number)
+        (in_order (rows_repeats trip.now.window trip.now.rows.now trip.now.day trip.now.frequencies.now))) }
 {
+    let found = repeats_of(alloc, trip)?;
+    let repeats = found.as_slice();
     for k in 0..repeats.len() {
         let repeat = repeats[k];
         runs.push(Run {
@@ -139,27 +140,25 @@ fn add_trip(
     if trip.frequencies.is_empty() {
         return add_own(runs, trip, number);
     }
-    let repeats = repeats_of(alloc, trip)?;
-    add_repeats(runs, trip, number, repeats.as_slice())
+    add_repeats(alloc, runs, trip, number)
 }
 
 /// Adds the runs of a trip that depart in the window on a day, where its service is active then.
 fn add_active(
     alloc: Global,
     runs: &mut Vec<Run>,
-    trips: &FeedWindow<'_>,
-    trip: u32,
+    trip: &FeedTrip<'_>,
     day: ServiceDay,
 ) -> Result<(), NoMemory>
-    requires { trip < length trips.now.feed.now.trip_ids }
     ensures { OnOk result (runs.new.items ≡ runs.old.items
-        ++ trip_runs trips.now.feed.now trips.now.days.now.services trips.now.window day trip) }
+        ++ trip_runs trip.now.trips.now.feed.now trip.now.trips.now.days.now.services trip.now.trips.now.window
+        day trip.now.number) }
 {
-    let found = trips.trip(trip, day);
-    if !may_run(&found) || !trips.is_active(trip, day) {
+    let found = trip.on(day);
+    if !may_run(&found) || !trip.is_active(day) {
         return Ok(());
     }
-    add_trip(alloc, runs, &found, trip)
+    add_trip(alloc, runs, &found, trip.number)
 }
 
 /// Adds the runs of the trips that are active on a day and depart in the window then.
@@ -177,8 +176,16 @@ fn add_day(
     if !may_run_on(trips, day) {
         return Ok(());
     }
-    for trip in 0..trips.trips {
-        add_active(alloc, runs, trips, trip, day)?;
+    for number in 0..trips.trips {
+        add_active(
+            alloc,
+            runs,
+            &FeedTrip {
+                trips: &*trips,
+                number,
+            },
+            day,
+        )?;
     }
     Ok(())
 }
@@ -192,7 +199,7 @@ pub(crate) fn runs_of(alloc: Global, trips: &FeedWindow<'_>) -> Result<Vec<Run>,
 {
     let mut runs: Vec<Run> = Vec::new(alloc);
     for d in 0..DAYS {
-        add_day(alloc, &mut runs, trips, trips.window.day(d))?;
+        add_day(alloc, &mut runs, trips, trips.day(d))?;
     }
     Ok(runs)
 }

@@ -1,17 +1,33 @@
 //! A window of time.
-ghost use Rattle.std.specs.Prelude.{◌≡◌, ◌+◌, ◌*◌, ◌≤◌, ◌<◌, pos, int_lt};
-ghost use Rattle.plan_model.specs.Bounds.{last_start};
-ghost use Rattle.connections.specs.TripRuns.{days};
-ghost use Rattle.connections.specs.Window.{window_of, holds, day_at, most_hours, IsWindow};
+ghost use Rattle.std.specs.Prelude.{◌≡◌, ◌≤◌, pos, int_lt};
+ghost use Rattle.plan_model.specs.Bounds.{first_start, last_start};
+ghost use Rattle.connections.specs.Window.{window_of, holds, most_hours};
 
-use crate::origins::ServiceDay;
-use plan_model::{SECONDS_PER_DAY, SECONDS_PER_HOUR};
+use plan_model::SECONDS_PER_HOUR;
 
-/// How many service days a window has: from 14 before the date of its start to 3 after it.
-pub(crate) const DAYS: u32 = 18;
+/// How many hours a window has, and its start, at which a journey may start.
+#[derive(Clone, Copy)]
+pub(crate) struct Horizon {
+    /// The start, in seconds since 1970-01-01.
+    pub(crate) start: u64,
+    /// How many hours it has: 72 at most.
+    pub(crate) hours: u32,
+    pub(crate) ghost early: { first_start ≤ start },
+    pub(crate) ghost late: { start ≤ last_start },
+    pub(crate) ghost few: { hours ≤ most_hours },
+}
 
-/// How many of them are before the date of its start.
-const DAYS_BEFORE: i32 = 14;
+impl Horizon {
+    /// The window.
+    pub(crate) fn window(self) -> Window
+        ensures { result ≡ window_of self.start self.hours }
+    {
+        Window {
+            start: self.start,
+            end: self.start + SECONDS_PER_HOUR * u64::from(self.hours),
+        }
+    }
+}
 
 /// The moments from a start to an end, both included, in seconds since 1970-01-01.
 #[derive(Clone, Copy)]
@@ -21,18 +37,6 @@ pub(crate) struct Window {
 }
 
 impl Window {
-    /// The window of this many hours from a start on.
-    pub(crate) fn new(start: u64, horizon: u32) -> Window
-        requires start { start ≤ last_start }
-        requires horizon { horizon ≤ most_hours }
-        ensures { result ≡ window_of start horizon }
-    {
-        Window {
-            start,
-            end: start + SECONDS_PER_HOUR * u64::from(horizon),
-        }
-    }
-
     /// Whether a moment lies in the window, which may be one before 1970.
     pub(crate) fn holds(self, moment: i64) -> bool
         ensures { result ≡ holds self moment }
@@ -56,16 +60,5 @@ impl Window {
         ensures { result ≡ int_lt moment (pos self.start) }
     {
         moment < 0 || moment.unsigned_abs() < self.start
-    }
-
-    /// A service day whose trips may depart in the window, the first of which is 14 days before the date of the start.
-    pub(crate) fn day(self, d: u32) -> ServiceDay
-        requires window { IsWindow self }
-        requires inside { d < days }
-        ensures { result ≡ day_at self d }
-    {
-        ServiceDay {
-            number: (self.start / u64::from(SECONDS_PER_DAY)) as i32 + d as i32 - DAYS_BEFORE,
-        }
     }
 }

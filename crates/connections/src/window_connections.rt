@@ -1,15 +1,15 @@
 //! The connections of a window.
+ghost use Rattle.std.proofs.Props.{props};
 ghost use Rattle.std.specs.Prelude.{◌≡◌, ◌+◌, ◌≤◌, ◌<◌, ◌++◌, ℕ, length, map, unsigned_abs, OnOk, IfOk, IfSome};
-ghost use Rattle.plan_model.specs.Bounds.{end_of_steps, most_connections};
+ghost use Rattle.plan_model.specs.Bounds.{end_of_steps};
 ghost use Rattle.connections.specs.Steps.{steps_of};
-ghost use Rattle.connections.specs.FeedRuns.{AreRunsOf};
 ghost use Rattle.connections.specs.RouteNumbers.{route_numbers, IsRouteOf, IsClassOfHour};
 ghost use Rattle.connections.specs.FeedNetworks.{arrives, class_of_trip, connection_from, connections_below};
 
-use crate::feed_window::FeedWindow;
 use crate::origins::Origin;
-use crate::runs::{Run, leaves};
+use crate::runs::leaves;
 use crate::window::Window;
+use crate::window_runs::WindowRuns;
 use delay_table::{ClassName, DelayTable};
 use gtfs_tables::{Feed, StopRow};
 use plan_model::{
@@ -18,13 +18,28 @@ use plan_model::{
 use std::alloc::Global;
 use text_index::TextIndex;
 
-/// A run by its origin, its number and its trip, and the number of its route among those that the delays name.
+/// A run of a feed by its origin, its number and its trip, and the number of its route among those that the delays name.
 #[derive(Clone, Copy)]
-struct Numbered {
+struct NumberedRun<'a> {
+    feed: &'a Feed,
+    delays: &'a DelayTable,
+    /// The kept rows of the trip.
+    rows: &'a [StopRow],
     origin: Origin,
     number: u32,
     trip: u32,
     route: Option<u32>,
+    ghost inside: { trip < length feed.now.trip_ids },
+    ghost few: { length rows.now ≤ end_of_steps },
+    ghost routed: { IsRouteOf feed.now delays.now trip route } by { Prim.hlevel props },
+}
+
+/// A step of a run, from one kept row to the next.
+#[derive(Clone, Copy)]
+struct RunStep<'a> {
+    run: &'a NumberedRun<'a>,
+    row: usize,
+    ghost inside: { row + 1 < length run.now.rows.now },
 }
 
 /// The class of the connections of a run that arrive in an hour of the day.
@@ -53,28 +68,18 @@ fn route_numbers(
 }
 
 /// The number of the class of a connection of a run, by its arrival.
-fn class_of(feed: &Feed, delays: &DelayTable, run: &Numbered, arrival: u64) -> u16
-    requires inside { run.now.trip < length feed.now.trip_ids }
-    requires route { IsRouteOf feed.now delays.now run.now.trip run.now.route }
-    ensures { result ≡ class_of_trip feed.now delays.now run.now.trip arrival }
+fn class_of(run: &NumberedRun<'_>, arrival: u64) -> u16
+    ensures { result ≡ class_of_trip run.now.feed.now run.now.delays.now run.now.trip arrival }
 {
-    let class = ClassName::Route(feed.route_type(run.trip));
-    delays.class_at(class, run.route, Moment(arrival)).0
+    let class = ClassName::Route(run.feed.route_type(run.trip));
+    run.delays.class_at(class, run.route, Moment(arrival)).0
 }
 
 /// The same with the hour of the arrival, by the class of an hour that is known.
-fn class_in_hour(
-    feed: &Feed,
-    delays: &DelayTable,
-    run: &Numbered,
-    arrival: u64,
-    known: Option<HourClass>,
-) -> HourClass
-    requires inside { run.now.trip < length feed.now.trip_ids }
-    requires route { IsRouteOf feed.now delays.now run.now.trip run.now.route }
-    requires known { IfSome known (IsClassOfHour feed.now delays.now run.now.trip) }
-    ensures class { result.class ≡ class_of_trip feed.now delays.now run.now.trip arrival }
-    ensures hour { IsClassOfHour feed.now delays.now run.now.trip result }
+fn class_in_hour(run: &NumberedRun<'_>, arrival: u64, known: Option<HourClass>) -> HourClass
+    requires { IfSome known (IsClassOfHour run.now.feed.now run.now.delays.now run.now.trip) }
+    ensures class { result.class ≡ class_of_trip run.now.feed.now run.now.delays.now run.now.trip arrival }
+    ensures hour { IsClassOfHour run.now.feed.now run.now.delays.now run.now.trip result }
 {
     let hour = arrival / SECONDS_PER_HOUR % HOURS_PER_DAY;
     if let Some(known) = known {
@@ -82,38 +87,39 @@ fn class_in_hour(
             return known;
         }
     }
-    let class = class_of(feed, delays, run, arrival);
+    let class = class_of(run, arrival);
     HourClass { hour, class }
 }
 
-/// When the connection from one kept row to the next arrives, where it departs in a window, whose moments are not before 1970.
-fn arrival_of(rows: &[StopRow], step: usize, origin: Origin) -> u64
-    requires { step + 1 < length rows.now }
-    ensures { result ≡ unsigned_abs (arrives rows.now origin step) }
-{
-    origin.plus(rows[step + 1].arrival).unsigned_abs()
-}
+impl<'a> RunStep<'a> {
+    /// When its connection arrives, where that departs in a window, whose moments are not before 1970.
+    fn arrival(&self) -> u64
+        ensures { result ≡ unsigned_abs (arrives self.now.run.now.rows.now self.now.run.now.origin self.now.row) }
+    {
+        let to = self.run.rows[self.row + 1];
+        self.run.origin.plus(to.arrival).unsigned_abs()
+    }
 
-/// The connection from one kept row to the next, with its class, where it departs in a window, whose moments are not before
-/// 1970.
-fn connection_from(rows: &[StopRow], step: usize, run: &Numbered, class: u16) -> Connection
-    requires inside { step + 1 < length rows.now }
-    requires few { step ≤ end_of_steps }
-    ensures { (class_by : ℕ → ℕ) → class ≡ class_by (unsigned_abs (arrives rows.now run.now.origin step))
-        → result ≡ connection_from rows.now run.now.origin run.now.number class_by step }
-{
-    let from = rows[step];
-    let to = rows[step + 1];
-    Connection {
-        from: from.place,
-        to: to.place,
-        dep: Moment(run.origin.plus(from.departure).unsigned_abs()),
-        arr: Moment(arrival_of(rows, step, run.origin)),
-        run: RunId(run.number),
-        step: step as u32,
-        class: ClassId(class),
-        can_board: from.can_board,
-        can_exit: to.can_exit,
+    /// Its connection, with its class, where that departs in a window, whose moments are not before 1970.
+    fn connection(&self, class: u16) -> Connection
+        ensures { (class_by : ℕ → ℕ)
+            → class ≡ class_by (unsigned_abs (arrives self.now.run.now.rows.now self.now.run.now.origin self.now.row))
+            → result ≡ connection_from self.now.run.now.rows.now self.now.run.now.origin self.now.run.now.number
+            class_by self.now.row }
+    {
+        let from = self.run.rows[self.row];
+        let to = self.run.rows[self.row + 1];
+        Connection {
+            from: from.place,
+            to: to.place,
+            dep: Moment(self.run.origin.plus(from.departure).unsigned_abs()),
+            arr: Moment(self.arrival()),
+            run: RunId(self.run.number),
+            step: self.row as u32,
+            class: ClassId(class),
+            can_board: from.can_board,
+            can_exit: to.can_exit,
+        }
     }
 }
 
@@ -121,25 +127,20 @@ fn connection_from(rows: &[StopRow], step: usize, run: &Numbered, class: u16) ->
 #[tactic(auto, using(crate::proofs::StepLemmas::map_steps))]
 fn add_connections(
     connections: &mut Vec<Connection>,
-    feed: &Feed,
-    delays: &DelayTable,
-    rows: &[StopRow],
-    run: &Numbered,
+    run: &NumberedRun<'_>,
     window: Window,
 ) -> Result<(), NoMemory>
-    requires trip { run.now.trip < length feed.now.trip_ids }
-    requires route { IsRouteOf feed.now delays.now run.now.trip run.now.route }
-    requires few { length rows.now ≤ end_of_steps }
     ensures { OnOk result (connections.new.items
-        ≡ connections.old.items ++ map (connection_from rows.now run.now.origin run.now.number
-        (class_of_trip feed.now delays.now run.now.trip)) (steps_of window rows.now run.now.origin)) }
+        ≡ connections.old.items ++ map (connection_from run.now.rows.now run.now.origin run.now.number
+        (class_of_trip run.now.feed.now run.now.delays.now run.now.trip))
+        (steps_of window run.now.rows.now run.now.origin)) }
 {
     let mut known: Option<HourClass> = None;
-    for k in 0..rows.len().saturating_sub(1) {
-        if leaves(rows, k, run.origin, window) {
-            let arrival = arrival_of(rows, k, run.origin);
-            let class = class_in_hour(feed, delays, run, arrival, known);
-            connections.push(connection_from(rows, k, run, class.class))?;
+    for row in 0..run.rows.len().saturating_sub(1) {
+        if leaves(run.rows, row, run.origin, window) {
+            let step = RunStep { run: &*run, row };
+            let class = class_in_hour(run, step.arrival(), known);
+            connections.push(step.connection(class.class))?;
             known = Some(class);
         }
     }
@@ -150,35 +151,28 @@ fn add_connections(
 #[tactic(auto, using(crate::proofs::JoinLemmas::join_steps), unfolding(crate::specs::FeedNetworks::connections_below, crate::specs::FeedNetworks::run_connections))]
 pub(crate) fn connections_of(
     alloc: Global,
-    trips: &FeedWindow<'_>,
+    runs: &WindowRuns<'_>,
     delays: &DelayTable,
-    runs: &[Run],
     room: u64,
 ) -> Result<List<Connection>, NoMemory>
-    requires few { length runs.now ≤ most_connections }
-    requires runs { AreRunsOf trips.now.feed.now runs.now }
-    ensures { IfOk result (λ connections. connections
-        ≡ connections_below trips.now.feed.now delays.now trips.now.window runs.now (length runs.now)) }
+    ensures { IfOk result (λ connections. connections ≡ connections_below runs.now.trips.now.feed.now
+        delays.now runs.now.trips.now.window runs.now.list.now (length runs.now.list.now)) }
 {
-    let feed = trips.feed;
+    let feed = runs.trips.feed;
     let routes = route_numbers(alloc, feed, delays)?;
     let mut connections: Vec<Connection> = Vec::with_capacity(alloc, room as usize)?;
-    for r in 0..runs.len() {
-        let run = runs[r];
-        let numbered = Numbered {
+    for r in 0..runs.list.len() {
+        let run = runs.list[r];
+        let numbered = NumberedRun {
+            feed,
+            delays,
+            rows: feed.stop_times(run.trip),
             origin: run.origin,
             number: r as u32,
             trip: run.trip,
             route: routes[feed.route(run.trip) as usize],
         };
-        add_connections(
-            &mut connections,
-            feed,
-            delays,
-            feed.stop_times(run.trip),
-            &numbered,
-            trips.window,
-        )?;
+        add_connections(&mut connections, &numbered, runs.trips.window)?;
     }
     Ok(List::from_vec(connections))
 }

@@ -1,41 +1,38 @@
-use Rattle.connections.proofs.Common.{◌≡◌, [], length, ap, sym, subst, ◌∙◌, arith, slice_index_or, list_below, length-list_below, AreLinksInto, place_seconds, links_of}
+use Rattle.connections.proofs.Common.{◌≡◌, ◌≤◌, [], DelayLists, connections_below, most_connections, length, ap, sym, subst, ◌∙◌, arith, slice_index_or, list_below, length-list_below, AreLinksInto, place_seconds, links_of}
+use Rattle.connections.proofs.ConnectionLemmas.{few_runs}
 use Rattle.connections.proofs.CountLemmas.{connections_counted}
 use Rattle.connections.proofs.LinkLemmas.{links_fit, names_fit}
 use Rattle.connections.proofs.RunLemmas.{runs_are}
 use Rattle.connections.proofs.cuts.network_of.Goals as goal
 
-pub network_of_runs-requires : goal.network_of_runs-requires
-network_of_runs-requires c =
-    let trips = c.args.trips.now in
-    let runs = c.as_slice.ensures.value ∙ c.in_ok-runs.ensures in
-    let are = runs_are trips.feed.now trips.days.now.services trips.window trips.repeating trips.bounds c.as_slice.result.now runs in
-    let size = connections_counted trips.feed.now trips.days.now.services c.args.delays.now trips.window c.as_slice.result.now runs in
-    record {
-      runs = are.0;
-      some = are.1;
-      few = omega (arith, size, c.requires.few);
-      places = ap length c.in_ok-change.ensures.seconds ∙ length-list_below (place_seconds trips.changes.now) trips.stops ∙ trips.stops_counted;
-      change = c.in_ok-change.ensures.fit;
-    }
+pub invariant_of-runs : goal.invariant_of-runs
+invariant_of-runs c =
+    let trips = c.args.counted.now.trips.now in let f = trips.feed.now in
+    let list = c.as_slice-list.result.now in
+    let same = c.as_slice-list.ensures.value ∙ c.in_ok-found.ensures in
+    let are = runs_are f trips.days.now.services trips.window trips.repeating trips.bounds list same in
+    let few : (delays : DelayLists) → length (connections_below f delays trips.window list (length list)) ≤ most_connections
+    = λ delays. omega (arith, connections_counted f trips.days.now.services delays trips.window list same, c.args.counted.now.exact, c.args.counted.now.few) in
+    record { apart = are.0; some = are.1; few = few_runs f c.args.delays.now trips.window list are.1 (few c.args.delays.now); few_connections = few }
 
 pub with_links-requires : goal.with_links-requires
 with_links-requires c =
-    let trips = c.args.trips.now in
+    let trips = c.args.counted.now.trips.now in
     let n = length trips.feed.now.stop_ids in
-    let places : length c.in_ok-network.network.change ≡ n
-    = ap length (c.in_ok-network.ensures.change ∙ c.in_ok-change.ensures.seconds) ∙ length-list_below (place_seconds trips.changes.now) trips.stops ∙ trips.stops_counted in
+    let places : length c.in_ok-network.network.change ≡ n = ap length c.in_ok-network.ensures.change ∙ length-list_below (place_seconds trips.changes.now) n in
     let links : c.in_ok-links.links ≡ list_below (links_of trips.changes.now) n = c.in_ok-links.ensures ∙ ap (list_below (links_of trips.changes.now)) trips.stops_counted in
     record {
       many = ap length links ∙ length-list_below (links_of trips.changes.now) n ∙ sym places;
       each = λ r inside. subst (λ n. AreLinksInto n r (slice_index_or c.in_ok-links.links r [])) (sym places)
-          (links_fit n trips.changes.now trips.linked c.requires.links c.in_ok-links.links links r (omega (arith, inside, places)));
+          (links_fit n trips.changes.now trips.linked c.requires c.in_ok-links.links links r (omega (arith, inside, places)));
     }
 
 pub returns-clause-count : goal.returns-clause-count
 returns-clause-count c =
-    let trips = c.args.trips.now in
+    let trips = c.args.counted.now.trips.now in
     ap length (c.with_links.ensures.connections ∙ c.in_ok-network.ensures.connections)
-    ∙ connections_counted trips.feed.now trips.days.now.services c.args.delays.now trips.window c.as_slice.result.now (c.as_slice.ensures.value ∙ c.in_ok-runs.ensures)
+    ∙ connections_counted trips.feed.now trips.days.now.services c.args.delays.now trips.window c.as_slice-list.result.now (c.as_slice-list.ensures.value ∙ c.in_ok-found.ensures)
+    ∙ sym c.args.counted.now.exact
 
 pub returns-clause-fit : goal.returns-clause-fit
 returns-clause-fit c =

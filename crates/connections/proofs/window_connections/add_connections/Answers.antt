@@ -4,25 +4,25 @@ use Rattle.connections.proofs.MapLemmas.{map-kept, map-dropped}
 use Rattle.connections.proofs.window_connections.add_connections.Goals as goal
 use Rattle.connections.proofs.window_connections.add_connections.Goals.{then-leaves+in_ok-push, else-leaves}
 
-pub loop-k-preserved : goal.loop-k-preserved
-loop-k-preserved c =
-    let feed = c.args.feed.now in let delays = c.args.delays.now in let rows = c.args.rows.now in let run = c.args.run.now in
-    let class = class_of_trip feed delays run.trip in
+pub loop-row-preserved : goal.loop-row-preserved
+loop-row-preserved c =
+    let run = c.args.run.now in let rows = run.rows.now in let delays = run.delays.now in
+    let class = class_of_trip run.feed.now delays run.trip in
     let made = connection_from rows run.origin run.number class in
-    let P : Option HourClass → Type 0 = λ o. IfSome o (IsClassOfHour feed delays run.trip) in
+    let P : Option HourClass → Type 0 = λ o. IfSome o (IsClassOfHour run.feed.now delays run.trip) in
     elim c.if-leaves.branch [
       | then-leaves+in_ok-push w ↦
           record {
-            connections = map-kept made c.args.window rows run.origin c.loop-k.k c.args.connections.now.items c.loop-k.connections.items c.if-leaves.connections.items
-                c.loop-k.invariant.connections w.connection_from.result (sym c.leaves.ensures ∙ w.if-leaves.true)
-                (w.connection_from.ensures class (w.class_in_hour-class.ensures.class ∙ ap class w.arrival_of-arrival.ensures))
+            connections = map-kept made c.args.window rows run.origin c.loop-row.row c.args.connections.now.items c.loop-row.connections.items c.if-leaves.connections.items
+                c.loop-row.invariant.connections w.connection.result (sym c.leaves.ensures ∙ w.if-leaves.true)
+                (w.connection.ensures class (w.class_in_hour-class.ensures.class ∙ ap class w.arrival.ensures))
                 (ap (λ v. v.items) w.connections-is ∙ w.in_ok-push.ensures.items);
             known = subst P (sym w.known-is) w.class_in_hour-class.ensures.hour;
           }
       | else-leaves w ↦
           record {
-            connections = map-dropped made c.args.window rows run.origin c.loop-k.k c.args.connections.now.items c.loop-k.connections.items c.if-leaves.connections.items
-                c.loop-k.invariant.connections (sym c.leaves.ensures ∙ w.if-leaves.false) (ap (λ v. v.items) w.connections-is);
-            known = subst P (sym w.known-is) c.loop-k.invariant.known;
+            connections = map-dropped made c.args.window rows run.origin c.loop-row.row c.args.connections.now.items c.loop-row.connections.items c.if-leaves.connections.items
+                c.loop-row.invariant.connections (sym c.leaves.ensures ∙ w.if-leaves.false) (ap (λ v. v.items) w.connections-is);
+            known = subst P (sym w.known-is) c.loop-row.invariant.known;
           }
     ]

@@ -1,6 +1,6 @@
 use Rattle.connections.proofs.Common.{◌≡◌, ℕ, ◌<◌, ◌≤◌, ◌+◌, arith, sym, ◌∙◌, subst, ⊎_elim, cases_lt, Run, run_at, IsSmallRepeat, IsRunName, List}
 use Rattle.connections.proofs.NameLemmas.{run_new, run_pushes}
-use Rattle.connections.proofs.names.add_runs.Goals as goal
+use Rattle.connections.proofs.names.names_of.Goals as goal
 
 -- the runs below a number and the next one
 below_next : (rs : List Run) (r : ℕ) → ((k : ℕ) → k < r → IsSmallRepeat (run_at rs k).repeat) → IsSmallRepeat (run_at rs r).repeat
@@ -11,13 +11,13 @@ below_next rs r before here k h =
 
 pub push_run-requires-clause-absent : goal.push_run-requires-clause-absent
 push_run-requires-clause-absent c =
-    let f = c.args.trips.now.feed.now in let rs = c.args.runs.now in let r = c.loop-r.r in
-    run_new f rs r c.loop-r.names.runs c.as_str.result.now c.args.trips.now.trip_ids c.requires.runs (below_next rs r c.loop-r.invariant.2 c.in_ok-name.ensures.small)
+    let runs = c.args.runs.now in let trips = runs.trips.now in let f = trips.feed.now in let rs = runs.list.now in let r = c.loop-r.r in
+    run_new f rs r c.loop-r.names.runs c.as_str.result.now trips.trip_ids runs.apart (below_next rs r c.loop-r.invariant.2 c.in_ok-name.ensures.small)
     (omega arith) c.loop-r.invariant.0 (subst (IsRunName f (run_at rs r)) (sym c.as_str.ensures.value) c.in_ok-name.ensures.name)
 
 pub loop-r-preserved : goal.loop-r-preserved
 loop-r-preserved c =
-    let f = c.args.trips.now.feed.now in let rs = c.args.runs.now in let r = c.loop-r.r in (
+    let runs = c.args.runs.now in let trips = runs.trips.now in let f = trips.feed.now in let rs = runs.list.now in let r = c.loop-r.r in (
       run_pushes f rs r c.loop-r.names.runs c.push_run.new.self.runs c.as_str.result.now c.loop-r.invariant.0
           (subst (IsRunName f (run_at rs r)) (sym c.as_str.ensures.value) c.in_ok-name.ensures.name) c.in_ok-push_run.ensures.ok,
       c.push_run.ensures.places ∙ c.loop-r.invariant.1,

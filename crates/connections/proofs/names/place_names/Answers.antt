@@ -1,6 +1,6 @@
 use Rattle.connections.proofs.Common.{sym, subst, ◌∙◌, [], ap, take, List, ℕ, Contains, ◌++◌, ◌∷◌, take_more, got}
 use Rattle.text_index.proofs.KeyLemmas.{new_after_those_before}
-use Rattle.connections.proofs.names.add_places.Goals as goal
+use Rattle.connections.proofs.names.place_names.Goals as goal
 
 pub push_place-requires-clause-absent : goal.push_place-requires-clause-absent
 push_place-requires-clause-absent c =

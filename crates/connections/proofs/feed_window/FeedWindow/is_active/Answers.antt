@@ -1,7 +1,0 @@
-use Rattle.connections.proofs.Common.{ap, ◌∙◌, FeedParts, is_active_trip}
-use Rattle.connections.proofs.feed_window.FeedWindow.is_active.Goals as goal
-
-pub returns : goal.returns
-returns c =
-    let all = c.args.self.now in
-    c.is_active.ensures ∙ ap (λ (f : FeedParts). is_active_trip f all.days.now.services c.args.day c.args.trip) all.same

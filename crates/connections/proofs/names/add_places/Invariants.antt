@@ -1,5 +1,0 @@
-use Rattle.connections.proofs.Common.{◌≡◌, take}
-use Rattle.connections.proofs.names.add_places.Given as goal
-
-abbrev pub invariant-loop-stop : goal.invariant-loop-stop
-invariant-loop-stop l = (l.names.places ≡ take l.stop l.trips.feed.now.stop_ids) × (l.names.runs ≡ l.initial.names.runs)
