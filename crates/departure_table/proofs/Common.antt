@@ -18,7 +18,7 @@ pub use Rattle.plan_model.specs.declared.model.PlaceId.{PlaceId}
 pub use Rattle.plan_model.specs.declared.model.Query.{Query}
 pub use Rattle.plan_model.specs.declared.model.Way.{Way}
 pub use Rattle.value_laws.specs.declared.MeanSpan.{MeanSpan}
-pub use Rattle.departure_table.specs.Departures.{BeginsWith, IsASecondAway, IsBestFrom, IsDepartureRow, IsExtendedFor, IsGreatestMoment, IsNoneSafeFrom, IsTable, LooksAhead, SafeAfter, SafeFrom, SaysOfSource, SolvesArrivals}
+pub use Rattle.departure_table.specs.Departures.{BeginsWith, IsASecondAway, IsBestFrom, IsDepartureRow, IsExtendedFor, IsGreatestMoment, IsNoneSafeFrom, IsTable, SafeAfter, SafeFrom, SaysOfSource, SolvesArrivals}
 pub use Rattle.departure_table.specs.Departures.{first_row_by}
 pub use Rattle.departure_table.specs.Looked.{AreLooked, row_found, row_of_choice}
 pub use Rattle.departure_table.specs.declared.DepartureRow.{DepartureRow}

@@ -1,6 +1,6 @@
 -- The lists of a network with gates, as they are made.
 use Rattle.std.proofs.lemmas.Grind.{common_steps}
-use Rattle.departure_table.proofs.Common.{◌≡◌, ℕ, ◌+◌, ◌<◌, List, [], ◌∷◌, ◌++◌, length, map, arith, sym, ap, ◌∙◌, append-nil, append_assoc, cases_eq, slice_index_or, range_with_len, take}
+use Rattle.departure_table.proofs.Common.{◌≡◌, ℕ, ◌+◌, ◌<◌, ◌≤◌, List, [], ◌∷◌, ◌++◌, length, map, arith, sym, ap, ◌∙◌, append-nil, append_assoc, cases_eq, slice_index_or, range_with_len, take, take_all}
 use Rattle.departure_table.proofs.Common.{Connection, NetworkModel, plain_network, IsValid, AreLinksInto, FitGates, PlaceId, Way, links_into, source_at, way_from, ways_from_gates, links_with_gates, places_with, extended_by}
 use Rattle.std.specs.Prelude.{slice_set}
 use Rattle.std.proofs.lemmas.List.{get_or-set_same, get_or-set_other, take_more, length-take-le, ext_get_or}
@@ -22,16 +22,20 @@ pub led_to_more : (old links : List (List Way)) (gate k : ℕ) (sources : List P
 led_to_more old links gate k sources into within inside before is place =
     grind (arith, common_steps, take_more, ways_from_gates-push, length-take-le, append_assoc, cases_eq, get_or-set_same, if_here, get_or-set_other, append-nil, if_away)
 
+-- the links into each place, and none into the gates
+abbrev pub own_links : NetworkModel → List PlaceId → List (List Way)
+own_links m sources = map (links_into m) (range_with_len 0 (places_with m sources))
+
 -- the links of all, as one list
-pub all_led_to : (m : NetworkModel) (sources : List PlaceId) (old now : List (List Way)) → old ≡ map (links_into m) (range_with_len 0 (places_with m sources)) → length now ≡ length old
-    → LedTo old now (length m.change) sources → now ≡ map (links_with_gates m sources) (range_with_len 0 (places_with m sources))
-all_led_to m sources old now before many led =
+pub all_led_to : (m : NetworkModel) (sources : List PlaceId) (k : ℕ) (now : List (List Way)) → length sources ≤ k → length now ≡ places_with m sources
+    → LedTo (own_links m sources) now (length m.change) (take k sources) → now ≡ map (links_with_gates m sources) (range_with_len 0 (places_with m sources))
+all_led_to m sources k now over all led =
     let places = places_with m sources in
-    let all : length now ≡ places = many ∙ ap length before ∙ length-map-range_with_len (links_into m) 0 places in
+    let whole = take_all k sources over in
     ext_get_or [] now (map (links_with_gates m sources) (range_with_len 0 places)) (all ∙ sym (length-map-range_with_len (links_with_gates m sources) 0 places))
     (λ r h.
     let inside : r < places = omega (arith, h, all) in
-    led r ∙ ap (λ (xs : List (List Way)). slice_index_or xs r [] ++ ways_from_gates (length m.change) sources r) before
+    (rw whole at led r)
     ∙ ap (λ (ways : List Way). ways ++ ways_from_gates (length m.change) sources r) (get_or-map-range_with_len (links_into m) 0 places r r [] inside (omega arith))
     ∙ sym (get_or-map-range_with_len (links_with_gates m sources) 0 places r r [] inside (omega arith)))
 

@@ -1,6 +1,6 @@
 -- What a choice at a moment says of all from then on.
-use Rattle.departure_table.proofs.Common.{◌≡◌, ◌≢◌, ℕ, ◌-◌, ◌<◌, ◌≤◌, arith, Some, refl, sym, ap, ◌∙◌, subst, Leg, Query, NetworkModel, IsValid, count, dep_of, arr_of, Tree, Done, Ride, Stuck, Kids}
-use Rattle.departure_table.proofs.Common.{IsLeg, Moment, MeanSpan, DepartureRow, IsGreatestMoment, row_of_choice, None, IsASecondAway, SafeAfter, IsNoneSafeFrom, BeginsWith, IsBestFrom, IsDepartureRow, SolvesArrivals, end_of_arrivals}
+use Rattle.departure_table.proofs.Common.{◌≡◌, ◌≢◌, ℕ, ◌-◌, ◌<◌, ◌≤◌, arith, Some, refl, sym, ap, ◌∙◌, subst, Leg, Query, NetworkModel, count, dep_of, arr_of, Tree, Done, Ride, Stuck, Kids}
+use Rattle.departure_table.proofs.Common.{IsLeg, Moment, MeanSpan, DepartureRow, IsGreatestMoment, row_of_choice, None, IsASecondAway, SafeAfter, IsNoneSafeFrom, BeginsWith, IsBestFrom, IsDepartureRow, SolvesArrivals}
 use Rattle.std.proofs.lemmas.Option.{MatchOption-at_some, MatchOption-at_none}
 use Rattle.plan_model.specs.Unfold.{by_place, unfold_after, kids_after, outcomes_of}
 use Rattle.value_laws.specs.Means.{mean_scoring}
@@ -21,11 +21,11 @@ module _ (n : NetworkModel) (q : Query) (found : ScanResult MeanSpan) (solves : 
   until : (i j : ℕ) (kids : Kids) (x y : ℕ) → y < dep_of n i → IsSafeAt n q here x (Ride i j kids) → IsSafeAt n q here y (Ride i j kids)
   until i j kids x y less h = grind (arith, here)
 
-  pub none_ahead : (next : ℕ) → ((tree : Tree) → IsSafeAt n q here (next - 1) tree → ⊥) → (moment : ℕ) → next ≤ moment → IsNoneSafeFrom (SafeAfter n q) moment
-  none_ahead next none moment ahead tree safe = none tree (earlier tree (next - 1) (moment - 1) (omega arith) safe)
-
   none_at : (x : ℕ) → choice_of found here x ≡ None → (tree : Tree) → IsSafeAt n q here x tree → ⊥
   none_at x none = MatchOption-at_none _ _ none (solves here x differ)
+
+  pub none_ahead : (next : ℕ) → choice_of found here (next - 1) ≡ None → (moment : ℕ) → next ≤ moment → IsNoneSafeFrom (SafeAfter n q) moment
+  none_ahead next none moment ahead tree safe = none_at (next - 1) none tree (earlier tree (next - 1) (moment - 1) (omega arith) safe)
 
   module _ (x : ℕ) (choice : MeanSpan × Leg) (is : choice_of found here x ≡ Some choice) where
     abbrev chosen_children : Kids
@@ -34,59 +34,61 @@ module _ (n : NetworkModel) (q : Query) (found : ScanResult MeanSpan) (solves : 
     begins : chosen_at n q found here x ≡ Ride choice.1.enter.0 choice.1.exit.0 chosen_children
     begins = grind (arith, here)
 
-    module _ (answer : SolvesEach mean_scoring n q found here x choice) where
-      abbrev enter : ℕ
-      enter = choice.1.enter.0
+    answer : SolvesEach mean_scoring n q found here x choice
+    answer = MatchOption-at_some _ _ _ is (solves here x differ)
 
-      safe_ride : IsSafeAt n q here x (Ride enter choice.1.exit.0 chosen_children)
-      safe_ride = subst (λ (t : Tree). IsSafeAt n q here x t) begins answer.safe
+    abbrev enter : ℕ
+    enter = choice.1.enter.0
 
-      covers_ride : mean_scoring.covers choice.0 (Ride enter choice.1.exit.0 chosen_children)
-      covers_ride = subst (λ (t : Tree). mean_scoring.covers choice.0 t) begins answer.covers_chosen
+    safe_ride : IsSafeAt n q here x (Ride enter choice.1.exit.0 chosen_children)
+    safe_ride = subst (λ (t : Tree). IsSafeAt n q here x t) begins answer.safe
 
-      pub looks_ahead : IsValid n → (row : DepartureRow) → row.leg ≡ choice.1 → row.bounds ≡ choice.0.0 → row.by.0 ≡ dep_of n enter
-          → (x < row.by.0) × (row.by.0 < end_of_arrivals) × IsDepartureRow n row ×
-          ((moment : ℕ) → x < moment → moment ≤ row.by.0 → IsBestFrom n (SafeAfter n q) moment row)
-      looks_ahead valid row leg bounds by =
-          let one = second enter safe_ride.2.seconds safe_ride.1.enter safe_ride.2.way in
-          let v = valid.connections enter safe_ride.1.enter in
-          let tree = Ride enter choice.1.exit.0 chosen_children in
-          let begin : BeginsWith row.leg tree = rw leg (chosen_children, refl) in
-          let same : IsLeg n row.leg.enter.0 row.leg.exit.0 = rw leg safe_ride.1 in (
-            omega (arith, one, safe_ride.2.in_time, by),
-            omega (arith, v.forward, v.early, by),
-            record { is_leg = same; departs = by ∙ ap (λ (l : Leg). dep_of n l.enter.0) (sym leg) },
-            λ moment ahead within. record {
-              below_safe = λ other safe. rw bounds (answer.below_safe other (earlier other x (moment - 1) (omega arith) safe)).0;
-              least = λ other safe. rw bounds (answer.below_safe other (earlier other x (moment - 1) (omega arith) safe)).1;
-              least_up = λ other safe. rw bounds (answer.below_safe other (earlier other x (moment - 1) (omega arith) safe)).2;
-              covers_one = (
-                tree,
-                until enter choice.1.exit.0 chosen_children x (moment - 1) (omega (arith, ahead, within, by)) safe_ride,
-                begin,
-                rw bounds covers_ride.0,
-                rw bounds covers_ride.1,
-              );
-              gap = rw bounds answer.gap_within;
-            },
-          )
+    covers_ride : mean_scoring.covers choice.0 (Ride enter choice.1.exit.0 chosen_children)
+    covers_ride = subst (λ (t : Tree). mean_scoring.covers choice.0 t) begins answer.covers_chosen
+
+    pub enters : enter < count n
+    enters = safe_ride.1.enter
+
+    pub looks_ahead : (row : DepartureRow) → row.leg ≡ choice.1 → row.bounds ≡ choice.0.0 → row.by.0 ≡ dep_of n enter
+        → (x < row.by.0) × IsDepartureRow n row × ((moment : ℕ) → x < moment → moment ≤ row.by.0 → IsBestFrom n (SafeAfter n q) moment row)
+    looks_ahead row leg bounds by =
+        let one = second enter safe_ride.2.seconds safe_ride.1.enter safe_ride.2.way in
+        let tree = Ride enter choice.1.exit.0 chosen_children in
+        let begin : BeginsWith row.leg tree = rw leg (chosen_children, refl) in
+        let same : IsLeg n row.leg.enter.0 row.leg.exit.0 = rw leg safe_ride.1 in (
+          omega (arith, one, safe_ride.2.in_time, by),
+          record { is_leg = same; departs = by ∙ ap (λ (l : Leg). dep_of n l.enter.0) (sym leg) },
+          λ moment ahead within. record {
+            below_safe = λ other safe. rw bounds (answer.below_safe other (earlier other x (moment - 1) (omega arith) safe)).0;
+            least = λ other safe. rw bounds (answer.below_safe other (earlier other x (moment - 1) (omega arith) safe)).1;
+            least_up = λ other safe. rw bounds (answer.below_safe other (earlier other x (moment - 1) (omega arith) safe)).2;
+            covers_one = (
+              tree,
+              until enter choice.1.exit.0 chosen_children x (moment - 1) (omega (arith, ahead, within, by)) safe_ride,
+              begin,
+              rw bounds covers_ride.0,
+              rw bounds covers_ride.1,
+            );
+            gap = rw bounds answer.gap_within;
+          },
+        )
 
   -- the departure of the last choice is the greatest moment, unless that is before the first one
   module _ (last : MeanSpan × Leg) (x : ℕ) (is : choice_of found here x ≡ Some last) (none_after : (arrival : ℕ) → x < arrival → choice_of found here arrival ≡ None) where
-    answer_last : SolvesEach mean_scoring n q found here x last
-    answer_last = MatchOption-at_some _ _ _ is (solves here x differ)
+    ahead : (x < dep_of n last.1.enter.0) × IsDepartureRow n (row_of_choice n last)
+        × ((moment : ℕ) → x < moment → moment ≤ dep_of n last.1.enter.0 → IsBestFrom n (SafeAfter n q) moment (row_of_choice n last))
+    ahead = looks_ahead x last is (row_of_choice n last) refl refl refl
 
-    none_past : IsValid n → (moment : ℕ) → dep_of n last.1.enter.0 < moment → IsNoneSafeFrom (SafeAfter n q) moment
-    none_past valid moment past = grind (arith, looks_ahead, answer_last, none_at)
+    none_past : (moment : ℕ) → dep_of n last.1.enter.0 < moment → IsNoneSafeFrom (SafeAfter n q) moment
+    none_past moment past = none_at (moment - 1) (none_after (moment - 1) (omega (arith, past, ahead.0)))
 
-    pub last_is_greatest : IsValid n → (first : ℕ) (by : Moment) → by.0 ≡ dep_of n last.1.enter.0 → first ≤ by.0 → IsGreatestMoment (SafeAfter n q) first (Some by)
-    last_is_greatest valid first by departs within =
-        let ahead = looks_ahead x last is answer_last valid (row_of_choice n last) refl refl refl in
-        let best = ahead.3 by.0 (omega (arith, ahead.0, departs)) (omega (arith, departs)) in
-        (within, (best.covers_one.0, best.covers_one.1), λ moment later. none_past valid moment (omega (arith, later, departs)))
+    pub last_is_greatest : (first : ℕ) (by : Moment) → by.0 ≡ dep_of n last.1.enter.0 → first ≤ by.0 → IsGreatestMoment (SafeAfter n q) first (Some by)
+    last_is_greatest first by departs within =
+        let best = ahead.2 by.0 (omega (arith, ahead.0, departs)) (omega (arith, departs)) in
+        (within, (best.covers_one.0, best.covers_one.1), λ moment later. none_past moment (omega (arith, later, departs)))
 
-    pub none_is_greatest : IsValid n → (first : ℕ) (by : Moment) → by.0 ≡ dep_of n last.1.enter.0 → by.0 < first → IsGreatestMoment (SafeAfter n q) first None
-    none_is_greatest valid first by departs past = λ moment later. none_past valid moment (omega (arith, later, departs, past))
+    pub none_is_greatest : (first : ℕ) (by : Moment) → by.0 ≡ dep_of n last.1.enter.0 → by.0 < first → IsGreatestMoment (SafeAfter n q) first None
+    none_is_greatest first by departs past = λ moment later. none_past moment (omega (arith, later, departs, past))
 
   -- nor is there one without a choice
   pub no_greatest : ((arrival : ℕ) → choice_of found here arrival ≡ None) → (first : ℕ) → IsGreatestMoment (SafeAfter n q) first None

@@ -3,7 +3,7 @@ use Rattle.std.specs.Prelude.{◌≡◌, ◌≢◌, ℕ, ◌-◌, ◌<◌, ◌�
 use Rattle.plan_model.specs.declared.model.Leg.{Leg}
 use Rattle.plan_model.specs.declared.model.Query.{Query}
 use Rattle.plan_model.specs.declared.model.Moment.{Moment}
-use Rattle.plan_model.specs.Bounds.{end_of_arrivals, nanos_per_second}
+use Rattle.plan_model.specs.Bounds.{nanos_per_second}
 use Rattle.plan_model.specs.NetworkModel.{NetworkModel}
 use Rattle.plan_model.specs.Network.{IsValid, count, from_of, dep_of}
 use Rattle.plan_model.specs.Ways.{way_of}
@@ -79,13 +79,6 @@ IsGreatestMoment Safe first result =
     MatchOption result
     ((moment : ℕ) → first ≤ moment → IsNoneSafeFrom Safe moment)
     (λ greatest. (first ≤ greatest.0) × ((tree : Tree) × Safe greatest.0 tree) × ((moment : ℕ) → greatest.0 < moment → IsNoneSafeFrom Safe moment))
-
--- what the choice at a moment says of all from then on: a row by which it is the best, or that nothing is safe any more
-abbrev pub LooksAhead : NetworkModel → (ℕ → Tree → Type 0) → ℕ → Option DepartureRow → Type 0
-LooksAhead m Safe next found =
-    MatchOption found
-    ((moment : ℕ) → next ≤ moment → IsNoneSafeFrom Safe moment)
-    (λ row. (next ≤ row.by.0) × (row.by.0 < end_of_arrivals) × IsDepartureRow m row × ((moment : ℕ) → next ≤ moment → moment ≤ row.by.0 → IsBestFrom m Safe moment row))
 
 -- the query has its source at a gate of the network, which leads to another place of m than the target
 pub record IsExtendedFor (network : NetworkModel) (query : Query) (m : NetworkModel) (source : ℕ) : Type 0 where

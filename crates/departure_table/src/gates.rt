@@ -1,9 +1,9 @@
 //! The network with gates: for each of some sources one more place, from which one is at the source a second later.
-ghost use Rattle.std.specs.Prelude.{◌≡◌, ℕ, ◌+◌, ◌*◌, ◌^◌, ◌<◌, ◌≤◌, ◌++◌, [], All, IfOk, OnOk, length, map, replicate, slice_index_or};
+ghost use Rattle.std.specs.Prelude.{◌≡◌, ◌++◌, IfOk, map, replicate};
 ghost use Rattle.std.specs.List.{range_with_len};
 ghost use Rattle.plan_model.specs.Network.{IsValid, links_into};
 ghost use Rattle.plan_model.specs.NetworkModel.{NetworkModel};
-ghost use Rattle.plan_model.specs.Gates.{FitGates, HasGates, extended_by as with_gates, links_with_gates, places_with, ways_from_gates};
+ghost use Rattle.plan_model.specs.Gates.{FitGates, HasGates, extended_by as with_gates};
 
 use plan_model::{List, Network, NoMemory, PlaceId, Way};
 use std::alloc::Global;
@@ -31,39 +31,6 @@ fn links_for(alloc: Global, network: &Network, places: u32) -> Result<Vec<List<W
     Ok(links)
 }
 
-/// Puts a link from each gate to the links into its source. The gates are numbered from the first one on.
-fn lead_to(links: &mut [List<Way>], first: u32, sources: &[PlaceId]) -> Result<(), NoMemory>
-    requires sources { All (λ source. source.0 < length links.old) sources.now }
-    requires room { first + length sources.now < 2 ^ 32 }
-    ensures links { OnOk result ((place : ℕ) → slice_index_or links.new place []
-        ≡ slice_index_or links.old place [] ++ ways_from_gates first sources.now place) }
-    ensures len { length links.new ≡ length links.old }
-{
-    for k in 0..sources.len() {
-        let into = &mut links[sources[k].0 as usize];
-        into.push(Way {
-            from: PlaceId(first + k as u32),
-            seconds: 1,
-        })?;
-    }
-    Ok(())
-}
-
-/// The links into each place, those from the gates among them, and none into the gates.
-fn links_by(
-    alloc: Global,
-    network: &Network,
-    sources: &[PlaceId],
-) -> Result<List<List<Way>>, NoMemory>
-    requires { FitGates network.now sources.now }
-    ensures { IfOk result (λ links. links ≡ map (links_with_gates network.now sources.now) (range_with_len 0 (places_with network.now sources.now))) }
-{
-    let places = network.places();
-    let mut links = links_for(alloc, network, places + sources.len() as u32)?;
-    lead_to(&mut links, places, sources)?;
-    Ok(List::from_vec(links))
-}
-
 /// The change time of each place, and one second for each gate.
 fn changes_by(alloc: Global, network: &Network, gates: usize) -> Result<List<u32>, NoMemory>
     ensures { IfOk result (λ change. change ≡ network.now.change ++ replicate gates 1) }
@@ -88,9 +55,18 @@ pub fn extended_by(
     ensures parts { IfOk result (λ more. more ≡ with_gates network.now sources.now) }
     ensures gates { IfOk result (λ more. HasGates more network.now sources.now) }
 {
+    let places = network.places();
+    let mut links = links_for(alloc, network, places + sources.len() as u32)?;
+    for k in 0..sources.len() {
+        let into = &mut links[sources[k].0 as usize];
+        into.push(Way {
+            from: PlaceId(places + k as u32),
+            seconds: 1,
+        })?;
+    }
+    let links = List::from_vec(links);
     let connections = network.copied_connections(alloc)?;
     let change = changes_by(alloc, network, sources.len())?;
     let classes = network.copied_classes(alloc)?;
-    let links = links_by(alloc, network, sources)?;
     Ok(Network::from_parts(connections, change, classes).with_links(links))
 }

@@ -9,7 +9,7 @@
 
 ghost use Rattle.std.specs.Prelude.{◌≡◌, ◌≢◌, ℕ, ◌+◌, ◌<◌, ◌≤◌, IfOk};
 ghost use Rattle.plan_model.specs.NetworkModel.{NetworkModel};
-ghost use Rattle.departure_table.specs.Departures.{SolvesArrivals, IsASecondAway, SafeAfter, IsExtendedFor, IsTable, IsGreatestMoment, LooksAhead, SaysOfSource};
+ghost use Rattle.departure_table.specs.Departures.{SolvesArrivals, IsASecondAway, SafeAfter, IsExtendedFor, IsTable, IsGreatestMoment, SaysOfSource};
 ghost use Rattle.departure_table.specs.Looked.{row_found, AreLooked};
 ghost use Rattle.plan_model.specs.declared.model.Query.{Query as Asked};
 
@@ -41,30 +41,6 @@ pub struct DepartureRow {
     pub leg: Leg,
 }
 
-/// The row for a traveller who sets out at this moment or later; `None` if no strategy is safe any more.
-fn row_from(
-    scanned: &Scanned<MeanSpan>,
-    network: &Network,
-    query: &Query,
-    next: Moment,
-) -> Option<DepartureRow>
-    requires next { 1 ≤ next.0 }
-    requires solves { SolvesArrivals scanned.now network.now query.now }
-    requires differ { query.now.source.0 ≢ query.now.target.0 }
-    requires second { IsASecondAway network.now query.now.source.0 }
-    ensures ahead { LooksAhead network.now (SafeAfter network.now query.now) next.0 result }
-    ensures found { result ≡ row_found network.now query.now scanned.now next.0 }
-{
-    let Some((value, leg)) = scanned.choice(query.source, Moment(next.0 - 1)) else {
-        return None;
-    };
-    Some(DepartureRow {
-        by: network.get(leg.enter).dep,
-        bounds: value.0,
-        leg,
-    })
-}
-
 /// The departures that are taken from the place to which the source of the query leads in a second,
 /// from the first moment to the last one: each row's leg is the best to take for a traveller who sets out by
 /// its moment and too late for the row before. Only the last row may be by the last moment or later. There is no row if
@@ -87,13 +63,16 @@ pub fn table(
     let mut rows = List::new(alloc);
     let mut next = first.0;
     while next <= last.0 {
-        match row_from(scanned, network, query, Moment(next)) {
-            None => return Ok(rows),
-            Some(row) => {
-                next = row.by.0 + 1;
-                rows.push(row)?;
-            }
-        }
+        let Some((value, leg)) = scanned.choice(query.source, Moment(next - 1)) else {
+            return Ok(rows);
+        };
+        let by = network.get(leg.enter).dep;
+        rows.push(DepartureRow {
+            by,
+            bounds: value.0,
+            leg,
+        })?;
+        next = by.0 + 1;
     }
     Ok(rows)
 }

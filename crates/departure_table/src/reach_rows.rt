@@ -1,11 +1,10 @@
 //! From where one can reach a target, until when one can set out there, and what is best for who sets out at once.
-ghost use Rattle.std.specs.Prelude.{◌≡◌, ◌≢◌, ◌+◌, ◌*◌, ◌^◌, ◌<◌, ◌≤◌, All, IfOk, IfSome, MatchOption, length};
-ghost use Rattle.plan_model.specs.Network.{IsValid};
-ghost use Rattle.departure_table.specs.Departures.{SafeFrom, SolvesArrivals, IsNoneSafeFrom};
-ghost use Rattle.plan_model.specs.Gates.{IsGate, HasGates, extended_by as with_gates};
-ghost use Rattle.departure_table.specs.Reach.{IsReach, IsReachRow, IsFoundAtGate, places_of};
+ghost use Rattle.std.specs.Prelude.{◌≡◌, ◌*◌, ◌^◌, ◌<◌, ◌≤◌, All, IfOk, length};
+ghost use Rattle.departure_table.specs.Departures.{SolvesArrivals};
+ghost use Rattle.plan_model.specs.Gates.{HasGates, extended_by as with_gates};
+ghost use Rattle.departure_table.specs.Reach.{IsReach, IsFoundAtGate, places_of};
 
-use crate::{extended_by, greatest, row_from, says_of_source};
+use crate::{extended_by, greatest};
 use interval_fixed::Span;
 use meat_scan::Scanned;
 use plan_model::{List, Moment, Network, NoMemory, PlaceId, Query};
@@ -22,39 +21,6 @@ pub struct ReachRow {
     /// Bounds on the least expected arrival of a traveller who sets out there at the start, in nanoseconds
     /// since 1970-01-01.
     pub bounds: Span,
-}
-
-/// The row of a place, by what a scan found at its gate; `None` if nobody who sets out there at the start is safe.
-fn reach_from(
-    scanned: &Scanned<MeanSpan>,
-    extended: &Network,
-    network: &Network,
-    query: &Query,
-    place: PlaceId,
-) -> Option<ReachRow>
-    requires start { 1 ≤ query.now.start.0 }
-    requires solves { SolvesArrivals scanned.now extended.now query.now }
-    requires gate { IsGate extended.now network.now (length network.now.change + place.0) place.0 }
-    requires room { length network.now.change + place.0 < 2 ^ 32 }
-    requires target { query.now.target.0 < length network.now.change }
-    requires away { place.0 ≢ query.now.target.0 }
-    ensures row { MatchOption result
-        (IsNoneSafeFrom (SafeFrom network.now place.0 query.now) query.now.start.0)
-        (λ row. (row.place.0 ≡ place.0) × IsReachRow network.now query.now query.now.start.0 row) }
-    ensures found { IfSome result (IsFoundAtGate extended.now network.now query.now scanned.now) }
-{
-    says_of_source();
-    let at_gate = Query {
-        source: PlaceId(network.places() + place.0),
-        ..*query
-    };
-    let row = row_from(scanned, extended, &at_gate, query.start)?;
-    let latest = greatest(scanned, extended, &at_gate, query.start)?;
-    Some(ReachRow {
-        place,
-        latest,
-        bounds: row.bounds,
-    })
 }
 
 /// The network with a gate for each place, in the order of the places. Where the gates would be too many to be
@@ -95,11 +61,24 @@ pub fn reach(
 {
     let mut rows = List::new(alloc);
     for place in 0..network.places() {
-        if place != query.target.0 {
-            if let Some(row) = reach_from(scanned, extended, network, query, PlaceId(place)) {
-                rows.push(row)?;
-            }
+        if place == query.target.0 {
+            continue;
         }
+        let at_gate = Query {
+            source: PlaceId(network.places() + place),
+            ..*query
+        };
+        let Some((value, _)) = scanned.choice(at_gate.source, Moment(query.start.0 - 1)) else {
+            continue;
+        };
+        let Some(latest) = greatest(scanned, extended, &at_gate, query.start) else {
+            continue;
+        };
+        rows.push(ReachRow {
+            place: PlaceId(place),
+            latest,
+            bounds: value.0,
+        })?;
     }
     Ok(rows)
 }

@@ -12,11 +12,11 @@ returns-then-by-first c =
     let last : MeanSpan × Leg = (c.in_ok-leg.field-0-0, c.in_ok-leg.leg) in
     let (x, is, past) = c.in_ok-leg.ensures in
     none_is_greatest c.args.network.now c.args.query.now c.args.scanned.now c.requires.solves c.requires.differ c.requires.second last x is past
-    c.get.ensures.valid c.args.first.0 c.get.result.dep (ap (λ (k : Connection). k.dep.0) c.get.ensures.connection) c.if-by-first.true
+    c.args.first.0 c.get.result.dep (ap (λ (k : Connection). k.dep.0) c.get.ensures.connection) c.if-by-first.true
 
 pub returns : goal.returns
 returns c =
     let last : MeanSpan × Leg = (c.in_ok-leg.field-0-0, c.in_ok-leg.leg) in
     let (x, is, past) = c.in_ok-leg.ensures in
     last_is_greatest c.args.network.now c.args.query.now c.args.scanned.now c.requires.solves c.requires.differ c.requires.second last x is past
-    c.get.ensures.valid c.args.first.0 c.get.result.dep (ap (λ (k : Connection). k.dep.0) c.get.ensures.connection) c.if-by-first.false
+    c.args.first.0 c.get.result.dep (ap (λ (k : Connection). k.dep.0) c.get.ensures.connection) c.if-by-first.false
