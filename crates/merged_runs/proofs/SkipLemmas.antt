@@ -30,6 +30,14 @@ filter_parts p late (id ∷ ids) up = elim (cases_Bool (late id)) [
 pub DepartsInOrder-run : (n : NetworkModel) → IsValid n → (starts remaining : List ℕ) → AreStretches n starts remaining → (r : ℕ) → r < length remaining → DepartsInOrder n (get_or starts r 0) (get_or remaining r 0)
 DepartsInOrder-run n v starts remaining s r h i j from up to = grind (arith, run_between, cases_lt)
 
+-- what remains of a run, up to a position in it
+pub stretch_is : (n : NetworkModel) (starts remaining : List ℕ) → AreStretches n starts remaining → (r : ℕ) → r < length remaining
+    → (from to : ℕ) → from ≡ get_or starts r 0 → to ≤ get_or remaining r 0 → (to ≤ count n) × DepartsInOrder n from to
+stretch_is n starts remaining s r h from to is_from up_to = (
+  omega (arith, up_to, (s.within r h).1, (s.begin.each (r + 1) (omega (arith, h, s.size))).within),
+  λ i j ge along less. DepartsInOrder-run n s.begin.valid starts remaining s r h i j (omega (arith, ge, is_from)) along (omega (arith, less, up_to)),
+)
+
 module _ (n : NetworkModel) (last from low high to : ℕ) (p : IsParted n last from low high to) (rising : DepartsInOrder n from to) where
   pub IsParted-up : (middle : ℕ) → low ≤ middle → middle < high → dep_of n middle ≤ last → IsParted n last from (middle + 1) high to
   IsParted-up middle ge less soon = grind (arith, common_steps, nat_tests)

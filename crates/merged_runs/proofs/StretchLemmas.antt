@@ -2,7 +2,7 @@
 use Rattle.merged_runs.proofs.Common.{◌≡◌, ℕ, zero, suc, ◌+◌, ◌-◌, ◌<◌, ◌≤◌, ⊎_elim, Bool, true, false, cond, ltb, List, [], ◌∷◌, ◌++◌, length, get_or, set, take, drop, add-one, All, AllPairs, arith}
 use Rattle.merged_runs.proofs.Common.{refl, sym, ap, ◌∙◌, subst, Contains, filter, lt-ltb, le-ltb, ltb-true, get_or-set_same, get_or-set_other, take_all, nat_tests, common_steps, cases_lt, cases_eq}
 use Rattle.merged_runs.proofs.Common.{cond-true, cond-false, false_from_ne_true, get_or_past, All-tail, All-head, most_connections, ConnectionId, NetworkModel, IsValid, count, run_of, IsScanOrder}
-use Rattle.merged_runs.proofs.Common.{has_each_id, rank, in_order, rest_of, IsStart, AreStarts, AreStretches, key_of}
+use Rattle.merged_runs.proofs.Common.{has_each_id, rank, in_order, rest_of, IsStart, AreStarts, AreStretches, key_of, key_between}
 use Rattle.merged_runs.proofs.ScanLemmas.{IsScanOrder-in_order, All-in_order, AllPairs-in_order}
 
 -- a run is one of those that have a start, and its connections lie from there to the next start
@@ -33,6 +33,12 @@ key_of-none n starts remaining r h = cond-false (ltb (get_or starts r 0) (get_or
 pub key_of-some : (n : NetworkModel) (starts remaining : List ℕ) (r : ℕ) → get_or starts r 0 < get_or remaining r 0 → key_of n starts remaining r ≡ rank n (get_or remaining r 0 - 1) + 1
 unfolding key_of
 key_of-some n starts remaining r h = cond-true (ltb (get_or starts r 0) (get_or remaining r 0)) _ _ (lt-ltb (get_or starts r 0) (get_or remaining r 0) h)
+
+-- as it is found of the positions
+pub key_of-between : (n : NetworkModel) (starts remaining : List ℕ) (r from to key : ℕ) → from ≡ get_or starts r 0 → to ≡ get_or remaining r 0
+    → key ≡ key_between n from to → key ≡ key_of n starts remaining r
+unfolding key_of
+key_of-between n starts remaining r from to key is_from is_to is = rw (is_from, is_to) at is
 
 -- one connection of a run is given
 module _ (n : NetworkModel) (starts remaining : List ℕ) (run : ℕ) where

@@ -1,5 +1,5 @@
 -- A tournament over the runs of a network.
-use Rattle.merged_runs.proofs.Common.{◌≡◌, ℕ, zero, suc, ◌+◌, ◌-◌, ◌*◌, ◌/◌, ◌%◌, ◌<◌, ◌≤◌, ◌⊎◌, inl, inr, ⊎_elim, List, [], ◌∷◌, ◌++◌, length, get_or, set, arith, refl, sym, ap, ◌∙◌, subst}
+use Rattle.merged_runs.proofs.Common.{◌≡◌, ℕ, zero, suc, ◌+◌, ◌-◌, ◌*◌, ◌/◌, ◌%◌, ◌<◌, ◌≤◌, ◌⊎◌, inl, inr, ⊎_elim, List, [], ◌∷◌, ◌++◌, length, get_or, set, max, arith, refl, sym, ap, ◌∙◌, subst}
 use Rattle.merged_runs.proofs.Common.{get_or-set_same, get_or-set_other, length-set, cases_lt, cases_eq, most_connections, NetworkModel, count, run_of, rank, key_of, above, IsOver, IsWinner}
 use Rattle.merged_runs.proofs.Common.{IsTournament, IsMerge, rest_of}
 use Rattle.merged_runs.proofs.StretchLemmas.{run_between, within_count, key_of-set_other, key_of-none, key_of-some, rest_of-none, rest_of-last}
@@ -82,6 +82,14 @@ module _ (n : NetworkModel) (starts remaining : List ℕ) where
     best = λ r inside over. ⊎_elim (λ over_first. omega (arith, a.best r inside over_first, most)) (λ over_second. b.best r inside over_second) (IsOver-cases k (length remaining + r) (omega arith) over);
   }
 
+  -- that is, their maximum does
+  pub IsWinner-max : (k first second key : ℕ) → 0 < k → k < length remaining → IsWinner n starts remaining (2 * k) first
+      → IsWinner n starts remaining (2 * k + 1) second → key ≡ max first second → IsWinner n starts remaining k key
+  IsWinner-max k first second key some h a b greatest = elim (cases_lt first second) [
+    | inl less ↦ let same : key ≡ second = omega (arith, greatest, less) in rw same (IsWinner-second k first second some h a b (omega (arith, less)))
+    | inr ge ↦ let same : key ≡ first = omega (arith, greatest, ge) in rw same (IsWinner-first k first second some h a b ge)
+  ]
+
 -- the runs before this one have their keys
 pub record AreRead (n : NetworkModel) (starts remaining : List ℕ) (run : ℕ) (keys : List ℕ) : Type 0 where
   pub size : length keys ≡ 2 * length remaining
@@ -107,6 +115,22 @@ module _ (n : NetworkModel) (starts remaining keys : List ℕ) where
     each = λ k ge some few. let e : length remaining + (k - length remaining) ≡ k = omega arith in
         let leaf : get_or keys k 0 ≡ key_of n starts remaining (k - length remaining) = ap (λ m. get_or keys m 0) (sym e) ∙ read.each (k - length remaining) (omega arith) (omega arith) in
         rw leaf (subst (λ m. IsWinner n starts remaining m (key_of n starts remaining (k - length remaining))) e (IsWinner-leaf n starts remaining (k - length remaining) (omega arith)));
+  }
+
+  -- one run more has its key
+  pub AreRead-more : (run key : ℕ) → run < length remaining → AreRead n starts remaining run keys → key ≡ key_of n starts remaining run
+      → AreRead n starts remaining (run + 1) (set keys (length remaining + run) key)
+  AreRead-more run key h read own = grind (arith, length-set, get_or-set_same, get_or-set_other, cases_eq)
+
+  -- one node more is played
+  pub IsPlayedFrom-more : (node key : ℕ) → 0 < node → node ≤ length remaining → IsPlayedFrom n starts remaining node keys → IsWinner n starts remaining (node - 1) key
+      → IsPlayedFrom n starts remaining (node - 1) (set keys (node - 1) key)
+  IsPlayedFrom-more node key some few played won = record {
+    size = omega (arith, length-set keys (node - 1) key, played.size);
+    each = λ k ge more inside. elim (cases_eq k (node - 1)) [
+      | inl same ↦ rw (same, get_or-set_same keys (node - 1) key 0 (omega (arith, played.size, few, some))) won
+      | inr other ↦ rw (get_or-set_other keys (node - 1) k key 0 other) (played.each k (omega (arith, ge, other)) more inside)
+    ];
   }
 
   -- the final has the greatest key of all

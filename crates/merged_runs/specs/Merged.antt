@@ -43,9 +43,13 @@ pub record AreStretches (network : NetworkModel) (starts remaining : List ℕ) :
   pub size : length starts ≡ length remaining + 1
   pub within : (r : ℕ) → r < length remaining → (slice_index starts r ≤ slice_index remaining r) × (slice_index remaining r ≤ slice_index starts (r + 1))
 
--- one above the rank of the last connection that remains of a run, and 0 where none remains
+-- one above the rank of the last connection between two positions, and 0 where there is none
+abbrev pub key_between : NetworkModel → ℕ → ℕ → ℕ
+key_between network from to = if nat_lt from to then rank network (to - 1) + 1 else 0
+
+-- that of the connections that remain of a run
 unfoldable pub key_of : NetworkModel → List ℕ → List ℕ → ℕ → ℕ
-key_of network starts remaining r = if nat_lt (slice_index starts r) (slice_index remaining r) then rank network (slice_index remaining r - 1) + 1 else 0
+key_of network starts remaining r = key_between network (slice_index starts r) (slice_index remaining r)
 
 -- the node this many rounds above a node
 abbrev pub above : ℕ → ℕ → ℕ

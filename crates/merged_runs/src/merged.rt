@@ -1,8 +1,7 @@
 //! The scan order of a network, merged from its runs.
 ghost use Rattle.std.specs.Prelude.{◌≡◌, ◌+◌, ◌-◌, ◌*◌, ◌<◌, ◌≤◌, length, slice_index, slice_set, IfOk};
-ghost use Rattle.plan_model.specs.Bounds.{most_connections};
 ghost use Rattle.plan_model.specs.Order.{IsScanOrder};
-ghost use Rattle.merged_runs.specs.Merged.{AreStarts, AreStretches, IsWinner, IsTournament, IsMerge, DepartsInOrder, IsParted, key_of, rest_of};
+ghost use Rattle.merged_runs.specs.Merged.{AreStarts, AreStretches, IsTournament, IsMerge, DepartsInOrder, IsParted, key_between, rest_of};
 ghost use Rattle.plan_model.specs.Network.{count};
 
 use plan_model::{BackwardOrder, ConnectionId, Moment, Network, NoMemory};
@@ -41,38 +40,49 @@ fn starts_of(alloc: Global, network: &Network) -> Result<Vec<u32>, NoMemory>
     Ok(starts)
 }
 
-/// A tournament of this number of runs that was not played yet.
-fn unplayed(alloc: Global, runs: u32) -> Result<Vec<u64>, NoMemory>
-    requires { runs ≤ most_connections }
-    ensures { IfOk result (λ keys. length keys.items ≡ 2 * runs) }
-{
-    let keys: Vec<u64> = vec![in alloc; 0; 2 * runs as usize]?;
-    Ok(keys)
+/// The connections of one run that were not given yet: those from one index up to another.
+#[derive(Clone, Copy)]
+struct Stretch<'a> {
+    network: &'a Network,
+    from: u32,
+    to: u32,
+    ghost ordered: { from ≤ to },
+    ghost within: { to ≤ count network.now },
+    ghost rising: { DepartsInOrder network.now from to },
 }
 
-/// The index up to which the connections of one run depart by a moment. Mostly all do, and then a look at
-/// the last one is enough.
-fn end_by(network: &Network, from: u32, to: u32, last: Moment) -> u32
-    requires ordered { from ≤ to }
-    requires within { to ≤ count network.now }
-    requires rising { DepartsInOrder network.now from to }
-    ensures { IsParted network.now last.0 from result result to }
-{
-    if from == to || network.get(ConnectionId(to - 1)).dep.0 <= last.0 {
-        return to;
-    }
-    let mut low = from;
-    let mut high = to;
-    while low < high {
-        let middle = low + (high - low) / 2;
-        let dep = network.get(ConnectionId(middle)).dep;
-        if dep.0 <= last.0 {
-            low = middle + 1;
-        } else {
-            high = middle;
+impl<'a> Stretch<'a> {
+    /// The key of the last of them, and 0 if there is none.
+    fn key(&self) -> u64
+        ensures { result ≡ key_between self.now.network.now self.now.from self.now.to }
+    {
+        if self.from == self.to {
+            return 0;
         }
+        let dep = self.network.get(ConnectionId(self.to - 1)).dep;
+        dep.0 * MOST_CONNECTIONS + u64::from(self.to)
     }
-    low
+
+    /// The index up to which they depart by a moment. Mostly all do, and then a look at the last one is enough.
+    fn end_by(&self, last: Moment) -> u32
+        ensures { IsParted self.now.network.now last.0 self.now.from result result self.now.to }
+    {
+        if self.from == self.to || self.network.get(ConnectionId(self.to - 1)).dep.0 <= last.0 {
+            return self.to;
+        }
+        let mut low = self.from;
+        let mut high = self.to;
+        while low < high {
+            let middle = low + (high - low) / 2;
+            let dep = self.network.get(ConnectionId(middle)).dep;
+            if dep.0 <= last.0 {
+                low = middle + 1;
+            } else {
+                high = middle;
+            }
+        }
+        low
+    }
 }
 
 impl MergedRuns {
@@ -84,7 +94,7 @@ impl MergedRuns {
     {
         let starts = starts_of(alloc, network)?;
         let remaining = Vec::from_slice(alloc, &starts[1..])?;
-        let keys = unplayed(alloc, remaining.len() as u32)?;
+        let keys: Vec<u64> = vec![in alloc; 0; 2 * remaining.len()]?;
         let mut order = MergedRuns {
             starts,
             remaining,
@@ -92,36 +102,6 @@ impl MergedRuns {
         };
         order.play_all(network);
         Ok(order)
-    }
-
-    /// The key of the last connection of a run that was not given yet, and 0 if all were given.
-    fn key(&self, network: &Network, run: usize) -> u64
-        requires stretches { AreStretches network.now self.now.starts.items self.now.remaining.items }
-        requires run { run < length self.now.remaining.items }
-        ensures { result ≡ key_of network.now self.now.starts.items self.now.remaining.items run }
-    {
-        let end = self.remaining[run];
-        if end == self.starts[run] {
-            return 0;
-        }
-        let dep = network.get(ConnectionId(end - 1)).dep;
-        dep.0 * MOST_CONNECTIONS + u64::from(end)
-    }
-
-    /// The greatest key below a node, by those of the two nodes below it.
-    fn winner(&self, network: &Network, node: usize) -> u64
-        requires low { 0 < node }
-        requires high { node < length self.now.remaining.items }
-        requires first { IsWinner network.now self.now.starts.items self.now.remaining.items (2 * node)
-            (slice_index self.now.keys.items (2 * node)) }
-        requires second { IsWinner network.now self.now.starts.items self.now.remaining.items (2 * node + 1)
-            (slice_index self.now.keys.items (2 * node + 1)) }
-        ensures { IsWinner network.now self.now.starts.items self.now.remaining.items node result }
-    {
-        let _ = network;
-        let first = self.keys[2 * node];
-        let second = self.keys[2 * node + 1];
-        if first < second { second } else { first }
     }
 
     /// Plays all nodes, the final at last.
@@ -133,10 +113,15 @@ impl MergedRuns {
     {
         let runs = self.remaining.len();
         for run in 0..runs {
-            self.keys[runs + run] = self.key(network, run);
+            let stretch = Stretch {
+                network,
+                from: self.starts[run],
+                to: self.remaining[run],
+            };
+            self.keys[runs + run] = stretch.key();
         }
         for node in (1..runs).rev() {
-            self.keys[node] = self.winner(network, node);
+            self.keys[node] = self.keys[2 * node].max(self.keys[2 * node + 1]);
         }
     }
 
@@ -149,12 +134,15 @@ impl MergedRuns {
         ensures remaining { self.new.remaining.items
             ≡ slice_set self.old.remaining.items run (slice_index self.old.remaining.items run - 1) }
     {
-        self.remaining[run] -= 1;
+        let from = self.starts[run];
+        let to = self.remaining[run] - 1;
+        let stretch = Stretch { network, from, to };
+        self.remaining[run] = to;
         let mut node = self.remaining.len() + run;
-        self.keys[node] = self.key(network, run);
+        self.keys[node] = stretch.key();
         while node > 1 {
             node /= 2;
-            self.keys[node] = self.winner(network, node);
+            self.keys[node] = self.keys[2 * node].max(self.keys[2 * node + 1]);
         }
     }
 }
@@ -187,8 +175,12 @@ impl BackwardOrder for MergedRuns {
 
     fn skip_after(&mut self, network: &Network, last: Moment) {
         for run in 0..self.remaining.len() {
-            let end = end_by(network, self.starts[run], self.remaining[run], last);
-            self.remaining[run] = end;
+            let stretch = Stretch {
+                network,
+                from: self.starts[run],
+                to: self.remaining[run],
+            };
+            self.remaining[run] = stretch.end_by(last);
         }
         self.play_all(network);
     }

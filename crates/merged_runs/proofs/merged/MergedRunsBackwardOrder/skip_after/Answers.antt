@@ -1,9 +1,9 @@
 use Rattle.merged_runs.proofs.Common.{◌≡◌, ◌<◌, ◌≤◌, length, get_or, arith, ap, ◌∙◌, get_or_read}
-use Rattle.merged_runs.proofs.SkipLemmas.{DepartsInOrder-run, rest_of-lowered}
+use Rattle.merged_runs.proofs.SkipLemmas.{stretch_is, rest_of-lowered}
 use Rattle.merged_runs.proofs.merged.MergedRunsBackwardOrder.skip_after.Goals as goal
 
-pub end_by-end-requires-clause-rising : goal.end_by-end-requires-clause-rising
-end_by-end-requires-clause-rising c =
+pub invariant_of-stretch : goal.invariant_of-stretch
+invariant_of-stretch c =
     let s = c.args.self.now in
     let inv = c.loop-run.invariant in
     let run = c.loop-run.run in
@@ -14,7 +14,8 @@ end_by-end-requires-clause-rising c =
     let to : c.index-in-loop-run.result.now ≡ get_or s.remaining.items run 0 =
     get_or_read c.loop-run.self.remaining.items run c.index-in-loop-run.result.now
     (omega (arith, within, inv.lowered.size)) c.index-in-loop-run.ensures 0 ∙ inv.lowered.same run (omega arith) in
-    rw (from, to) (DepartsInOrder-run c.args.network.now c.requires.stretches.begin.valid s.starts.items s.remaining.items c.requires.stretches run within)
+    let is = stretch_is c.args.network.now s.starts.items s.remaining.items c.requires.stretches run within c.index.result.now c.index-in-loop-run.result.now from (omega (arith, to)) in
+    record { ordered = omega (arith, from, to, (c.requires.stretches.within run within).0); within = is.0; rising = is.1 }
 
 pub returns-clause-up_to : goal.returns-clause-up_to
 returns-clause-up_to c =
