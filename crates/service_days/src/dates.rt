@@ -1,12 +1,12 @@
 //! The exceptions of `calendar_dates.txt`.
-ghost use Rattle.std.specs.Prelude.{◌≡◌, ◌<◌, Ok, IfOk};
+ghost use Rattle.std.specs.Prelude.{◌≡◌, Ok, IfOk};
 ghost use Rattle.std.specs.Result.{result_err};
 ghost use Rattle.csv_rows.specs.declared.feed_tables.Table.TheVariants.{CalendarDates as DatesTable};
 ghost use Rattle.csv_rows.specs.RowFaults.{ReportsFirst};
-ghost use Rattle.csv_rows.specs.Tables.{row_count};
 ghost use Rattle.service_days.specs.Dates.{date_columns, date_in};
 
 use crate::forms::read_adds;
+use crate::row::Row;
 use clock_text::read_date;
 use csv_rows::{Column, FeedFault, Rows, Table, read_name};
 
@@ -45,24 +45,22 @@ fn bad(line: u64, column: Column) -> FeedFault
 }
 
 /// The exception of a row, or the first field that is not of its form.
-pub(crate) fn read_exception(
-    rows: &Rows,
+pub(crate) fn read_exception<'a>(
+    row: &Row<'a>,
     columns: DateColumns,
-    row: usize,
-) -> Result<ServiceDate<'_>, FeedFault>
-    requires { row < row_count rows.now }
-    ensures exception { IfOk result (λ e. date_in rows.now columns row
+) -> Result<ServiceDate<'a>, FeedFault>
+    ensures exception { IfOk result (λ e. date_in row.now.rows.now columns row.now.index
         ≡ Ok (record { service = e.service.now; day = e.day; adds = e.adds })) }
-    ensures reports { ReportsFirst DatesTable (result_err (date_in rows.now columns row)) result }
+    ensures reports { ReportsFirst DatesTable (result_err (date_in row.now.rows.now columns row.now.index)) result }
 {
-    let line = rows.line(row);
-    let Some(service) = read_name(rows.field_at(row, columns.service)) else {
+    let line = row.line();
+    let Some(service) = read_name(row.field_at(columns.service)) else {
         return Err(bad(line, Column::ServiceId));
     };
-    let Some(day) = read_date(rows.field_at(row, columns.date)) else {
+    let Some(day) = read_date(row.field_at(columns.date)) else {
         return Err(bad(line, Column::Date));
     };
-    let Some(adds) = read_adds(rows.field_at(row, columns.kind)) else {
+    let Some(adds) = read_adds(row.field_at(columns.kind)) else {
         return Err(bad(line, Column::ExceptionType));
     };
     Ok(ServiceDate { service, day, adds })

@@ -11,6 +11,7 @@ ghost use Rattle.service_days.specs.Exceptions.{same, has};
 ghost use Rattle.service_days.specs.Numbered.{AddsDate, AreNumbered};
 
 use crate::dates::{ServiceDate, date_columns, read_exception};
+use crate::row::Row;
 use csv_rows::{Column, FeedFault, Ids, Rows, Table, check_columns};
 use plan_model::{HashKey, NoMemory};
 use std::alloc::Global;
@@ -56,19 +57,19 @@ fn insert(
 fn add<'a>(
     services: &mut TextIndex<'a>,
     exceptions: &mut HashSet<Exception, HashKey>,
-    row: ServiceDate<'a>,
+    date: ServiceDate<'a>,
 ) -> Result<(), NoMemory>
     requires { length services.old < 2 ^ 32 - 1 }
     ensures { OnOk result (AddsDate services.old services.new exceptions.old.keys exceptions.new.keys
-        (record { service = row.entry.service.now; day = row.entry.day; adds = row.entry.adds })) }
+        (record { service = date.entry.service.now; day = date.entry.day; adds = date.entry.adds })) }
 {
-    let service = services.add(row.service)?;
+    let service = services.add(date.service)?;
     insert(
         exceptions,
         Exception {
             service,
-            day: row.day,
-            adds: row.adds,
+            day: date.day,
+            adds: date.adds,
         },
     )
 }
@@ -90,8 +91,8 @@ fn read_rows<'a>(
     let columns = date_columns(rows);
     let mut exceptions = HashSet::with_hasher(alloc, rows.key());
     for i in 0..rows.count() {
-        let row = read_exception(rows, columns, i)?;
-        add(services, &mut exceptions, row)?;
+        let date = read_exception(&Row { rows, index: i }, columns)?;
+        add(services, &mut exceptions, date)?;
     }
     Ok(exceptions)
 }

@@ -9,6 +9,7 @@ mod dates;
 mod exceptions;
 mod forms;
 mod periods;
+mod row;
 mod services;
 mod tables;
 

@@ -1,5 +1,5 @@
 //! The periods of `calendar.txt`.
-ghost use Rattle.std.specs.Prelude.{◌≡◌, ◌<◌, ◌≤◌, ◌+◌, ◌^◌, length, None, Some, Ok, Err, IfOk, IfErr, OnOk, OnErr};
+ghost use Rattle.std.specs.Prelude.{◌≡◌, ◌≤◌, ◌+◌, ◌^◌, length, None, Some, Ok, Err, IfOk, IfErr, OnOk, OnErr};
 ghost use Rattle.std.specs.Result.{result_err};
 ghost use Rattle.csv_rows.specs.declared.feed_tables.Table.TheVariants.{Calendar as CalendarTable};
 ghost use Rattle.csv_rows.specs.First.{first_below};
@@ -11,6 +11,7 @@ ghost use Rattle.service_days.specs.Calendars.{AreDistinctRows};
 ghost use Rattle.service_days.specs.Periods.{flag_of, runs_in_period, period_columns, week_in, period_in, bad_period, service_ids, periods_of, calendar_fault};
 
 use crate::forms::read_flag;
+use crate::row::Row;
 use clock_text::{read_date, weekday};
 use csv_rows::{Column, FeedFault, Ids, Rows, Table, check_columns, read_ids, read_name};
 use std::alloc::Global;
@@ -129,38 +130,31 @@ fn bad(line: u64, column: Column) -> FeedFault
 }
 
 /// The flag of a row under a column at an index, or the fault that it is not of its form.
-fn read_flag_at(
-    rows: &Rows,
-    row: usize,
-    index: Option<usize>,
-    column: Column,
-) -> Result<bool, FeedFault>
-    requires { row < row_count rows.now }
-    ensures flag { IfOk result (λ flag. weekday_flag_in (field_at rows.now index row) ≡ Some flag) }
-    ensures none { OnErr result (weekday_flag_in (field_at rows.now index row) ≡ None) }
-    ensures fault { IfErr result (λ f. f ≡ FeedFault.BadField CalendarTable (row + 2) column) }
+fn read_flag_at(row: &Row<'_>, index: Option<usize>, column: Column) -> Result<bool, FeedFault>
+    ensures flag { IfOk result (λ flag. weekday_flag_in (field_at row.now.rows.now index row.now.index) ≡ Some flag) }
+    ensures none { OnErr result (weekday_flag_in (field_at row.now.rows.now index row.now.index) ≡ None) }
+    ensures fault { IfErr result (λ f. f ≡ FeedFault.BadField CalendarTable (row.now.index + 2) column) }
 {
-    match read_flag(rows.field_at(row, index)) {
+    match read_flag(row.field_at(index)) {
         Some(flag) => Ok(flag),
-        None => Err(bad(rows.line(row), column)),
+        None => Err(bad(row.line(), column)),
     }
 }
 
 /// The flags of a row, or the first that is not of its form.
-fn read_week(rows: &Rows, columns: PeriodColumns, row: usize) -> Result<Week, FeedFault>
-    requires { row < row_count rows.now }
-    ensures week { IfOk result (λ w. week_in rows.now columns row ≡ Ok w) }
-    ensures fault { IfErr result (λ f. week_in rows.now columns row ≡ Err f) }
+fn read_week(row: &Row<'_>, columns: PeriodColumns) -> Result<Week, FeedFault>
+    ensures week { IfOk result (λ w. week_in row.now.rows.now columns row.now.index ≡ Ok w) }
+    ensures fault { IfErr result (λ f. week_in row.now.rows.now columns row.now.index ≡ Err f) }
     ensures content { IfErr result (λ f. unread_table f ≡ None) }
     ensures own { IfErr result (IsFaultOf CalendarTable) }
 {
-    let monday = read_flag_at(rows, row, columns.monday, Column::Monday)?;
-    let tuesday = read_flag_at(rows, row, columns.tuesday, Column::Tuesday)?;
-    let wednesday = read_flag_at(rows, row, columns.wednesday, Column::Wednesday)?;
-    let thursday = read_flag_at(rows, row, columns.thursday, Column::Thursday)?;
-    let friday = read_flag_at(rows, row, columns.friday, Column::Friday)?;
-    let saturday = read_flag_at(rows, row, columns.saturday, Column::Saturday)?;
-    let sunday = read_flag_at(rows, row, columns.sunday, Column::Sunday)?;
+    let monday = read_flag_at(row, columns.monday, Column::Monday)?;
+    let tuesday = read_flag_at(row, columns.tuesday, Column::Tuesday)?;
+    let wednesday = read_flag_at(row, columns.wednesday, Column::Wednesday)?;
+    let thursday = read_flag_at(row, columns.thursday, Column::Thursday)?;
+    let friday = read_flag_at(row, columns.friday, Column::Friday)?;
+    let saturday = read_flag_at(row, columns.saturday, Column::Saturday)?;
+    let sunday = read_flag_at(row, columns.sunday, Column::Sunday)?;
     Ok(Week {
         monday,
         tuesday,
@@ -173,20 +167,19 @@ fn read_week(rows: &Rows, columns: PeriodColumns, row: usize) -> Result<Week, Fe
 }
 
 /// The period of a row, or the first field that is not of its form.
-fn read_period(rows: &Rows, columns: PeriodColumns, row: usize) -> Result<Period, FeedFault>
-    requires { row < row_count rows.now }
-    ensures period { IfOk result (λ p. period_in rows.now columns row ≡ Ok p) }
-    ensures reports { ReportsFirst CalendarTable (result_err (period_in rows.now columns row)) result }
+fn read_period(row: &Row<'_>, columns: PeriodColumns) -> Result<Period, FeedFault>
+    ensures period { IfOk result (λ p. period_in row.now.rows.now columns row.now.index ≡ Ok p) }
+    ensures reports { ReportsFirst CalendarTable (result_err (period_in row.now.rows.now columns row.now.index)) result }
 {
-    let line = rows.line(row);
-    let Some(_name) = read_name(rows.field_at(row, columns.service)) else {
+    let line = row.line();
+    let Some(_name) = read_name(row.field_at(columns.service)) else {
         return Err(bad(line, Column::ServiceId));
     };
-    let week = read_week(rows, columns, row)?;
-    let Some(first) = read_date(rows.field_at(row, columns.first)) else {
+    let week = read_week(row, columns)?;
+    let Some(first) = read_date(row.field_at(columns.first)) else {
         return Err(bad(line, Column::StartDate));
     };
-    let Some(last) = read_date(rows.field_at(row, columns.last)) else {
+    let Some(last) = read_date(row.field_at(columns.last)) else {
         return Err(bad(line, Column::EndDate));
     };
     Ok(Period { week, first, last })
@@ -201,7 +194,7 @@ fn read_periods(alloc: Global, rows: &Rows) -> Result<Vec<Period>, FeedFault>
     let columns = period_columns(rows);
     let mut periods: Vec<Period> = Vec::new(alloc);
     for i in 0..rows.count() {
-        let period = read_period(rows, columns, i)?;
+        let period = read_period(&Row { rows, index: i }, columns)?;
         periods.push(period)?;
     }
     Ok(periods)
