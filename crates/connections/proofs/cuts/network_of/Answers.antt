@@ -1,4 +1,5 @@
-use Rattle.connections.proofs.Common.{◌≡◌, ◌≤◌, [], DelayLists, connections_below, most_connections, length, ap, sym, subst, ◌∙◌, arith, slice_index_or, list_below, length-list_below, AreLinksInto, place_seconds, links_of}
+use Rattle.connections.proofs.Common.{◌≡◌, ◌≤◌, [], DelayLists, connections_below, most_connections, length, ap, sym}
+use Rattle.connections.proofs.Common.{subst, ◌∙◌, arith, slice_index_or, list_below, length-list_below, AreLinksInto, place_seconds, links_of}
 use Rattle.connections.proofs.ConnectionLemmas.{few_runs}
 use Rattle.connections.proofs.CountLemmas.{connections_counted}
 use Rattle.connections.proofs.LinkLemmas.{links_fit, names_fit}
