@@ -1,5 +1,5 @@
 -- The faults of a run: the number that a process ends with, and the file that a fault is of.
-use Rattle.std.specs.Prelude.{◌≡◌, ◌≢◌, ℕ, ◌==◌, Bool, true, false, List, Option, None, Some, IfSome, codes}
+use Rattle.std.specs.Prelude.{◌≡◌, ◌≢◌, ℕ, ◌+◌, ◌==◌, Bool, false, List, Option, None, Some, IfSome, codes}
 use Rattle.csv_rows.specs.FeedTables.{file_name, rank_of}
 use Rattle.journey_model.specs.declared.faults.Input.{Input}
 use Rattle.journey_model.specs.declared.faults.Input.TheVariants as input
@@ -62,38 +62,18 @@ unread_input (Unsafe place moment) = None
 unread_input Write = None
 unread_input NoMemory = None
 
--- whether the two inputs are one
-abbrev pub is_input : Input → Input → Bool
-is_input (input.Feed other) (input.Feed table) = rank_of other == rank_of table
-is_input (input.Feed other) input.Cut = false
-is_input (input.Feed other) input.Delays = false
-is_input (input.Feed other) input.Graph = false
-is_input (input.Feed other) input.Proof = false
-is_input input.Cut (input.Feed table) = false
-is_input input.Cut input.Cut = true
-is_input input.Cut input.Delays = false
-is_input input.Cut input.Graph = false
-is_input input.Cut input.Proof = false
-is_input input.Delays (input.Feed table) = false
-is_input input.Delays input.Cut = false
-is_input input.Delays input.Delays = true
-is_input input.Delays input.Graph = false
-is_input input.Delays input.Proof = false
-is_input input.Graph (input.Feed table) = false
-is_input input.Graph input.Cut = false
-is_input input.Graph input.Delays = false
-is_input input.Graph input.Graph = true
-is_input input.Graph input.Proof = false
-is_input input.Proof (input.Feed table) = false
-is_input input.Proof input.Cut = false
-is_input input.Proof input.Delays = false
-is_input input.Proof input.Graph = false
-is_input input.Proof input.Proof = true
+-- the number of an input, its own
+abbrev pub input_number : Input → ℕ
+input_number input.Cut = 0
+input_number input.Delays = 1
+input_number input.Graph = 2
+input_number input.Proof = 3
+input_number (input.Feed table) = rank_of table + 4
 
 -- whether this file is the one that cannot be read
 abbrev pub is_unread_input : Option Input → Input → Bool
 is_unread_input None input = false
-is_unread_input (Some other) input = is_input other input
+is_unread_input (Some unread) input = input_number unread == input_number input
 
 -- where the fault is that a file cannot be read, it is this file
 abbrev pub MayBeUnread : Input → Fault → Type 0
