@@ -11,40 +11,16 @@ use Rattle.trip_replay.specs.declared.Trace.{Trace}
 use Rattle.lower_proof.specs.declared.LowerBounds.{LowerBounds}
 use Rattle.journey_report.specs.declared.report.Report.{Report}
 
-pub record Findings : Type 0 where
-  pub query : Option Query
-  pub worst : Option Moment
-  pub expanded : Option ExpandedGraph
-  pub graph : Option PlanGraph
-  pub bounds : Option Interval
-  pub trace : Option Trace
-  pub connections : Option ℕ
-  pub proof : Option LowerBounds
-  pub least : Option ℕ
-  pub chance : Option Interval
-  pub departures : Option (List DepartureRow)
-  pub latest : Option Moment
-  pub reach : Option (List ReachRow)
+-- a report whose status and fault are of no account
+abbrev pub Findings : Type 0
+Findings = Report
 
 abbrev pub findings_of : Report → Findings
-findings_of r = record {
-  query = r.query;
-  worst = r.worst;
-  expanded = r.expanded;
-  graph = r.graph;
-  bounds = r.bounds;
-  trace = r.trace;
-  connections = r.connections;
-  proof = r.proof;
-  least = r.least;
-  chance = r.chance;
-  departures = r.departures;
-  latest = r.latest;
-  reach = r.reach;
-}
+findings_of r = record r { status = record { 0 = 0 }; fault = None }
 
 abbrev pub no_findings : Findings
 no_findings = record {
+  status = record { 0 = 0 };
   query = None;
   worst = None;
   expanded = None;
@@ -58,6 +34,7 @@ no_findings = record {
   departures = None;
   latest = None;
   reach = None;
+  fault = None;
 }
 
 -- the least worst arrival and the deadline
