@@ -28,7 +28,6 @@ module _ (values : List (Option ℕ)) (entries : List Entry) where
   front_in_time x m within in_time late least is = grind (arith, least_same, cases_lt)
 
 -- what is shown of a board whose first least values are known
-pub board_shown : (values : List (Option ℕ)) (entries : List Entry) (least : List (Option ℕ)) (known : ℕ) → Falls entries
-    → ((k : ℕ) → k < length entries → (entry_at entries k).id.0 < length values) → known ≤ length least → known ≤ length entries
+pub board_shown : (values : List (Option ℕ)) (entries : List Entry) (least : List (Option ℕ)) (known : ℕ) → Falls entries → known ≤ length least → known ≤ length entries
     → AreMinima values entries least known → IsBoard values (record { entries = entries; least = take known least })
-board_shown values entries least known falls ids within inside minima = grind (arith, length-take, get_or-take)
+board_shown values entries least known falls within inside minima = grind (arith, length-take, get_or-take)

@@ -41,14 +41,13 @@ boards_looked n last values boards p board within are same right = record {
       (λ differ. are.each r (omega (arith, length-set boards p board)));
 }
 
-module _ (n : NetworkModel) (valid : IsValid n) (last moment : ℕ) (values others : List (Option ℕ)) (agree : Agree n moment values others) (as_many : length others ≡ length values) where
+module _ (n : NetworkModel) (valid : IsValid n) (last moment : ℕ) (values others : List (Option ℕ)) (agree : Agree n moment values others) where
   -- what is known stays right where only values of earlier departures change
   board_agrees : (p : ℕ) (board : ShownBoard) → AreLate moment board.entries (length board.least) → IsBoardOf n last p values board → IsBoardOf n last p others board
   board_agrees p board late of = record {
     entries = of.entries;
     right = record {
       falls = of.right.falls;
-      ids = λ k within. omega (arith, of.right.ids k within);
       sizes = of.right.sizes;
       minima = λ k below. least_same (FrontValue values board.entries (k + 1)) (FrontValue others board.entries (k + 1))
           (λ v f. (f.0, f.1, sym (same k below f.0 f.1) ∙ f.2)) (least_of board.least k)
@@ -137,7 +136,7 @@ module _ {n : NetworkModel} (good : IsValid n) {q : Query} {last : ℕ} where
                 | inr earlier ↦ written.own c inside earlier
               ]) there known in
               (λ board. rides_agree n good q last written.taken e.id next values now agree c there known (bound_of now c) (has.0 board), has.1);
-          right = boards_agree n good last (dep_of n e.id.0) values now agree (length-set values e.id.0 value) looked
+          right = boards_agree n good last (dep_of n e.id.0) values now agree looked
               (λ c there after. other c (λ is. next.new (known_left_out (Late n last) written.taken e.id.0 (subst (λ i. last < dep_of n i) is after)))
               ∙ right.none_after c there after)
               (late (dep_of n e.id.0) forward (written.late (dep_of n e.id.0) (λ c there known. next.later c there known))) right;

@@ -19,7 +19,6 @@ AreLate moment entries known = (k : ℕ) → k < known → moment ≤ (entry_at 
 pub record IsBoard (values : List (Option ℕ)) (board : ShownBoard) : Type 0 where
   pub sizes : length board.least ≤ length board.entries
   pub falls : Falls board.entries
-  pub ids : (k : ℕ) → k < length board.entries → (entry_at board.entries k).id.0 < length values
   pub minima : AreMinima values board.entries board.least (length board.least)
 
 -- the board of a place
@@ -43,7 +42,7 @@ AllLate moment boards = (p : ℕ) → p < length boards → AreLate moment (boar
 
 -- nothing is known yet: the boards are right for all values without one after a moment, and what is known is late
 pub record AreFresh (network : NetworkModel) (last : ℕ) (boards : List ShownBoard) : Type 0 where
-  pub right : (values : List (Option ℕ)) → length values ≡ count network → NoneAfter network values last → AreBoards network last values boards
+  pub right : (values : List (Option ℕ)) → NoneAfter network values last → AreBoards network last values boards
   pub late : (m : ℕ) → AllLate m boards
 
 -- each board has the first m connections, and nothing is known of it

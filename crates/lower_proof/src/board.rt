@@ -3,10 +3,11 @@ ghost use Rattle.std.specs.Prelude.{◌≡◌, ℕ, ◌+◌, ◌<◌, ◌≤◌,
 ghost use Rattle.lower_proof.specs.Certificates.{IsLeastOf};
 ghost use Rattle.lower_proof.specs.Boards.{entry_at, Falls, ValueInTime};
 ghost use Rattle.lower_proof.specs.Minima.{AreMinima, AreLate, IsBoard, board_at, HaveEntries, AreFresh};
-ghost use Rattle.plan_model.specs.Network.{count, connection, dep_of, IsValid};
+ghost use Rattle.plan_model.specs.NetworkModel.{NetworkModel};
+ghost use Rattle.plan_model.specs.Network.{count, IsValid};
 
-use crate::lesser;
-use plan_model::{ConnectionId, Moment, Network, NoMemory};
+use crate::{lesser, value_of};
+use plan_model::{Connection, ConnectionId, Moment, Network, NoMemory};
 use std::alloc::Global;
 use std::marker::Model;
 
@@ -37,14 +38,13 @@ fn extend(
 )
     requires sizes { length entries.now ≤ length least.old }
     requires wanted { wanted ≤ length entries.now }
-    requires ids { (k : ℕ) → k < length entries.now → (entry_at entries.now k).id.0 < length values.now }
     requires minima { AreMinima values.now entries.now least.old known }
     ensures sizes { length least.new ≡ length least.old }
     ensures minima { AreMinima values.now entries.now least.new (max known wanted) }
 {
     for k in known..wanted {
         let before = if k == 0 { None } else { least[k - 1] };
-        least[k] = lesser(before, values[entries[k].id.0 as usize]);
+        least[k] = lesser(before, value_of(values, entries[k].id));
     }
 }
 
@@ -141,16 +141,31 @@ fn empty_boards(alloc: Global, places: u32) -> Result<Vec<Board>, NoMemory>
     Ok(boards)
 }
 
-/// Adds a connection to the board of each place from which a way leads to it.
-fn add_entries(boards: &mut [Board], network: &Network, id: ConnectionId) -> Result<(), NoMemory>
+/// Whether a connection can be boarded, and departs by a moment.
+fn boards_by(connection: &Connection, last: Moment) -> bool
+    ensures { IsTrue result ↔ IsTrue connection.now.can_board × (connection.now.dep.0 ≤ last.0) }
+{
+    connection.can_board && connection.dep <= last
+}
+
+/// Adds a connection to the board of each place from which a way leads to it, if it can be boarded and departs by a
+/// moment.
+fn add_entries(
+    boards: &mut [Board],
+    network: &Network,
+    id: ConnectionId,
+    last: Moment,
+) -> Result<(), NoMemory>
     requires there { id.0 < count network.now }
-    requires board { IsTrue (connection network.now id.0).can_board }
     requires len { length boards.old ≡ length network.now.change }
     ensures len { OnOk result (length boards.new ≡ length network.now.change) }
-    ensures entries { OnOk result ((last : ℕ) → HaveEntries network.now last id.0 boards.old
-        → HaveEntries network.now last (id.0 + 1) boards.new) }
+    ensures entries { OnOk result (HaveEntries network.now last.0 id.0 boards.old
+        → HaveEntries network.now last.0 (id.0 + 1) boards.new) }
 {
     let connection = network.get(id);
+    if !boards_by(&connection, last) {
+        return Ok(());
+    }
     for k in 0..network.way_count(connection.from) {
         let way = network.way_at(connection.from, k);
         let seconds = u64::from(way.seconds);
@@ -164,24 +179,15 @@ fn add_entries(boards: &mut [Board], network: &Network, id: ConnectionId) -> Res
 }
 
 /// Sorts the entries of each board.
-fn sort_boards(boards: &mut [Board], network: &Network)
-    requires len { length boards.old ≡ length network.now.change }
-    ensures len { length boards.new ≡ length network.now.change }
-    ensures fresh { (last : ℕ) → HaveEntries network.now last (count network.now) boards.old → AreFresh network.now last boards.new }
+fn sort_boards(boards: &mut [Board])
+    ensures len { length boards.new ≡ length boards.old }
+    ensures fresh { (n : NetworkModel) (last : ℕ) → length boards.old ≡ length n.change
+        → HaveEntries n last (count n) boards.old → AreFresh n last boards.new }
 {
-    for p in 0..network.places() {
-        let board = &mut boards[p as usize];
+    for p in 0..boards.len() {
+        let board = &mut boards[p];
         board.sort();
     }
-}
-
-/// Whether a connection can be boarded, and departs by a moment.
-fn boards_by(network: &Network, id: ConnectionId, last: Moment) -> bool
-    requires { id.0 < count network.now }
-    ensures { IsTrue result ↔ IsTrue (connection network.now id.0).can_board × (dep_of network.now id.0 ≤ last.0) }
-{
-    let connection = network.get(id);
-    connection.can_board && connection.dep <= last
 }
 
 /// The boards of all places of a network, with the connections that depart by a moment.
@@ -191,11 +197,8 @@ pub fn boards(alloc: Global, network: &Network, last: Moment) -> Result<Vec<Boar
 {
     let mut boards = empty_boards(alloc, network.places())?;
     for i in 0..network.count() {
-        let id = ConnectionId(i);
-        if boards_by(network, id, last) {
-            add_entries(&mut boards, network, id)?;
-        }
+        add_entries(&mut boards, network, ConnectionId(i), last)?;
     }
-    sort_boards(&mut boards, network);
+    sort_boards(&mut boards);
     Ok(boards)
 }

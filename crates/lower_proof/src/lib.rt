@@ -7,8 +7,7 @@
 
 ghost use Rattle.std.specs.Prelude.{◌≡◌, ℕ, ◌+◌, ◌<◌, ◌≤◌, ◌↔◌, IsTrue, IfOk, false, length, slice_set, Option as Maybe};
 ghost use Rattle.plan_model.specs.NetworkModel.{NetworkModel};
-ghost use Rattle.plan_model.specs.Network.{IsValid, count, connection, run_of, arr_of};
-ghost use Rattle.plan_model.specs.Strategy.{IsBoardableAtStart};
+ghost use Rattle.plan_model.specs.Network.{IsValid, count, run_of, arr_of};
 ghost use Rattle.lower_proof.specs.Certificates.{bound_of, IsLeastOf, arrived_by, IsLeastAt, IsLeastAtStart, IsVia, IsTight, IsVerdict};
 ghost use Rattle.lower_proof.specs.Promises.{IsSound, IsBestCertificate};
 ghost use Rattle.lower_proof.specs.Steps.{lesser, KeepsTo, exit_of, IsBestExit};
@@ -26,7 +25,9 @@ mod walk;
 use board::{Board, boards};
 use interval_fixed::Span;
 pub use laws::{each_value_is_a_bound, no_text_lacks_memory, one_text_is_one_certificate};
-use plan_model::{ConnectionId, List, Moment, Network, NoMemory, PlaceId, Query, WHOLE_WEIGHT};
+use plan_model::{
+    Connection, ConnectionId, List, Moment, Network, NoMemory, PlaceId, Query, WHOLE_WEIGHT,
+};
 pub use printer::write_text;
 pub use reader::{ProofFault, read_text};
 use std::alloc::Global;
@@ -56,6 +57,25 @@ pub enum Verdict {
 struct Scope {
     query: Query,
     last: Moment,
+}
+
+/// A connection of the network, for a question.
+#[derive(Clone, Copy)]
+struct Site<'a> {
+    network: &'a Network,
+    scope: &'a Scope,
+    id: ConnectionId,
+    ghost there: { id.0 < count network.now },
+}
+
+/// The value of a connection; `None` if it has none.
+fn value_of(values: &[Option<u64>], id: ConnectionId) -> Option<u64>
+    ensures { result ≡ bound_of values.now id.0 }
+{
+    match values.get(id.0 as usize) {
+        None => None,
+        Some(value) => *value,
+    }
 }
 
 /// The lesser of two values.
@@ -93,11 +113,9 @@ fn arrived(deadline: Moment, moment: Moment) -> Option<u64>
 }
 
 /// Whether one who sets out at a place at a moment can board a connection.
-fn starts(network: &Network, place: PlaceId, moment: Moment, id: ConnectionId) -> bool
-    requires { id.0 < count network.now }
-    ensures { IsTrue result ↔ IsBoardableAtStart network.now place.0 moment.0 id.0 }
+fn starts(connection: &Connection, place: PlaceId, moment: Moment) -> bool
+    ensures { IsTrue result ↔ (connection.now.from.0 ≡ place.0) × (moment.0 ≤ connection.now.dep.0) }
 {
-    let connection = network.get(id);
     connection.from == place && moment <= connection.dep
 }
 
@@ -124,27 +142,20 @@ fn least_at(
 }
 
 /// The value of leaving by a connection; `None` if one cannot leave by it, or is not safe after an outcome.
-fn via(
-    boards: &mut [Board],
-    values: &[Option<u64>],
-    network: &Network,
-    scope: &Scope,
-    id: ConnectionId,
-) -> Option<u64>
-    requires boards { AreBoards network.now scope.now.last.0 values.now boards.old }
-    requires there { id.0 < count network.now }
-    ensures via { IsLeastOf (IsVia network.now scope.now.query values.now id.0) result }
-    ensures boards { AreBoards network.now scope.now.last.0 values.now boards.new }
-    ensures late { (m : ℕ) → m ≤ arr_of network.now id.0 → AllLate m boards.old → AllLate m boards.new }
+fn via(boards: &mut [Board], values: &[Option<u64>], site: &Site) -> Option<u64>
+    requires { AreBoards site.now.network.now site.now.scope.now.last.0 values.now boards.old }
+    ensures via { IsLeastOf (IsVia site.now.network.now site.now.scope.now.query values.now site.now.id.0) result }
+    ensures boards { AreBoards site.now.network.now site.now.scope.now.last.0 values.now boards.new }
+    ensures late { (m : ℕ) → m ≤ arr_of site.now.network.now site.now.id.0 → AllLate m boards.old → AllLate m boards.new }
 {
-    let connection = network.get(id);
+    let connection = site.network.get(site.id);
     if !connection.can_exit {
         return None;
     }
     let mut sum: u128 = 0;
-    for outcome in network.row(connection.class) {
+    for outcome in site.network.row(connection.class) {
         let moment = Moment(connection.arr.0 + u64::from(outcome.delay));
-        match least_at(boards, values, &scope.query, connection.to, moment) {
+        match least_at(boards, values, &site.scope.query, connection.to, moment) {
             None => return None,
             Some(value) => sum += u128::from(outcome.weight) * u128::from(value),
         }
@@ -173,32 +184,27 @@ fn offer(
     boards: &mut [Board],
     exits: &mut [Option<u64>],
     values: &[Option<u64>],
-    network: &Network,
-    scope: &Scope,
-    id: ConnectionId,
+    site: &Site,
 ) -> Option<u64>
-    requires boards { AreBoards network.now scope.now.last.0 values.now boards.old }
-    requires there { id.0 < count network.now }
-    requires run { run_of network.now id.0 < length exits.old }
-    ensures best { IsBestExit network.now scope.now.query values.now exits.old id.0 result }
-    ensures exits { exits.new ≡ slice_set exits.old (run_of network.now id.0) result }
-    ensures boards { AreBoards network.now scope.now.last.0 values.now boards.new }
-    ensures late { (m : ℕ) → m ≤ arr_of network.now id.0 → AllLate m boards.old → AllLate m boards.new }
+    requires boards { AreBoards site.now.network.now site.now.scope.now.last.0 values.now boards.old }
+    requires run { run_of site.now.network.now site.now.id.0 < length exits.old }
+    ensures best { IsBestExit site.now.network.now site.now.scope.now.query values.now exits.old site.now.id.0 result }
+    ensures exits { exits.new ≡ slice_set exits.old (run_of site.now.network.now site.now.id.0) result }
+    ensures boards { AreBoards site.now.network.now site.now.scope.now.last.0 values.now boards.new }
+    ensures late { (m : ℕ) → m ≤ arr_of site.now.network.now site.now.id.0 → AllLate m boards.old → AllLate m boards.new }
 {
-    let run = network.get(id).run.0 as usize;
-    let best = lesser(exits[run], via(boards, values, network, scope, id));
+    let run = site.network.get(site.id).run.0 as usize;
+    let best = lesser(exits[run], via(boards, values, site));
     exits[run] = best;
     best
 }
 
 /// Whether a connection cannot be boarded, or its value is at most the best one.
-fn is_kept(values: &[Option<u64>], network: &Network, id: ConnectionId, best: Option<u64>) -> bool
-    requires as_many { length values.now ≡ count network.now }
-    requires there { id.0 < count network.now }
-    ensures kept { IsTrue result → IsTrue (connection network.now id.0).can_board → KeepsTo (bound_of values.now id.0) best }
-    ensures fails { result ≡ false → IsTrue (connection network.now id.0).can_board × (KeepsTo (bound_of values.now id.0) best → ⊥) }
+fn is_kept(connection: &Connection, own: Option<u64>, best: Option<u64>) -> bool
+    ensures kept { IsTrue result → IsTrue connection.now.can_board → KeepsTo own best }
+    ensures fails { result ≡ false → IsTrue connection.now.can_board × (KeepsTo own best → ⊥) }
 {
-    !network.get(id).can_board || keeps_to(values[id.0 as usize], best)
+    !connection.can_board || keeps_to(own, best)
 }
 
 /// Whether the value of each connection that can be boarded is at most that of each way to leave its
@@ -224,8 +230,13 @@ pub fn check(
     let mut exits = no_exits(alloc, network)?;
     while let Some(departure) = departures.pop() {
         let id = departure.id;
-        let best = offer(&mut boards, &mut exits, values, network, &scope, id);
-        if !is_kept(values, network, id, best) {
+        let site = Site {
+            network,
+            scope: &scope,
+            id,
+        };
+        let best = offer(&mut boards, &mut exits, values, &site);
+        if !is_kept(&network.get(id), value_of(values, id), best) {
             return Ok(Verdict::Fails(id));
         }
     }
@@ -247,8 +258,9 @@ pub fn least(proof: &LowerBounds, network: &Network, query: &Query) -> Option<u6
     let mut least = None;
     for i in 0..network.count() {
         let id = ConnectionId(i);
-        if network.get(id).can_board && starts(network, query.source, query.start, id) {
-            least = lesser(least, values[i as usize]);
+        let connection = network.get(id);
+        if connection.can_board && starts(&connection, query.source, query.start) {
+            least = lesser(least, value_of(values, id));
         }
     }
     least
@@ -274,7 +286,12 @@ fn best_values(
     let mut values = no_values(alloc, network)?;
     while let Some(departure) = departures.pop() {
         let id = departure.id;
-        let best = offer(&mut boards, &mut exits, &values, network, &scope, id);
+        let site = Site {
+            network,
+            scope: &scope,
+            id,
+        };
+        let best = offer(&mut boards, &mut exits, &values, &site);
         let own = if network.get(id).can_board {
             best
         } else {

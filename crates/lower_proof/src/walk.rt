@@ -1,8 +1,9 @@
 //! The connections that count, in the scan order.
-ghost use Rattle.std.specs.Prelude.{◌≡◌, ◌<◌, ◌≤◌, length, IfOk, Option as Maybe};
-ghost use Rattle.plan_model.specs.Network.{count, IsValid};
+ghost use Rattle.std.specs.Prelude.{◌≡◌, ◌<◌, ◌≤◌, IfOk, Option as Maybe};
+ghost use Rattle.plan_model.specs.Network.{IsValid};
 ghost use Rattle.lower_proof.specs.Departures.{NoneAfter, AreDepartingBy};
 
+use crate::value_of;
 use plan_model::{ConnectionId, Departure, Moment, Network, NoMemory, in_scan_order};
 use std::alloc::Global;
 
@@ -20,13 +21,13 @@ fn later(last: Moment, value: Option<u64>, dep: Moment) -> Moment
 /// The last departure of a connection that has a value, or the deadline if that is later. Connections that
 /// depart later are too late, and have no value that may be too great.
 pub fn last_departure(values: &[Option<u64>], network: &Network, deadline: Moment) -> Moment
-    requires { length values.now ≡ count network.now }
     ensures deadline { deadline.0 ≤ result.0 }
     ensures none { NoneAfter network.now values.now result.0 }
 {
     let mut last = deadline;
     for i in 0..network.count() {
-        last = later(last, values[i as usize], network.get(ConnectionId(i)).dep);
+        let id = ConnectionId(i);
+        last = later(last, value_of(values, id), network.get(id).dep);
     }
     last
 }

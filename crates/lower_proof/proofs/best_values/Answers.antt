@@ -7,15 +7,15 @@ pub loop-departure-init : goal.loop-departure-init
 loop-departure-init c = record {
   written = written_first c.in_ok-departures.ensures.valid (omega arith) c.in_ok-values.ensures.as_many c.in_ok-departures.ensures.departures
       c.in_ok-exits.ensures.runs c.in_ok-exits.ensures.empty
-      (c.in_ok-boards.ensures.fresh.right c.in_ok-values.values.items c.in_ok-values.ensures.as_many (λ k inside late. c.in_ok-values.ensures.none k))
+      (c.in_ok-boards.ensures.fresh.right c.in_ok-values.values.items (λ k inside late. c.in_ok-values.ensures.none k))
       c.in_ok-boards.ensures.fresh.late;
 }
 
 pub offer-best-requires-clause-boards : goal.offer-best-requires-clause-boards
 offer-best-requires-clause-boards c = rw (c.deref_mut.ensures.value, c.deref.ensures.value) c.loop-departure.invariant.written.right
 
-pub offer-best-requires-clause-there : goal.offer-best-requires-clause-there
-offer-best-requires-clause-there c = written_there c.in_ok-departures.ensures.valid c.loop-departure.invariant.written _ _ c.in-Some.ensures.items
+pub invariant_of-site : goal.invariant_of-site
+invariant_of-site c = record { there = written_there c.in_ok-departures.ensures.valid c.loop-departure.invariant.written _ _ c.in-Some.ensures.items }
 
 pub offer-best-requires-clause-run : goal.offer-best-requires-clause-run
 offer-best-requires-clause-run c =

@@ -15,7 +15,7 @@ loop-k-preserved c =
           (none_below (λ i v. bound_of values (entry_at entries i).id.0 ≡ Some v))
       | else-k-eq0 w ↦ rw w.before-is (before_is values entries loop.least loop.k loop.k (omega arith) (omega arith) loop.invariant.minima)
     ] in
-    rw c.lesser.ensures (record {
+    rw (c.lesser.ensures, c.value_of.ensures) (record {
       sizes = length-set loop.least loop.k (lesser c.if-k-eq0.before (bound_of values (entry_at entries loop.k).id.0)) ∙ loop.invariant.sizes;
       minima = minima_more values entries loop.least loop.k c.if-k-eq0.before within loop.invariant.minima before;
     })

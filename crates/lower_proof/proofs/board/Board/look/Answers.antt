@@ -11,13 +11,13 @@ pub returns-clause-board : goal.returns-clause-board
 returns-clause-board c =
     let values = c.args.values.now in
     let entries = c.self.inside.entries.items in
-    let old = subst (IsBoard values) (sym c.self.view_is) (record { sizes = c.requires.sizes; falls = c.requires.falls; ids = c.requires.ids; minima = c.requires.minima }) in
+    let old = subst (IsBoard values) (sym c.self.view_is) (record { sizes = c.requires.sizes; falls = c.requires.falls; minima = c.requires.minima }) in
     let minima : AreMinima values entries c.extend.new.least (max c.self.inside.known c.count_in_time-wanted.result) = rw c.deref-2.ensures.value at c.extend.ensures.minima in
     let sizes : length entries ≤ length c.extend.new.least = omega arith in
     let within : c.count_in_time-wanted.result ≤ length entries = rw c.deref.ensures.value at c.count_in_time-wanted.ensures.within in
     let whole : length c.extend.new.least ≡ c.self.inside.least.len = omega arith in
     rw (take_at, c.max-self-inside.ensures) (board_shown values entries c.extend.new.least
-    (max c.self.inside.known c.count_in_time-wanted.result) old.falls old.ids (omega arith) (omega arith) minima)
+    (max c.self.inside.known c.count_in_time-wanted.result) old.falls (omega arith) (omega arith) minima)
 
 pub returns-clause-late : goal.returns-clause-late
 returns-clause-late c = grind (arith, length-take, cases_lt)
