@@ -1,5 +1,5 @@
 //! The departures of a journey, and the latest moment at which one can leave.
-ghost use Rattle.std.specs.Prelude.{◌≡◌, ◌≢◌, ◌<◌, ◌≤◌, ◌∷◌, [], length, Some, IfOk, IfErr, MatchOption};
+ghost use Rattle.std.specs.Prelude.{◌≡◌, ◌≢◌, ◌≤◌, ◌∷◌, [], Some, IfOk, IfErr, MatchOption};
 ghost use Rattle.command_line.specs.Ranges.{IsLater};
 ghost use Rattle.decision_graph.specs.Expanded.{IsNoneSafe};
 ghost use Rattle.departure_table.specs.Departures.{IsExtendedFor, IsGreatestMoment, IsTable};
@@ -41,6 +41,21 @@ pub(crate) struct QueryUntil<'a> {
     ghost deadline: { query.deadline.0 ≤ last_until },
 }
 
+/// A query between two different places.
+#[derive(Clone, Copy)]
+struct Away<'a> {
+    asked: QueryUntil<'a>,
+    ghost differ: { asked.query.source.0 ≢ asked.query.target.0 },
+}
+
+/// A query, and a last moment up to which its departures are asked for.
+#[derive(Clone, Copy)]
+struct UpTo<'a> {
+    asked: QueryUntil<'a>,
+    last: Moment,
+    ghost later: { IsLater asked.query.start.0 last.0 },
+}
+
 /// The query of a problem, from a start on, with a deadline of its own.
 pub(crate) fn query_until(problem: &Problem, start: Start, until: Moment) -> Query
     ensures { result ≡ query_until problem.now start.moment.0 until.0 }
@@ -59,9 +74,7 @@ pub(crate) fn scan_of(
     network: &Network,
     query: &Query,
 ) -> Result<Scanned<MeanSpan>, NoMemory>
-    requires source { query.now.source.0 < length network.now.change }
-    requires target { query.now.target.0 < length network.now.change }
-    requires differ { query.now.source.0 ≢ query.now.target.0 }
+    requires { query.now.source.0 ≢ query.now.target.0 }
     ensures solves { IfOk result (λ scanned. Solves mean_scoring
         scanned network.now query.now) }
     ensures ruled { IfOk result (IsRuled network.now query.now) }
@@ -73,20 +86,20 @@ pub(crate) fn scan_of(
 
 /// Scans the network of a problem from an added place, which leads to the source of the query. For a network
 /// with the greatest number of places the answer is that there is no memory.
-fn scan_from_added(alloc: Global, asked: &QueryUntil) -> Result<FromAdded, NoMemory>
-    requires { asked.now.query.source.0 ≢ asked.now.query.target.0 }
+fn scan_from_added(alloc: Global, away: &Away) -> Result<FromAdded, NoMemory>
     ensures extended { IfOk result (λ found. IsExtendedFor found.network found.query
-        asked.now.problem.now.timetable.network asked.now.query.source.0) }
-    ensures target { IfOk result (λ found. found.query.target ≡ asked.now.query.target) }
-    ensures deadline { IfOk result (λ found. found.query.deadline ≡ asked.now.query.deadline) }
+        away.now.asked.problem.now.timetable.network away.now.asked.query.source.0) }
+    ensures target { IfOk result (λ found. found.query.target ≡ away.now.asked.query.target) }
+    ensures deadline { IfOk result (λ found. found.query.deadline ≡ away.now.asked.query.deadline) }
     ensures solves { IfOk result (λ found. Solves mean_scoring
         found.scanned found.network found.query) }
     ensures ruled { IfOk result (λ found. IsRuled found.network found.query found.scanned) }
     ensures network { IfOk result (λ found. found.network
-        ≡ with_gates asked.now.problem.now.timetable.network (asked.now.query.source ∷ [])) }
+        ≡ with_gates away.now.asked.problem.now.timetable.network (away.now.asked.query.source ∷ [])) }
     ensures query { IfOk result (λ found. found.query
-        ≡ added_query asked.now.problem.now.timetable.network asked.now.query) }
+        ≡ added_query away.now.asked.problem.now.timetable.network away.now.asked.query) }
 {
+    let asked = &away.asked;
     let before = &asked.problem.timetable.network;
     let places = before.places();
     if places == u32::MAX {
@@ -107,40 +120,35 @@ fn scan_from_added(alloc: Global, asked: &QueryUntil) -> Result<FromAdded, NoMem
 
 /// The departures of a query between two places, up to a last moment; no row if nobody who sets out
 /// at the start is safe.
-fn rows_of(alloc: Global, asked: &QueryUntil, last: Moment) -> Result<List<DepartureRow>, NoMemory>
-    requires { asked.now.query.source.0 ≢ asked.now.query.target.0 }
-    ensures table { IfOk result (IsTable asked.now.problem.now.timetable.network
-        (SafeOf asked.now.problem.now asked.now.query) asked.now.query.start.0 last.0) }
-    ensures by_rules { IfOk result (AreByRules asked.now.problem.now asked.now.query last.0) }
+fn rows_of(alloc: Global, away: &Away, last: Moment) -> Result<List<DepartureRow>, NoMemory>
+    ensures table { IfOk result (IsTable away.now.asked.problem.now.timetable.network
+        (SafeOf away.now.asked.problem.now away.now.asked.query) away.now.asked.query.start.0 last.0) }
+    ensures by_rules { IfOk result (AreByRules away.now.asked.problem.now away.now.asked.query last.0) }
 {
-    let found = scan_from_added(alloc, asked)?;
+    let found = scan_from_added(alloc, away)?;
     says_of_source();
     table(
         alloc,
         &found.scanned,
         &found.network,
         &found.query,
-        asked.query.start,
+        away.asked.query.start,
         last,
     )
 }
 
 /// The departures of a query, up to a last moment; `None` if nobody who sets out at the start is safe.
-fn departures_of(
-    alloc: Global,
-    asked: &QueryUntil,
-    last: Moment,
-) -> Result<Option<List<DepartureRow>>, NoMemory>
-    requires { asked.now.query.start.0 ≤ last.0 }
+fn departures_of(alloc: Global, up_to: &UpTo) -> Result<Option<List<DepartureRow>>, NoMemory>
     ensures { IfOk result (λ found. MatchOption found
-        (IsNoneSafe asked.now.problem.now.timetable.network asked.now.query)
-        (λ rows. AreDepartures asked.now.problem.now asked.now.query last.0 rows
-        × HasSafeFor asked.now.problem.now asked.now.query)) }
+        (IsNoneSafe up_to.now.asked.problem.now.timetable.network up_to.now.asked.query)
+        (λ rows. AreDepartures up_to.now.asked.problem.now up_to.now.asked.query up_to.now.last.0 rows
+        × HasSafeFor up_to.now.asked.problem.now up_to.now.asked.query)) }
 {
+    let asked = up_to.asked;
     if asked.query.source.0 == asked.query.target.0 {
         return Ok(Some(List::new(alloc)));
     }
-    let rows = rows_of(alloc, asked, last)?;
+    let rows = rows_of(alloc, &Away { asked }, up_to.last)?;
     if rows.len() == 0 {
         return Ok(None);
     }
@@ -156,7 +164,7 @@ fn latest_of(alloc: Global, asked: &QueryUntil) -> Result<Option<Moment>, NoMemo
     if query.source.0 == query.target.0 {
         return Ok(Some(query.deadline));
     }
-    let found = scan_from_added(alloc, asked)?;
+    let found = scan_from_added(alloc, &Away { asked: *asked })?;
     says_of_source();
     Ok(greatest(&found.scanned, &found.network, &found.query, query.start))
 }
@@ -164,20 +172,21 @@ fn latest_of(alloc: Global, asked: &QueryUntil) -> Result<Option<Moment>, NoMemo
 /// The answer of departures.
 fn departures_answer(
     alloc: Global,
-    asked: &QueryUntil,
-    last: Moment,
+    up_to: &UpTo,
     departures: List<DepartureRow>,
 ) -> Result<Answer, NoMemory>
-    requires last { IsLater asked.now.query.start.0 last.0 }
-    requires departures { AreDepartures asked.now.problem.now asked.now.query last.0 departures }
-    requires safe { HasSafeFor asked.now.problem.now asked.now.query }
-    ensures { IfOk result (λ a. AnswersDepartures asked.now.problem.now asked.now.query last.0
-        (findings_of a.report) a.text.items) }
+    requires departures { AreDepartures up_to.now.asked.problem.now up_to.now.asked.query
+        up_to.now.last.0 departures }
+    requires safe { HasSafeFor up_to.now.asked.problem.now up_to.now.asked.query }
+    ensures { IfOk result (λ a. AnswersDepartures up_to.now.asked.problem.now up_to.now.asked.query
+        up_to.now.last.0 (findings_of a.report) a.text.items) }
 {
+    let timetable = &up_to.asked.problem.timetable;
+    let query = up_to.asked.query;
     let rows = departures.as_slice();
-    let text = departures_text(alloc, &asked.problem.timetable, &asked.query, last, rows)?;
+    let text = departures_text(alloc, timetable, &query, up_to.last, rows)?;
     let report = Report {
-        query: Some(asked.query),
+        query: Some(query),
         departures: Some(departures),
         ..Report::empty()
     };
@@ -223,10 +232,11 @@ pub fn departures_over(
         problem,
         query: query_until(problem, start, until),
     };
-    let Some(departures) = departures_of(alloc, &asked, last)? else {
+    let up_to = UpTo { asked, last };
+    let Some(departures) = departures_of(alloc, &up_to)? else {
         return Err(Fault::NoSafe);
     };
-    let answer = departures_answer(alloc, &asked, last, departures)?;
+    let answer = departures_answer(alloc, &up_to, departures)?;
     Ok(answer)
 }
 

@@ -1,6 +1,7 @@
 //! The decision graph with the least chance of an arrival after a promised moment.
+ghost use Rattle.std.proofs.Props.{props};
 ghost use Rattle.std.specs.Prelude.{◌≡◌, ◌≤◌, ◌+◌, IfOk, IfErr, MatchOption};
-ghost use Rattle.plan_graph.specs.Tidy.{IsTidy};
+ghost use Rattle.plan_graph.specs.Tidy.{IsFit};
 ghost use Rattle.plan_graph.specs.Unfold.{unfold_plan};
 ghost use Rattle.plan_model.specs.Strategy.{IsSafeFor};
 ghost use Rattle.decision_graph.specs.Expanded.{IsNoneSafe};
@@ -35,6 +36,17 @@ struct Promise<'a> {
     ghost soon: { moment.0 ≤ asked.query.start.0 + seconds_per_week },
 }
 
+/// A graph that was found for a promise: it fits the network, and its strategy is safe.
+#[derive(Drop)]
+struct PromisedGraph<'a> {
+    promise: Promise<'a>,
+    graph: PlanGraph,
+    chance: LateChance,
+    ghost fit: { IsFit promise.asked.problem.now.timetable.network promise.asked.query graph } by { Prim.hlevel props },
+    ghost safe: { ∥ IsSafeFor promise.asked.problem.now.timetable.network promise.asked.query
+        (unfold_plan graph promise.asked.problem.now.timetable.network promise.asked.query) ∥₁ },
+}
+
 /// The decision graph with the least chance of an arrival after the promised moment; `None` if no strategy
 /// is safe for the query.
 fn punctual_of(
@@ -56,15 +68,19 @@ fn punctual_of(
     punctual_plan(alloc, &promised)
 }
 
-/// Bounds on the expected arrival of a graph that is tidy and safe.
-fn bounds_of(alloc: Global, asked: &Asked, graph: &PlanGraph) -> Result<Span, NoMemory>
-    requires tidy { IsTidy asked.now.problem.now.timetable.network asked.now.query graph.now }
-    requires safe { IsSafeFor asked.now.problem.now.timetable.network asked.now.query
-        (unfold_plan graph.now asked.now.problem.now.timetable.network asked.now.query) }
-    ensures { IfOk result (IsScored asked.now.problem.now.timetable.network asked.now.query
-        (unfold_plan graph.now asked.now.problem.now.timetable.network asked.now.query)) }
+/// Bounds on the expected arrival of a graph that was found for a promise.
+fn bounds_of(alloc: Global, promised: &PromisedGraph) -> Result<Span, NoMemory>
+    ensures { IfOk result (IsScored promised.now.promise.asked.problem.now.timetable.network
+        promised.now.promise.asked.query (unfold_plan promised.now.graph
+        promised.now.promise.asked.problem.now.timetable.network promised.now.promise.asked.query)) }
 {
-    match score_fit(alloc, graph, &asked.problem.timetable.network, &asked.query)? {
+    let asked = &promised.promise.asked;
+    match score_fit(
+        alloc,
+        &promised.graph,
+        &asked.problem.timetable.network,
+        &asked.query,
+    )? {
         Outlook::Safe(bounds) => Ok(bounds),
         Outlook::Failing(_) => unreachable!(),
     }
@@ -72,50 +88,40 @@ fn bounds_of(alloc: Global, asked: &Asked, graph: &PlanGraph) -> Result<Span, No
 
 /// The text of a decision graph with its chance: the row of the promise, and the text of the graph.
 #[tactic(auto, using(crate::proofs::GraphFiles::has_rows))]
-fn punctual_text(
-    alloc: Global,
-    promise: &Promise,
-    found: &Found<PlanGraph, LateChance>,
-    bounds: Span,
-) -> Result<Vec<u8>, NoMemory>
-    requires { IsTidy promise.now.asked.problem.now.timetable.network promise.now.asked.query
-        found.now.graph }
-    ensures { IfOk result (λ text. IsPunctualText promise.now.asked.problem.now promise.now.moment.0
-        promise.now.asked.query found.now.graph found.now.value bounds text.items) }
+fn punctual_text(alloc: Global, promised: &PromisedGraph, bounds: Span) -> Result<Vec<u8>, NoMemory>
+    ensures { IfOk result (λ text. IsPunctualText promised.now.promise.asked.problem.now
+        promised.now.promise.moment.0 promised.now.promise.asked.query promised.now.graph
+        promised.now.chance bounds text.items) }
 {
+    let asked = &promised.promise.asked;
     let head = Head {
-        query: promise.asked.query,
+        query: asked.query,
         bounds,
     };
-    let network = &promise.asked.problem.timetable.network;
-    let names = &promise.asked.problem.timetable.names;
+    let network = &asked.problem.timetable.network;
+    let names = &asked.problem.timetable.names;
     fit_is_printable();
-    let mut text = punctual_row(alloc, promise.moment, found.value)?;
-    let graph = write(alloc, &found.graph, &head, network, names)?;
+    let mut text = punctual_row(alloc, promised.promise.moment, promised.chance)?;
+    let graph = write(alloc, &promised.graph, &head, network, names)?;
     text.extend_from_slice(graph.as_slice())?;
     Ok(text)
 }
 
 /// The answer of a decision graph with its chance.
-fn punctual_answer(
-    alloc: Global,
-    promise: &Promise,
-    found: Found<PlanGraph, LateChance>,
-    bounds: Span,
-) -> Result<Answer, NoMemory>
-    requires { IsTidy promise.now.asked.problem.now.timetable.network promise.now.asked.query
-        found.graph }
+fn punctual_answer(alloc: Global, promised: PromisedGraph, bounds: Span) -> Result<Answer, NoMemory>
     ensures found { IfOk result (λ a. findings_of a.report ≡ punctual_findings
-        promise.now.asked.query promise.now.asked.worst found.graph bounds found.value) }
-    ensures text { IfOk result (λ a. IsPunctualText promise.now.asked.problem.now
-        promise.now.moment.0 promise.now.asked.query found.graph found.value bounds a.text.items) }
+        promised.entry.promise.asked.query promised.entry.promise.asked.worst
+        promised.entry.graph bounds promised.entry.chance) }
+    ensures text { IfOk result (λ a. IsPunctualText promised.entry.promise.asked.problem.now
+        promised.entry.promise.moment.0 promised.entry.promise.asked.query promised.entry.graph
+        promised.entry.chance bounds a.text.items) }
 {
-    let text = punctual_text(alloc, promise, &found, bounds)?;
+    let text = punctual_text(alloc, &promised, bounds)?;
     let report = Report {
-        graph: Some(found.graph),
+        graph: Some(promised.graph),
         bounds: Some(bounds),
-        chance: Some(found.value),
-        ..promise.asked.report()
+        chance: Some(promised.chance),
+        ..promised.promise.asked.report()
     };
     Ok(Answer { report, text })
 }
@@ -143,7 +149,12 @@ pub fn punctual_over(
     let Some(found) = punctual_of(alloc, &promise)? else {
         unreachable!()
     };
-    let bounds = bounds_of(alloc, &asked, &found.graph)?;
-    let answer = punctual_answer(alloc, &promise, found, bounds)?;
+    let promised = PromisedGraph {
+        promise,
+        graph: found.graph,
+        chance: found.value,
+    };
+    let bounds = bounds_of(alloc, &promised)?;
+    let answer = punctual_answer(alloc, promised, bounds)?;
     Ok(answer)
 }

@@ -1,5 +1,5 @@
 //! The places from which one can reach the target of a journey.
-ghost use Rattle.std.specs.Prelude.{◌≡◌, ◌≢◌, ◌<◌, ◌≤◌, length, IfOk, IfErr};
+ghost use Rattle.std.specs.Prelude.{IfOk, IfErr};
 ghost use Rattle.command_line.specs.Ranges.{IsLater};
 ghost use Rattle.journey_answers.specs.Departures.{query_until};
 ghost use Rattle.journey_answers.specs.Reach.{AreReached, AnswersReach, FailsReach};
@@ -12,24 +12,23 @@ use command_line::Start;
 use departure_table::{ReachRow, reach, with_every_gate};
 use journey_model::Problem;
 use journey_report::{Answer, Report, reach_text};
-use plan_model::{List, Moment, Network, NoMemory, PlaceId, Query};
+use plan_model::{List, Moment, NoMemory, PlaceId, Query};
 use std::alloc::Global;
 
 /// The places from which one can set out at the start of a query and be at its target by the deadline. The source of the
 /// query is of no account.
-fn reach_of(alloc: Global, network: &Network, query: &Query) -> Result<List<ReachRow>, NoMemory>
-    requires start { 1 ≤ query.now.start.0 }
-    requires target { query.now.target.0 < length network.now.change }
-    ensures { IfOk result (AreReached network.now query.now) }
+fn reach_of(alloc: Global, asked: &QueryUntil) -> Result<List<ReachRow>, NoMemory>
+    ensures { IfOk result (AreReached asked.now.problem.now.timetable.network asked.now.query) }
 {
+    let network = &asked.problem.timetable.network;
     let extended = with_every_gate(alloc, network)?;
-    let asked = Query {
+    let query = Query {
         source: PlaceId(network.places()),
-        ..*query
+        ..asked.query
     };
-    let scanned = scan_of(alloc, &extended, &asked)?;
+    let scanned = scan_of(alloc, &extended, &query)?;
     // The proof takes two promises of the rows together, so they have a name.
-    let rows = reach(alloc, &scanned, &extended, network, &asked)?;
+    let rows = reach(alloc, &scanned, &extended, network, &query)?;
     Ok(rows)
 }
 
@@ -38,10 +37,10 @@ fn reach_answer(alloc: Global, asked: &QueryUntil) -> Result<Answer, NoMemory>
     ensures { IfOk result (λ a. AnswersReach asked.now.problem.now asked.now.query
         (findings_of a.report) a.text.items) }
 {
+    let rows = reach_of(alloc, asked)?;
     let query = asked.query;
-    let timetable = &asked.problem.timetable;
-    let rows = reach_of(alloc, &timetable.network, &query)?;
-    let text = reach_text(alloc, &timetable.names, &query, rows.as_slice())?;
+    let names = &asked.problem.timetable.names;
+    let text = reach_text(alloc, names, &query, rows.as_slice())?;
     let report = Report {
         query: Some(query),
         reach: Some(rows),

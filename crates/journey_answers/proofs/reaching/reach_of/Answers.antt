@@ -1,16 +1,11 @@
-use Rattle.journey_answers.proofs.Common.{arith, length}
-use Rattle.departure_table.proofs.ReachGrowth.{count_up_to}
 use Rattle.journey_answers.proofs.SameReach.{same_reach}
 use Rattle.journey_answers.proofs.Ruled.{by_gates}
 use Rattle.journey_answers.proofs.reaching.reach_of.Goals as goal
 
-pub scan_of-requires-clause-source : goal.scan_of-requires-clause-source
-scan_of-requires-clause-source c = omega (arith, c.in_ok-extended.ensures.gates.places, count_up_to (length c.args.network.now.change), c.places.ensures.count, c.requires.target)
-
 pub returns : goal.returns
 returns c =
-    let m = c.args.network.now in
-    let q = c.args.query.now in
+    let m = c.args.asked.now.problem.now.timetable.network in
+    let q = c.args.asked.now.query in
     let rows = c.in_ok-rows.rows in
     record {
       reach = same_reach m q c.places.result q.start.0 rows c.in_ok-rows.ensures.reach;
