@@ -25,7 +25,7 @@ pub use Rattle.plan_model.specs.declared.model.Leg.{Leg}
 pub use Rattle.plan_model.specs.declared.model.PlaceId.{PlaceId}
 pub use Rattle.plan_model.specs.declared.model.Query.{Query}
 pub use Rattle.printed_rows.proofs.Chains.{and_then-value, else-value, if-value}
-pub use Rattle.printed_rows.proofs.Lines.{append_ok, name_is, split_at, text_more}
+pub use Rattle.printed_rows.proofs.Lines.{name_is, split_at, text_more}
 pub use Rattle.printed_rows.specs.Fields.{connection_of, field, is_kind, is_query, number_of, rises, whole_at}
 pub use Rattle.printed_rows.specs.Writers.{place_name, run_name, text_of_records}
 unfoldable pub use Rattle.printed_rows.specs.Writers.{row_of_fields}
@@ -35,7 +35,7 @@ pub use Rattle.graph_text.specs.GraphTexts.{leg_fields, leg_row, place_row, plan
 pub use Rattle.graph_text.specs.Printable.{IsPrintableExpanded, IsPrintablePlan, IsPrintableQuery}
 pub use Rattle.graph_text.specs.Reading.{IsPlaced, IsReadAs, IsUnlessNoMemory, after_leg_row, after_place_row, agrees, are_in_order, can_start, equals_limit, graph_after_first, graph_of}
 pub use Rattle.graph_text.specs.Reading.{graph_of_records, head_in, head_numbers, head_of, head_row_in, is_by_limit, leg_between, leg_found, leg_names, leg_numbers, leg_row_in, names_in, no_tables}
-pub use Rattle.graph_text.specs.Reading.{place_numbers, place_or_first, place_row_in, place_tables_from, row_in, start_in, started_in, step, table_in}
+pub use Rattle.graph_text.specs.Reading.{place_numbers, place_or_first, place_row_in, place_tables_from, row_in, start_in, started_in, step, table_in, with_rows}
 pub use Rattle.graph_text.specs.Versions.{ninth, number_of_version, rides_leave, rows_leave, tables_leave, version_by, width_of}
 pub use Rattle.graph_text.specs.declared.Head.{Head}
 pub use Rattle.graph_text.specs.declared.reader.HeadRow.{HeadRow}

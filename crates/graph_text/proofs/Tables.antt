@@ -2,7 +2,7 @@
 use Rattle.graph_text.proofs.Common.{◌≡◌, ℕ, ◌+◌, ◌<◌, List, [], ◌∷◌, length, drop, Option, Some, Ok, Err, Result, arith, sym, ap, subst, refl, ◌∙◌, ◌≢◌, suc, ◌-◌, ◌≤◌, true, ◌++◌, None, All}
 use Rattle.graph_text.proofs.Common.{AllPairs, inl, inr, append_assoc, ◌==◌, slice_index_or, if◌then◌else◌, codes, option_map, IsErr, IsErrAnd, ne_eqb, eqb-true, eq-eqb, ltb-true, lt-ltb, append-nil}
 use Rattle.graph_text.proofs.Common.{cases_eq, and_then, PlaceId, NetworkModel, NameLists, PlaceTable, PlanGraph, Head, Version, Reading, TextFault, split_at, version_in, IsLegRow, AreLegRows}
-use Rattle.graph_text.proofs.Common.{AreTableRows, after_leg_row, row_in, step, IsUnlessNoMemory, place_or_first, place_tables_from, graph_after_first, head_in, graph_of_records, table_in}
+use Rattle.graph_text.proofs.Common.{AreTableRows, after_leg_row, row_in, step, IsUnlessNoMemory, place_or_first, place_tables_from, graph_after_first, head_in, graph_of_records, table_in, with_rows}
 use Rattle.graph_text.proofs.Common.{after_place_row, no_tables, All-cons, All-nil, All-head, All-tail, IsValid, GraphRow, IsFitRow, IsFitTable, TableStart, rises, and_then-value, if-value}
 use Rattle.graph_text.specs.declared.reader.TextFault.TheVariants as f
 use Rattle.std.proofs.lemmas.List.Kept.{AllPairs-cons}
@@ -13,6 +13,15 @@ use Rattle.graph_text.proofs.Rows.{row_reported, row_read, table_reported, table
 pub leg_step : (n : NetworkModel) (names : NameLists) (version : Version) (line : ℕ) (r : List (List ℕ)) (s : Reading) (place : PlaceId) → (s.remaining ≡ 0 → ⊥)
     → s.place ≡ Some place → after_leg_row s (row_in n names version line place.0 (option_map (λ moment. moment.0) s.by) r) ≡ step n names version line r s
 leg_step n names version line r s place some is = grind (arith, ne_eqb)
+
+-- the same, of the table that its rows are read for
+pub table_step : (n : NetworkModel) (names : NameLists) (version : Version) (line : ℕ) (r : List (List ℕ)) (s : Reading) (place : PlaceId) → (s.remaining ≡ 0 → ⊥)
+    → s.place ≡ Some place → after_leg_row (with_rows s.done place s.rows s.by s.remaining) (row_in n names version line place.0 (option_map (λ moment. moment.0) s.by) r)
+    ≡ step n names version line r s
+table_step n names version line r s place some is =
+    ap (λ (p : Option PlaceId). after_leg_row (record { done = s.done; place = p; rows = s.rows; by = s.by; remaining = s.remaining })
+    (row_in n names version line place.0 (option_map (λ moment. moment.0) s.by) r)) (sym is)
+    ∙ leg_step n names version line r s place some is
 
 -- what is read where a step failed is so of what `?` raises again
 pub read_raised : {A : Type 0} (fault : TextFault) (r reported : Result A TextFault) → IsErr r × IsErrAnd r (λ raised. raised ≡ fault)
@@ -222,9 +231,6 @@ module _ (n : NetworkModel) (names : NameLists) (version : Version) where
   -- ---- and the other way round
 
   module _ (valid : IsValid n) where
-    abbrev with_rows : List PlaceTable → PlaceId → List GraphRow → Option Moment → ℕ → Reading
-    with_rows done place rows by remaining = record { done = done; place = Some place; rows = rows; by = by; remaining = remaining }
-
     row_step : (line : ℕ) (r : List (List ℕ)) (done : List PlaceTable) (place : PlaceId) (before : List GraphRow) (last : Option Moment) (remaining : ℕ) (row : GraphRow) → (remaining ≡ 0 → ⊥)
         → IsLegRow n names version (codes "leg") place.0 row.by.0 row.leg r → IsFitRow n place.0 row → rises (option_map (λ moment. moment.0) last) row.by.0 ≡ true
         → step n names version line r (with_rows done place before last remaining) ≡ after_leg_row (with_rows done place before last remaining) (Ok row)

@@ -27,6 +27,7 @@ use Rattle.graph_text.specs.declared.reader.LegNames.{LegNames}
 use Rattle.graph_text.specs.declared.reader.PlaceRow.{PlaceRow}
 use Rattle.graph_text.specs.declared.reader.TableStart.{TableStart}
 use Rattle.graph_text.specs.declared.reader.Reading.{Reading}
+use Rattle.plan_model.specs.declared.model.Moment.{Moment}
 use Rattle.plan_model.specs.declared.model.PlaceId.{PlaceId}
 
 -- the numbers of a leg's row, where all are there
@@ -127,6 +128,10 @@ after_place_row s (Ok t) = Ok (record { done = s.done; place = Some t.place; row
 abbrev pub place_or_first : Option PlaceId → PlaceId
 place_or_first None = record { 0 = 0 }
 place_or_first (Some place) = place
+
+-- where this place has these rows so far
+abbrev pub with_rows : List PlaceTable → PlaceId → List GraphRow → Option Moment → ℕ → Reading
+with_rows done place rows by remaining = record { done = done; place = Some place; rows = rows; by = by; remaining = remaining }
 
 abbrev pub after_leg_row : Reading → Result GraphRow TextFault → Result Reading TextFault
 after_leg_row s (Err e) = Err e

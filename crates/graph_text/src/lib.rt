@@ -30,7 +30,7 @@ mod version;
 use interval_fixed::Span;
 use plan_graph::{ExpandedGraph, PlanGraph};
 use plan_model::{Names, Network, NoMemory, Query};
-use printer::Printer;
+use printer::{PlacePrinter, Printer, RidePrinter};
 pub use reader::{TextFault, read};
 use std::alloc::Global;
 use version::{rides_leave, tables_leave, version_by};
@@ -65,7 +65,7 @@ pub fn write_expanded(
         head,
         version: version_by(rides_leave(network, graph.rides.as_slice())),
     };
-    printer.put_by_ride(Vec::new(alloc), graph)
+    RidePrinter { printer, graph }.put(Vec::new(alloc))
 }
 
 /// The text of a graph by place: a first row, the start leg, and for each place a row and one for each of
@@ -96,7 +96,7 @@ pub fn write(
         head,
         version: version_by(tables_leave(network, graph.tables.as_slice())),
     };
-    printer.put_by_place(Vec::new(alloc), graph)
+    PlacePrinter { printer, graph }.put(Vec::new(alloc))
 }
 
 /// A law, with no code: a graph that is ready to be pruned can be printed.

@@ -1,11 +1,12 @@
 //! Rows of printed graphs.
+ghost use Rattle.std.proofs.Props.{props};
 ghost use Rattle.std.specs.Prelude.{◌≡◌, ◌<◌, ◌++◌, map, take, All, IfOk, IfSome, length};
 ghost use Rattle.plan_model.specs.NameLists.{NamesFit};
 ghost use Rattle.plan_graph.specs.Ready.{IsLegOf};
-ghost use Rattle.graph_text.specs.GraphTexts.{leg_row, head_row, start_leg_text, rows_text, ride_text, rides_text, place_row, table_text, tables_text, expanded_text_in, plan_text_in};
+ghost use Rattle.graph_text.specs.GraphTexts.{leg_row, head_row, start_leg_text, rows_text, rides_text, place_row, tables_text, expanded_text_in, plan_text_in};
 ghost use Rattle.printed_rows.specs.Writers.{row_of_fields};
 ghost use Rattle.graph_text.specs.Versions.{width_of};
-ghost use Rattle.graph_text.specs.Printable.{IsPrintableQuery, IsPrintableRow, IsPrintableRide, IsPrintableTable, IsPrintableExpanded, IsPrintablePlan};
+ghost use Rattle.graph_text.specs.Printable.{IsPrintableQuery, IsPrintableRow, IsPrintableRide, IsPrintableTable};
 
 use crate::Head;
 use crate::version::{Version, digit, width};
@@ -127,40 +128,6 @@ impl<'a> Printer<'a> {
         Ok(text)
     }
 
-    /// Adds the row of a ride and its rows to a text.
-    fn put_ride(&self, text: Vec<u8>, ride: &Ride) -> Result<Vec<u8>, NoMemory>
-        requires { IsPrintableRide self.now.network.now ride.now }
-        ensures { IfOk result (λ whole. whole.items ≡ text.items
-            ++ ride_text self.now.network.now self.now.names.now self.now.version ride.now) }
-    {
-        let mut number = Buffer::new();
-        let number = number.format(ride.after.len()).as_bytes();
-        let text = self.put_leg(text, b"ride", number, ride.leg)?;
-        self.put_rows(text, b"next", ride.after.as_slice())
-    }
-
-    /// Adds the rows of all rides to a text.
-    fn put_rides(&self, mut text: Vec<u8>, rides: &[Ride]) -> Result<Vec<u8>, NoMemory>
-        requires { All (IsPrintableRide self.now.network.now) rides.now }
-        ensures { IfOk result (λ whole. whole.items ≡ text.items
-            ++ rides_text self.now.network.now self.now.names.now self.now.version rides.now) }
-    {
-        for ride in rides {
-            text = self.put_ride(text, ride)?;
-        }
-        Ok(text)
-    }
-
-    /// Adds the row of a place and its rows to a text.
-    fn put_table(&self, text: Vec<u8>, table: &PlaceTable) -> Result<Vec<u8>, NoMemory>
-        requires { IsPrintableTable self.now.network.now table.now }
-        ensures { IfOk result (λ whole. whole.items ≡ text.items
-            ++ table_text self.now.network.now self.now.names.now self.now.version table.now) }
-    {
-        let text = self.put_place(text, table.place, table.rows.len())?;
-        self.put_rows(text, b"leg", table.rows.as_slice())
-    }
-
     /// Adds the row of a place to a text.
     fn put_place(&self, text: Vec<u8>, place: PlaceId, count: usize) -> Result<Vec<u8>, NoMemory>
         requires { place.0 < length self.now.network.now.change }
@@ -185,48 +152,82 @@ impl<'a> Printer<'a> {
             ],
         )
     }
+}
 
-    /// Adds the rows of all places to a text.
-    fn put_tables(&self, mut text: Vec<u8>, tables: &[PlaceTable]) -> Result<Vec<u8>, NoMemory>
-        requires { All (IsPrintableTable self.now.network.now) tables.now }
+/// A graph by ride, and what it is printed with.
+#[derive(Drop)]
+pub(crate) struct RidePrinter<'g, 'a> {
+    pub(crate) printer: Printer<'a>,
+    pub(crate) graph: &'g ExpandedGraph,
+    pub(crate) ghost start: { IfSome graph.now.start (IsLegOf printer.network.now) } by { Prim.hlevel props },
+    pub(crate) ghost rides: { All (IsPrintableRide printer.network.now) graph.now.rides },
+}
+
+impl<'g, 'a> RidePrinter<'g, 'a> {
+    /// Adds the row of each ride and its rows to a text.
+    fn put_rides(&self, mut text: Vec<u8>) -> Result<Vec<u8>, NoMemory>
         ensures { IfOk result (λ whole. whole.items ≡ text.items
-            ++ tables_text self.now.network.now self.now.names.now self.now.version tables.now) }
+            ++ rides_text self.now.printer.network.now self.now.printer.names.now self.now.printer.version self.now.graph.now.rides) }
     {
-        for table in tables {
-            text = self.put_table(text, table)?;
+        let rides = self.graph.rides.as_slice();
+        for ride in rides {
+            let mut number = Buffer::new();
+            let number = number.format(ride.after.len()).as_bytes();
+            text = self.printer.put_leg(text, b"ride", number, ride.leg)?;
+            text = self.printer.put_rows(text, b"next", ride.after.as_slice())?;
         }
         Ok(text)
     }
 
-    /// Adds the rows of a graph by ride to a text.
-    pub(crate) fn put_by_ride(
-        &self,
-        text: Vec<u8>,
-        graph: &ExpandedGraph,
-    ) -> Result<Vec<u8>, NoMemory>
-        requires { IsPrintableExpanded self.now.network.now graph.now }
+    /// Adds the rows of the graph to a text.
+    pub(crate) fn put(&self, text: Vec<u8>) -> Result<Vec<u8>, NoMemory>
         ensures { IfOk result (λ whole. whole.items ≡ text.items
-            ++ expanded_text_in self.now.network.now self.now.names.now self.now.version self.now.head.now graph.now) }
+            ++ expanded_text_in self.now.printer.network.now self.now.printer.names.now self.now.printer.version self.now.printer.head.now self.now.graph.now) }
     {
-        let text = self.put_head(text, b"expanded")?;
-        if self.head.query.source == self.head.query.target {
+        let text = self.printer.put_head(text, b"expanded")?;
+        let query = self.printer.head.query;
+        if query.source == query.target {
             return Ok(text);
         }
-        let text = self.put_start(text, graph.start)?;
-        self.put_rides(text, graph.rides.as_slice())
+        let text = self.printer.put_start(text, self.graph.start)?;
+        self.put_rides(text)
+    }
+}
+
+/// A graph by place, and what it is printed with.
+#[derive(Drop)]
+pub(crate) struct PlacePrinter<'g, 'a> {
+    pub(crate) printer: Printer<'a>,
+    pub(crate) graph: &'g PlanGraph,
+    pub(crate) ghost start: { IfSome graph.now.start (IsLegOf printer.network.now) } by { Prim.hlevel props },
+    pub(crate) ghost tables: { All (IsPrintableTable printer.network.now) graph.now.tables },
+}
+
+impl<'g, 'a> PlacePrinter<'g, 'a> {
+    /// Adds the row of each place and its rows to a text.
+    fn put_tables(&self, mut text: Vec<u8>) -> Result<Vec<u8>, NoMemory>
+        ensures { IfOk result (λ whole. whole.items ≡ text.items
+            ++ tables_text self.now.printer.network.now self.now.printer.names.now self.now.printer.version self.now.graph.now.tables) }
+    {
+        let tables = self.graph.tables.as_slice();
+        for table in tables {
+            text = self.printer.put_place(text, table.place, table.rows.len())?;
+            text = self.printer.put_rows(text, b"leg", table.rows.as_slice())?;
+        }
+        Ok(text)
     }
 
-    /// Adds the rows of a graph by place to a text.
-    pub(crate) fn put_by_place(&self, text: Vec<u8>, graph: &PlanGraph) -> Result<Vec<u8>, NoMemory>
-        requires { IsPrintablePlan self.now.network.now graph.now }
+    /// Adds the rows of the graph to a text.
+    pub(crate) fn put(&self, text: Vec<u8>) -> Result<Vec<u8>, NoMemory>
         ensures { IfOk result (λ whole. whole.items ≡ text.items
-            ++ plan_text_in self.now.network.now self.now.names.now self.now.version self.now.head.now graph.now) }
+            ++ plan_text_in self.now.printer.network.now self.now.printer.names.now self.now.printer.version self.now.printer.head.now self.now.graph.now) }
     {
-        let text = self.put_head(text, b"graph")?;
-        if self.head.query.source == self.head.query.target {
+        let text = self.printer.put_head(text, b"graph")?;
+        let query = self.printer.head.query;
+        if query.source == query.target {
             return Ok(text);
         }
-        let text = self.put_start(text, graph.start)?;
-        self.put_tables(text, graph.tables.as_slice())
+        let text = self.printer.put_start(text, self.graph.start)?;
+        self.put_tables(text)
     }
 }

@@ -1,12 +1,12 @@
 //! The graph of a printed text.
-ghost use Rattle.std.specs.Prelude.{◌≡◌, ◌+◌, ◌<◌, length, slice_index_or, IfOk, IfSome, IsTrue, Some, Ok, drop, [], ◌≤◌};
+ghost use Rattle.std.specs.Prelude.{◌≡◌, ◌<◌, length, slice_index_or, IfOk, IfSome, IsTrue, Some, Ok, drop, [], ◌≤◌, ◌==◌, ◌&&◌, nat_le};
 ghost use Rattle.std.specs.Option.{option_map};
 ghost use Rattle.csv_rows.specs.Tables.{header, row_count};
 ghost use Rattle.plan_model.specs.NameLists.{NamesFit};
 ghost use Rattle.plan_model.specs.Network.{count};
 ghost use Rattle.graph_text.specs.GraphRows.{has_no_entry, entry_in, is_blank, is_place, is_head, version_in};
-ghost use Rattle.graph_text.specs.Reading.{leg_row_in, names_in, leg_found, can_start, start_in, equals_limit, row_in, place_row_in, table_in, are_in_order, head_row_in, head_in};
-ghost use Rattle.graph_text.specs.Reading.{after_place_row, after_leg_row, IsPlaced, no_tables, step, place_tables_from};
+ghost use Rattle.graph_text.specs.Reading.{leg_row_in, names_in, leg_found, start_in, equals_limit, row_in, place_row_in, table_in, are_in_order, head_row_in, head_in};
+ghost use Rattle.graph_text.specs.Reading.{after_place_row, after_leg_row, with_rows, IsPlaced, no_tables, step, place_tables_from};
 ghost use Rattle.graph_text.specs.Reading.{graph_after_first, started_in, graph_of_records, graph_of, IsUnlessNoMemory};
 ghost use Rattle.graph_text.specs.Versions.{width_of};
 ghost use Rattle.printed_rows.specs.Fields.{is_kind};
@@ -17,7 +17,7 @@ use clock_text::{read_moment, read_nanos};
 use csv_rows::{Rows, RowsFault, at_line};
 use interval_fixed::Span;
 use plan_graph::{GraphRow, PlaceTable, PlanGraph};
-use plan_model::{Leg, List, Moment, Names, Network, NoMemory, PlaceId, Query, RunId};
+use plan_model::{Connection, Leg, List, Moment, Names, Network, NoMemory, PlaceId, Query, RunId};
 use printed_rows::{Record, connection_of, is_query, rises, whole};
 use std::alloc::Global;
 use std::fmt;
@@ -143,6 +143,20 @@ struct Reader<'a> {
     ghost fit: { NamesFit names network.now },
 }
 
+/// A table of which a row is still to come: the tables before it, its place, its rows so far and their last moment; and the
+/// number of its rows that are still to come.
+#[derive(Drop)]
+struct InTable<'b, 'a> {
+    reader: &'b Reader<'a>,
+    done: List<PlaceTable>,
+    place: PlaceId,
+    rows: List<GraphRow>,
+    by: Option<Moment>,
+    remaining: u32,
+    ghost there: { place.0 < length reader.now.network.now.change },
+    ghost more: { 1 ≤ remaining },
+}
+
 /// Whether the limit is this moment.
 fn equals_limit(limit: Option<Moment>, moment: Moment) -> bool
     ensures { result ≡ equals_limit (option_map (λ limit. limit.0) limit) moment.0 }
@@ -181,43 +195,11 @@ fn begin(alloc: Global, reading: Reading, start: TableStart) -> Reading
     }
 }
 
-/// With one more row of the last table, which is complete with its last row.
-fn extend(
-    alloc: Global,
-    reading: Reading,
-    place: PlaceId,
-    row: GraphRow,
-) -> Result<Reading, NoMemory>
-    requires remaining { 1 ≤ reading.remaining }
-    requires place { reading.place ≡ Some place }
-    ensures now { IfOk result (λ now. after_leg_row reading (Ok row) ≡ Ok now) }
-    ensures place { IfOk result (λ now. now.place ≡ reading.place) }
+/// Whether a connection leaves the source at the start or later, and the moment is its departure.
+fn can_start(entry: Connection, source: PlaceId, start: Moment, moment: Moment) -> bool
+    ensures { result ≡ ((entry.from.0 == source.0) && ((moment.0 == entry.dep.0) && nat_le start.0 entry.dep.0)) }
 {
-    let Reading {
-        mut done,
-        place: last,
-        mut rows,
-        by: _,
-        remaining,
-    } = reading;
-    rows.push(row)?;
-    if remaining == 1 {
-        done.push(PlaceTable { place, rows })?;
-        return Ok(Reading {
-            done,
-            place: last,
-            rows: List::new(alloc),
-            by: None,
-            remaining: 0,
-        });
-    }
-    Ok(Reading {
-        done,
-        place: last,
-        rows,
-        by: Some(row.by),
-        remaining: remaining - 1,
-    })
+    entry.from.0 == source.0 && moment.0 == entry.dep.0 && start.0 <= entry.dep.0
 }
 
 /// Whether two moments and two bounds are in order.
@@ -302,15 +284,6 @@ impl<'a> Reader<'a> {
         None
     }
 
-    /// Whether a leg leaves the source at the start or later, and the moment is its departure.
-    fn can_start(&self, source: PlaceId, start: Moment, moment: Moment, leg: Leg) -> bool
-        requires { leg.enter.0 < count self.now.network.now }
-        ensures { result ≡ can_start self.now.network.now source.0 start.0 moment.0 leg }
-    {
-        let entry = self.network.get(leg.enter);
-        entry.from.0 == source.0 && moment.0 == entry.dep.0 && start.0 <= entry.dep.0
-    }
-
     /// The start leg of a row.
     fn start_row(
         &self,
@@ -331,42 +304,8 @@ impl<'a> Reader<'a> {
         let Some(leg) = self.leg_found(&numbers, &known) else {
             return Err(TextFault::NoLeg(line));
         };
-        if self.can_start(source, start, numbers.moment, leg) {
+        if can_start(self.network.get(leg.enter), source, start, numbers.moment) {
             Ok(leg)
-        } else {
-            Err(TextFault::NoLeg(line))
-        }
-    }
-
-    /// A leg row of a place, after one by an earlier moment.
-    fn table_row(
-        &self,
-        printed: &Record<'_>,
-        place: PlaceId,
-        last: Option<u64>,
-    ) -> Result<GraphRow, TextFault>
-        requires place { place.0 < length self.now.network.now.change }
-        ensures { result ≡ row_in self.now.network.now self.now.names self.now.version printed.now.line place.0 last
-            printed.now.fields }
-    {
-        let line = printed.line();
-        let Some(numbers) = self.leg_row(printed, b"leg") else {
-            return Err(TextFault::Row(line));
-        };
-        let Some(known) = self.names_of(printed, place) else {
-            return Err(TextFault::UnknownName(line));
-        };
-        if !rises(last, numbers.moment.0) {
-            return Err(TextFault::NotRising(line));
-        }
-        let Some(leg) = self.leg_found(&numbers, &known) else {
-            return Err(TextFault::NoLeg(line));
-        };
-        if equals_limit(self.network.limit(place, leg), numbers.moment) {
-            Ok(GraphRow {
-                by: numbers.moment,
-                leg,
-            })
         } else {
             Err(TextFault::NoLeg(line))
         }
@@ -456,26 +395,6 @@ impl<'a> Reader<'a> {
         Ok(begin(alloc, reading, start))
     }
 
-    /// After a leg row of the last place.
-    fn read_leg(
-        &self,
-        alloc: Global,
-        printed: &Record<'_>,
-        reading: Reading,
-        place: PlaceId,
-    ) -> Result<Reading, TextFault>
-        requires remaining { 1 ≤ reading.remaining }
-        requires last { reading.place ≡ Some place }
-        requires place { place.0 < length self.now.network.now.change }
-        ensures reported { IsUnlessNoMemory result (after_leg_row reading
-            (row_in self.now.network.now self.now.names self.now.version printed.now.line place.0
-            (option_map (λ moment. moment.0) reading.by) printed.now.fields)) }
-        ensures place { IfOk result (IsPlaced self.now.network.now) }
-    {
-        let row = self.table_row(printed, place, reading.by.map(|by| by.0))?;
-        Ok(extend(alloc, reading, place, row)?)
-    }
-
     /// After one more row: a place row if no leg row is to come, and otherwise a leg row.
     fn read_row(
         &self,
@@ -491,10 +410,25 @@ impl<'a> Reader<'a> {
         if reading.remaining == 0 {
             return self.read_place(alloc, printed, reading);
         }
-        match reading.place {
-            Some(place) => self.read_leg(alloc, printed, reading, place),
-            None => unreachable!(),
-        }
+        let Reading {
+            done,
+            place,
+            rows,
+            by,
+            remaining,
+        } = reading;
+        let Some(place) = place else {
+            unreachable!();
+        };
+        let table = InTable {
+            reader: self,
+            done,
+            place,
+            rows,
+            by,
+            remaining,
+        };
+        table.read_leg(alloc, printed)
     }
 
     /// The tables of the rows from the second on.
@@ -605,6 +539,82 @@ impl<'a> Reader<'a> {
             return Err(TextFault::Row(2));
         }
         self.read_rows(alloc, query)
+    }
+}
+
+impl<'b, 'a> InTable<'b, 'a> {
+    /// A leg row of the place, after one by an earlier moment.
+    fn row(&self, printed: &Record<'_>) -> Result<GraphRow, TextFault>
+        ensures { result ≡ row_in self.now.reader.now.network.now self.now.reader.now.names self.now.reader.now.version
+            printed.now.line self.now.place.0 (option_map (λ moment. moment.0) self.now.by) printed.now.fields }
+    {
+        let line = printed.line();
+        let Some(numbers) = self.reader.leg_row(printed, b"leg") else {
+            return Err(TextFault::Row(line));
+        };
+        let Some(known) = self.reader.names_of(printed, self.place) else {
+            return Err(TextFault::UnknownName(line));
+        };
+        if !rises(self.by.map(|by| by.0), numbers.moment.0) {
+            return Err(TextFault::NotRising(line));
+        }
+        let Some(leg) = self.reader.leg_found(&numbers, &known) else {
+            return Err(TextFault::NoLeg(line));
+        };
+        if equals_limit(self.reader.network.limit(self.place, leg), numbers.moment) {
+            Ok(GraphRow {
+                by: numbers.moment,
+                leg,
+            })
+        } else {
+            Err(TextFault::NoLeg(line))
+        }
+    }
+
+    /// With one more row; the table is complete with its last one.
+    fn with_row(self, alloc: Global, row: GraphRow) -> Result<Reading, NoMemory>
+        ensures now { IfOk result (λ now. after_leg_row (with_rows self.entry.done self.entry.place self.entry.rows
+            self.entry.by self.entry.remaining) (Ok row) ≡ Ok now) }
+        ensures place { IfOk result (IsPlaced self.entry.reader.now.network.now) }
+    {
+        let InTable {
+            reader: _,
+            mut done,
+            place,
+            mut rows,
+            by: _,
+            remaining,
+        } = self;
+        rows.push(row)?;
+        if remaining == 1 {
+            done.push(PlaceTable { place, rows })?;
+            return Ok(Reading {
+                done,
+                place: Some(place),
+                rows: List::new(alloc),
+                by: None,
+                remaining: 0,
+            });
+        }
+        Ok(Reading {
+            done,
+            place: Some(place),
+            rows,
+            by: Some(row.by),
+            remaining: remaining - 1,
+        })
+    }
+
+    /// After a leg row.
+    fn read_leg(self, alloc: Global, printed: &Record<'_>) -> Result<Reading, TextFault>
+        ensures reported { IsUnlessNoMemory result (after_leg_row (with_rows self.entry.done self.entry.place
+            self.entry.rows self.entry.by self.entry.remaining)
+            (row_in self.entry.reader.now.network.now self.entry.reader.now.names self.entry.reader.now.version
+            printed.now.line self.entry.place.0 (option_map (λ moment. moment.0) self.entry.by) printed.now.fields)) }
+        ensures place { IfOk result (IsPlaced self.entry.reader.now.network.now) }
+    {
+        let row = self.row(printed)?;
+        Ok(self.with_row(alloc, row)?)
     }
 }
 

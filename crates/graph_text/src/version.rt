@@ -1,11 +1,10 @@
 //! The two versions of a graph's text.
-ghost use Rattle.std.specs.Prelude.{◌≡◌, ◌<◌, ◌∷◌, ◌==◌, [], All};
-ghost use Rattle.plan_model.specs.Network.{count, from_of};
+ghost use Rattle.std.specs.Prelude.{◌≡◌, ◌<◌, ◌∷◌, [], All};
 ghost use Rattle.graph_text.specs.Printable.{IsPrintableRow, IsPrintableRide, IsPrintableTable};
 ghost use Rattle.graph_text.specs.Versions.{number_of_version, width_of, rows_leave, tables_leave, rides_leave, version_by};
 
 use plan_graph::{GraphRow, PlaceTable, Ride};
-use plan_model::{Leg, Network, PlaceId};
+use plan_model::{Network, PlaceId};
 
 /// The two versions of a graph's text, which differ in where its legs may begin.
 #[derive(Clone, Copy)]
@@ -48,21 +47,13 @@ pub(crate) fn version_by(leave: bool) -> Version
     }
 }
 
-/// Whether a leg leaves a place.
-fn leaves(network: &Network, place: PlaceId, leg: Leg) -> bool
-    requires { leg.enter.0 < count network.now }
-    ensures { result ≡ (from_of network.now leg.enter.0 == place.0) }
-{
-    network.get(leg.enter).from.0 == place.0
-}
-
 /// Whether each leg of a place's rows leaves that place.
 fn rows_leave(network: &Network, place: PlaceId, rows: &[GraphRow]) -> bool
     requires { All (IsPrintableRow network.now) rows.now }
     ensures { result ≡ rows_leave network.now place.0 rows.now }
 {
     for row in rows {
-        if !leaves(network, place, row.leg) {
+        if network.get(row.leg.enter).from.0 != place.0 {
             return false;
         }
     }

@@ -1,8 +1,0 @@
-use Rattle.graph_text.proofs.Common.{◌≡◌, ◌++◌, drop, rides_text}
-use Rattle.graph_text.proofs.printer.Printer.put_rides.Given as goal
-
--- the text so far, and that of the rides that remain
-abbrev pub invariant-loop-ride : goal.invariant-loop-ride
-invariant-loop-ride l =
-    l.text.items ++ rides_text l.self.network.now l.self.names.now l.self.version
-    (drop l.ride-index l.rides) ≡ l.initial.text.items ++ rides_text l.self.network.now l.self.names.now l.self.version l.rides
