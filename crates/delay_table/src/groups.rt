@@ -16,6 +16,22 @@ pub(crate) struct LineGroup<'a> {
     pub(crate) hour: Option<u8>,
 }
 
+impl<'a> LineGroup<'a> {
+    /// Whether it names neither a route nor an hour.
+    pub(crate) fn is_plain(&self) -> bool
+        ensures { result ≡ is_plain (line_group self.now) }
+    {
+        self.route.is_none() && self.hour.is_none()
+    }
+
+    /// The route type of a group of a route type alone.
+    pub(crate) fn plain_type(&self) -> Option<u16>
+        ensures { result ≡ plain_type (line_group self.now) }
+    {
+        if self.is_plain() { self.class } else { None }
+    }
+}
+
 /// Groups, numbered in the order in which they appear.
 #[derive(Drop)]
 pub(crate) struct Groups<'a> {
@@ -78,25 +94,5 @@ impl<'a> Groups<'a> {
         ensures { line_group result ≡ group_in self.now index }
     {
         self.groups.as_slice()[index]
-    }
-
-    /// Whether a group names neither a route nor an hour.
-    pub(crate) fn is_plain(&self, index: usize) -> bool
-        requires { index < length self.now }
-        ensures { result ≡ is_plain (group_in self.now index) }
-    {
-        let group = self.at(index);
-        group.route.is_none() && group.hour.is_none()
-    }
-
-    /// The route type of a group of a route type alone.
-    pub(crate) fn plain_type(&self, index: usize) -> Option<u16>
-        requires { index < length self.now }
-        ensures { result ≡ plain_type (group_in self.now index) }
-    {
-        if !self.is_plain(index) {
-            return None;
-        }
-        self.at(index).class
     }
 }

@@ -1,5 +1,5 @@
 //! The groups that name a route or an hour, by the numbers of their routes.
-ghost use Rattle.std.specs.Prelude.{◌≡◌, ◌+◌, ◌<◌, length, None, IfOk, IfSome, OnOk, option_map};
+ghost use Rattle.std.specs.Prelude.{◌≡◌, ◌<◌, length, None, IfOk, IfSome, OnOk, option_map};
 ghost use Rattle.delay_table.specs.Delays.{others};
 ghost use Rattle.delay_table.specs.Groups.{group_index, numbered_route, routes_of, with_route};
 ghost use Rattle.delay_table.specs.Numbered.{IsNumber, IsNumbering};
@@ -37,29 +37,6 @@ fn number_of<'a>(
     Ok(Some(number))
 }
 
-/// Adds the group at an index, if it names a route or an hour.
-fn add_other<'a>(
-    read: &ReadRows<'a>,
-    index: usize,
-    numbering: &mut Numbering<'a>,
-) -> Result<(), NoMemory>
-    requires index { index < length read.now.groups }
-    requires made { IsNumbering numbering.old.routes numbering.old.groups (others read.now.groups index) }
-    ensures { OnOk result (IsNumbering numbering.new.routes numbering.new.groups
-        (others read.now.groups (index + 1))) }
-{
-    if read.groups.is_plain(index) {
-        return Ok(());
-    }
-    let group = read.groups.at(index);
-    let route = number_of(&mut numbering.routes, group.route)?;
-    numbering.groups.add(NumberedGroup {
-        class: group.class,
-        route,
-        hour: group.hour,
-    })
-}
-
 /// The groups that name a route or an hour, by the numbers of their routes.
 fn numbering_of<'a>(
     alloc: Global,
@@ -74,7 +51,16 @@ fn numbering_of<'a>(
         groups: NumberedGroups::with_key(alloc, key),
     };
     for index in 0..read.groups.len() {
-        add_other(read, index, &mut numbering)?;
+        let group = read.groups.at(index);
+        if group.is_plain() {
+            continue;
+        }
+        let route = number_of(&mut numbering.routes, group.route)?;
+        numbering.groups.add(NumberedGroup {
+            class: group.class,
+            route,
+            hour: group.hour,
+        })?;
     }
     Ok(numbering)
 }

@@ -69,14 +69,6 @@ fn fault_after(earlier: &[Outcome], line: &DelayLine<'_>, number: u64) -> Option
     }
 }
 
-/// The outcomes of the group at an index.
-fn outcomes_at(rows: &[GroupRows], index: usize) -> &[Outcome]
-    requires { index < length rows.now }
-    ensures { result.now ≡ (group_rows_at rows.now index).outcomes }
-{
-    rows[index].outcomes.as_slice()
-}
-
 impl<'a> Reading<'a> {
     /// Adds a row to those of a group that has rows.
     fn push(&mut self, index: usize, line: &DelayLine<'_>, number: u64) -> Result<(), DelayFault>
@@ -174,25 +166,19 @@ impl<'a> ReadRows<'a> {
         ensures { result.now ≡ read_outcomes self.now.groups self.now.rows.items (of_class class) }
     {
         match self.groups.class_index(class) {
-            Some(index) => outcomes_at(self.rows.as_slice(), index),
+            Some(index) => self.rows_at(index).outcomes.as_slice(),
             None => &[],
         }
     }
 
-    /// The outcomes of the group at an index.
-    pub(crate) fn group_rows(&self, index: usize) -> &[Outcome]
+    /// The outcomes of the group at an index, and the line at which it begins.
+    pub(crate) fn rows_at(&self, index: usize) -> &GroupRows
         requires { index < length self.now.groups }
-        ensures { result.now ≡ read_outcomes self.now.groups self.now.rows.items (group_in self.now.groups index) }
+        ensures line { result.now.line ≡ line_at self.now.rows.items index }
+        ensures outcomes { result.now.outcomes
+            ≡ read_outcomes self.now.groups self.now.rows.items (group_in self.now.groups index) }
     {
-        outcomes_at(self.rows.as_slice(), index)
-    }
-
-    /// The line at which the group at an index begins.
-    pub(crate) fn line(&self, index: usize) -> u64
-        requires { index < length self.now.groups }
-        ensures { result ≡ line_at self.now.rows.items index }
-    {
-        self.rows[index].line
+        &self.rows[index]
     }
 }
 

@@ -1,5 +1,5 @@
 //! The faults of the groups of a whole delay file.
-ghost use Rattle.std.specs.Prelude.{◌≡◌, ◌<◌, ◌≤◌, length, sum_by};
+ghost use Rattle.std.specs.Prelude.{◌≡◌, ◌≤◌, length};
 ghost use Rattle.csv_rows.specs.First.{first_below};
 ghost use Rattle.delay_table.specs.DelayBounds.{end_of_types, most_rows};
 ghost use Rattle.delay_table.specs.Delays.{class_sum, group_sum_at, groups_fault, route_types_below, no_default_of, other_sum, too_many_classes, type_sum_at};
@@ -13,18 +13,6 @@ use plan_model::{Outcome, WHOLE_WEIGHT};
 /// How many groups there may be.
 const MOST_GROUPS: u64 = 1 << 16;
 
-/// The sum of the weights of a row.
-fn weight_sum(row: &[Outcome]) -> u32
-    requires { length row.now ≤ most_rows }
-    ensures { result ≡ sum_by (λ o. o.weight) row.now }
-{
-    let mut sum = 0u32;
-    for outcome in row {
-        sum += u32::from(outcome.weight);
-    }
-    sum
-}
-
 /// The sum of the weights of a row, if there is one and it is not the whole.
 fn other_sum(row: &[Outcome]) -> Option<u32>
     requires { length row.now ≤ most_rows }
@@ -33,7 +21,10 @@ fn other_sum(row: &[Outcome]) -> Option<u32>
     if row.is_empty() {
         return None;
     }
-    let sum = weight_sum(row);
+    let mut sum = 0u32;
+    for outcome in row {
+        sum += u32::from(outcome.weight);
+    }
     if sum == WHOLE_WEIGHT {
         return None;
     }
@@ -61,28 +52,19 @@ fn type_fault(read: &ReadRows<'_>, types: &[u16]) -> Option<DelayFault>
     None
 }
 
-/// The fault of a group, if it names a route or an hour.
-fn group_sum(read: &ReadRows<'_>, index: usize) -> Option<DelayFault>
-    requires { index < length read.now.groups }
-    ensures { result ≡ group_sum_at (read_outcomes read.now.groups read.now.rows.items)
-        read.now.groups (line_at read.now.rows.items) index }
-{
-    if read.groups.is_plain(index) {
-        return None;
-    }
-    let line = read.line(index);
-    let sum = other_sum(read.group_rows(index))?;
-    Some(DelayFault::GroupSum(line, sum))
-}
-
 /// The first fault of the groups that name a route or an hour.
 fn group_fault(read: &ReadRows<'_>) -> Option<DelayFault>
     ensures { result ≡ first_below (group_sum_at (read_outcomes read.now.groups read.now.rows.items)
         read.now.groups (line_at read.now.rows.items)) (length read.now.groups) }
 {
     for index in 0..read.groups.len() {
-        if let Some(fault) = group_sum(read, index) {
-            return Some(fault);
+        let group = read.groups.at(index);
+        if group.is_plain() {
+            continue;
+        }
+        let rows = read.rows_at(index);
+        if let Some(sum) = other_sum(rows.outcomes.as_slice()) {
+            return Some(DelayFault::GroupSum(rows.line, sum));
         }
     }
     None

@@ -1,9 +1,9 @@
 //! The delays by class.
 ghost use Rattle.std.specs.Prelude.{ℕ, ◌≡◌, ◌≢◌, ◌<◌, ◌≤◌, ◌++◌, ◌∷◌, List, [], length, map, slice_index_or, option_map, Some, None, All, Any, Contains, OnOk, IfOk, IfErr, IfSome, IfNone};
 ghost use Rattle.delay_table.specs.DelayLists.{class_at, class_for, hour_of, other_class, route_class, type_class};
-ghost use Rattle.delay_table.specs.DelayBounds.{end_of_types, most_groups};
-ghost use Rattle.delay_table.specs.Delays.{class_rows, class_type, delays_in, delays_of, first_delay_fault, groups_fault, groups_of, if_other, route_types_below, others, type_rows};
-ghost use Rattle.delay_table.specs.Groups.{group_in, numbered_route, plain_types, routes_of};
+ghost use Rattle.delay_table.specs.DelayBounds.{most_groups};
+ghost use Rattle.delay_table.specs.Delays.{class_rows, class_type, delays_in, delays_of, first_delay_fault, groups_fault, groups_of, others, type_rows};
+ghost use Rattle.delay_table.specs.Groups.{numbered_route, routes_of};
 ghost use Rattle.delay_table.specs.Read.{line_at, read_outcomes};
 ghost use Rattle.delay_table.specs.Slots.{IsClassOf, AreDelays};
 
@@ -92,25 +92,6 @@ fn type_classes(
     Ok(classes)
 }
 
-/// Adds the outcomes of the group at an index, if it names a route or an hour.
-fn add_other(
-    alloc: Global,
-    read: &ReadRows<'_>,
-    index: usize,
-    classes: &mut List<List<Outcome>>,
-) -> Result<(), NoMemory>
-    requires { index < length read.now.groups }
-    ensures { OnOk result (classes.new ≡ classes.old
-        ++ if_other (group_in read.now.groups index)
-        (read_outcomes read.now.groups read.now.rows.items (group_in read.now.groups index))) }
-{
-    if !read.groups.is_plain(index) {
-        let copy = copied(alloc, read.group_rows(index))?;
-        classes.push(copy)?;
-    }
-    Ok(())
-}
-
 /// Adds the outcomes of the groups that name a route or an hour.
 fn add_others(
     alloc: Global,
@@ -122,36 +103,14 @@ fn add_others(
         (others read.now.groups (length read.now.groups))) }
 {
     for index in 0..read.groups.len() {
-        add_other(alloc, read, index, classes)?;
+        let group = read.groups.at(index);
+        if group.is_plain() {
+            continue;
+        }
+        let copy = copied(alloc, read.rows_at(index).outcomes.as_slice())?;
+        classes.push(copy)?;
     }
     Ok(())
-}
-
-/// The table of these outcomes; these are the route types that are named.
-fn delays_in(
-    alloc: Global,
-    key: HashKey,
-    read: &ReadRows<'_>,
-    types: Vec<u16>,
-) -> Result<DelayTable, NoMemory>
-    requires types { types.items ≡ route_types_below (read_outcomes read.now.groups read.now.rows.items) end_of_types }
-    requires size { length types.items
-        ≡ length (plain_types read.now.groups (length read.now.groups)) }
-    requires sound { groups_fault (read_outcomes read.now.groups read.now.rows.items)
-        read.now.groups (line_at read.now.rows.items) ≡ None }
-    ensures table { IfOk result (λ table.
-        table ≡ delays_in (read_outcomes read.now.groups read.now.rows.items) read.now.groups) }
-    ensures size { OnOk result (length (delays_in (read_outcomes read.now.groups read.now.rows.items)
-        read.now.groups).classes ≡ length read.now.groups) }
-{
-    let mut classes = type_classes(alloc, read, types.as_slice())?;
-    add_others(alloc, read, &mut classes)?;
-    let others = OtherGroups::of(alloc, key, read)?;
-    Ok(DelayTable {
-        types: List::from_vec(types),
-        others,
-        classes,
-    })
 }
 
 /// The table of these outcomes, or the first fault of their groups.
@@ -173,8 +132,14 @@ fn table_of(alloc: Global, key: HashKey, read: &ReadRows<'_>) -> Result<DelayTab
     if let Some(fault) = groups_fault(read, types.as_slice()) {
         return Err(fault);
     }
-    let table = delays_in(alloc, key, read, types)?;
-    Ok(table)
+    let mut classes = type_classes(alloc, read, types.as_slice())?;
+    add_others(alloc, read, &mut classes)?;
+    let others = OtherGroups::of(alloc, key, read)?;
+    Ok(DelayTable {
+        types: List::from_vec(types),
+        others,
+        classes,
+    })
 }
 
 /// The route type of a class, and none for `*`.

@@ -1,8 +1,8 @@
 //! The route types that a delay file names.
-ghost use Rattle.std.specs.Prelude.{◌≡◌, ◌<◌, ◌++◌, length, OnOk, IfOk};
+ghost use Rattle.std.specs.Prelude.{◌≡◌, length, IfOk};
 ghost use Rattle.delay_table.specs.DelayBounds.{end_of_types};
 ghost use Rattle.delay_table.specs.Delays.{route_types_below};
-ghost use Rattle.delay_table.specs.Groups.{group_in, listed, plain_type, plain_types};
+ghost use Rattle.delay_table.specs.Groups.{plain_types};
 ghost use Rattle.delay_table.specs.Read.{read_outcomes};
 
 use crate::groups::Groups;
@@ -10,25 +10,17 @@ use crate::reading::ReadRows;
 use plan_model::NoMemory;
 use std::alloc::Global;
 
-/// Adds the route type of a group, if it is of a route type alone.
-fn add_type(types: &mut Vec<u16>, groups: &Groups<'_>, index: usize) -> Result<(), NoMemory>
-    requires { index < length groups.now }
-    ensures { OnOk result (types.new.items
-        ≡ types.old.items ++ listed (plain_type (group_in groups.now index))) }
-{
-    if let Some(route_type) = groups.plain_type(index) {
-        types.push(route_type)?;
-    }
-    Ok(())
-}
-
 /// The route types of the groups of a route type alone, in the order of the groups.
 fn plain_types(alloc: Global, groups: &Groups<'_>) -> Result<Vec<u16>, NoMemory>
     ensures { IfOk result (λ types. types.items ≡ plain_types groups.now (length groups.now)) }
 {
     let mut types: Vec<u16> = Vec::new(alloc);
     for index in 0..groups.len() {
-        add_type(&mut types, groups, index)?;
+        let group = groups.at(index);
+        let Some(route_type) = group.plain_type() else {
+            continue;
+        };
+        types.push(route_type)?;
     }
     Ok(types)
 }
