@@ -1,12 +1,14 @@
 -- A search that has a least worst arrival has a safe strategy.
 use Rattle.journey_answers.proofs.Common.{◌≡◌, Option, Some, None, ◌≤◌, ℕ, MatchOption, subst, Moment, Query, NetworkModel, IsNoneSafe, Problem, IsWorst, IsQueryOf, InQuery}
+use Rattle.std.proofs.Math.Logic.{∥∥₁_elim}
 use Rattle.plan_model.proofs.Laws.{safe_exists}
 
 -- where the deadline is not before the least worst arrival, some strategy is safe
-pub none_is_safe : (n : NetworkModel) (q : Query) (worst : Moment) → IsWorst n q worst → worst.0 ≤ q.deadline.0 → IsNoneSafe n q → ⊥
+pub none_is_safe : (n : NetworkModel) (q : Query) (worst : Moment) → ∥ IsWorst n q worst ∥₁ → worst.0 ≤ q.deadline.0 → IsNoneSafe n q → ⊥
 none_is_safe n q worst least late none =
-    let safe = safe_exists n q.source.0 q.target.0 q.start.0 q.deadline.0 worst least late in
-    none safe.0 safe.1
+    ∥∥₁_elim least (λ x. absurd x) (λ is.
+    let safe = safe_exists n q.source.0 q.target.0 q.start.0 q.deadline.0 worst is late in
+    none safe.0 safe.1)
 
 pub match_none : {A : Type 0} (o : Option A) (N : Type 0) (P : A → Type 0) → o ≡ None → MatchOption o N P → N
 match_none None N P is n = n

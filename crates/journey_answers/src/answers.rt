@@ -13,7 +13,7 @@ use decision_graph::{Found, expand, plan};
 use graph_text::{Head, fit_is_printable, ready_is_printable, write, write_expanded};
 use interval_fixed::Span;
 use journey_model::{Fault, Problem};
-use journey_report::{Answer, NamedQuery, Report, safe_text};
+use journey_report::{Answer, NamedQuery, Printable, Report, safe_text};
 use merged_runs::MergedRuns;
 use plan_graph::{ExpandedGraph, PlanGraph};
 use plan_model::{BackwardOrder, Moment, NoMemory, Query};
@@ -34,6 +34,8 @@ pub struct Asked<'a> {
     pub worst: Moment,
     /// That its places are the network's, and its moments have texts.
     pub ghost printable: { IsPrintable problem.now.timetable.network query worst },
+    /// That `worst` is the least worst arrival.
+    pub ghost least: { ∥ IsWorst problem.now.timetable.network query worst ∥₁ },
 }
 
 impl<'a> Asked<'a> {
@@ -41,11 +43,10 @@ impl<'a> Asked<'a> {
     pub fn report(&self) -> Report
         ensures { findings_of result ≡ safe_findings self.now.query self.now.worst }
     {
-        Report {
-            query: Some(self.query),
-            worst: Some(self.worst),
-            ..Report::empty()
-        }
+        let mut report = Report::empty();
+        report.query = Some(self.query);
+        report.worst = Some(self.worst);
+        report
     }
 }
 
@@ -92,14 +93,13 @@ pub fn asked_of<'a>(
     Ok((asked, order))
 }
 
-/// The decision graph by ride of a query for which some strategy is safe, with its bounds.
+/// The decision graph by ride of a query, with its bounds.
 fn expanded_of<B: BackwardOrder>(
     alloc: Global,
     order: &mut B,
     asked: &Asked,
 ) -> Result<Found<ExpandedGraph, Span>, NoMemory>
-    requires fits { B.fits order.old asked.now.problem.now.timetable.network }
-    requires least { IsWorst asked.now.problem.now.timetable.network asked.now.query asked.now.worst }
+    requires { B.fits order.old asked.now.problem.now.timetable.network }
     ensures { IfOk result (λ found. IsExpanded asked.now.problem.now.timetable.network
         asked.now.query found.graph found.value) }
 {
@@ -111,15 +111,13 @@ fn expanded_of<B: BackwardOrder>(
     }
 }
 
-/// The decision graph by place of a query for which some strategy is safe, with its bounds. Whatever is answered, the
-/// order still fits the network.
+/// The decision graph by place of a query, with its bounds. Whatever is answered, the order still fits the network.
 pub fn planned_of<B: BackwardOrder>(
     alloc: Global,
     order: &mut B,
     asked: &Asked,
 ) -> Result<Found<PlanGraph, Span>, NoMemory>
-    requires fits { B.fits order.old asked.now.problem.now.timetable.network }
-    requires least { IsWorst asked.now.problem.now.timetable.network asked.now.query asked.now.worst }
+    requires { B.fits order.old asked.now.problem.now.timetable.network }
     ensures planned { IfOk result (λ found. IsPlanned asked.now.problem.now.timetable.network
         asked.now.query found.graph found.value) }
     ensures fits { B.fits order.new asked.now.problem.now.timetable.network }
@@ -150,11 +148,9 @@ fn expanded_answer(
     let names = &asked.problem.timetable.names;
     ready_is_printable();
     let text = write_expanded(alloc, &found.graph, &head, network, names)?;
-    let report = Report {
-        expanded: Some(found.graph),
-        bounds: Some(found.value),
-        ..asked.report()
-    };
+    let mut report = asked.report();
+    report.expanded = Some(found.graph);
+    report.bounds = Some(found.value);
     Ok(Answer { report, text })
 }
 
@@ -176,11 +172,9 @@ fn planned_answer(
     let names = &asked.problem.timetable.names;
     fit_is_printable();
     let text = write(alloc, &found.graph, &head, network, names)?;
-    let report = Report {
-        graph: Some(found.graph),
-        bounds: Some(found.value),
-        ..asked.report()
-    };
+    let mut report = asked.report();
+    report.graph = Some(found.graph);
+    report.bounds = Some(found.value);
     Ok(Answer { report, text })
 }
 
@@ -191,9 +185,14 @@ pub fn safe_over(alloc: Global, problem: &Problem, start: Start, alpha: Percent)
     ensures fault { IfErr result (IsNoAnswer problem.now start.moment.0) }
 {
     let (asked, _) = asked_of(alloc, problem, start, alpha)?;
-    let query = asked.query;
-    let named = NamedQuery::new(&problem.timetable.names, query.source, query.target, query);
-    let text = safe_text(alloc, &named, asked.worst)?;
+    let named = NamedQuery {
+        timetable: &problem.timetable,
+        query: asked.query,
+    };
+    let worst = Printable {
+        moment: asked.worst,
+    };
+    let text = safe_text(alloc, &named, worst)?;
     let report = asked.report();
     Ok(Answer { report, text })
 }

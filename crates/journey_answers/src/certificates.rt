@@ -7,7 +7,7 @@ ghost use Rattle.journey_report.specs.Findings.{findings_of};
 use crate::answers::{Answered, asked_of};
 use command_line::{Percent, Start};
 use journey_model::Problem;
-use journey_report::{Answer, Report};
+use journey_report::Answer;
 use lower_proof::{write, write_text};
 use std::alloc::Global;
 
@@ -27,9 +27,7 @@ pub fn certify_over(alloc: Global, problem: &Problem, start: Start, alpha: Perce
         network,
         &problem.timetable.names,
     )?;
-    let report = Report {
-        proof: Some(certificate),
-        ..asked.report()
-    };
+    let mut report = asked.report();
+    report.proof = Some(certificate);
     Ok(Answer { report, text })
 }

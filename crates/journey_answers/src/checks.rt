@@ -16,8 +16,8 @@ use lower_proof::{LowerBounds, Verdict, check, least};
 use plan_model::{NoMemory, Query};
 use std::alloc::Global;
 
-/// A certificate of a problem that was read: it has a value for each connection, and the moments of its
-/// query have texts.
+/// A certificate of a problem that was read: it has a value for each connection, its query is between the ends of the
+/// problem, and the moments of that have texts.
 #[derive(Drop)]
 pub struct ReadCertificate<'a> {
     /// The problem.
@@ -28,7 +28,11 @@ pub struct ReadCertificate<'a> {
     pub certificate: LowerBounds,
     /// That it has a value for each connection.
     pub ghost as_many: { length certificate.values ≡ count problem.now.timetable.network },
-    /// That the query does not start after the last start.
+    /// That the query begins where the problem does.
+    pub ghost source: { query.source.0 ≡ problem.now.source.0 },
+    /// That it ends where the problem does.
+    pub ghost target: { query.target.0 ≡ problem.now.target.0 },
+    /// That it does not start after the last start.
     pub ghost start: { query.start.0 ≤ last_start },
     /// That the deadline has a text.
     pub ghost deadline: { query.deadline.0 ≤ last_printable },
@@ -48,15 +52,15 @@ fn held_answer(alloc: Global, read: ReadCertificate, least: Option<u64>) -> Resu
         query,
         certificate,
     } = read;
-    let names = &problem.timetable.names;
-    let named = NamedQuery::new(names, problem.source, problem.target, query);
-    let text = holds_text(alloc, &named, least)?;
-    let report = Report {
-        query: Some(query),
-        proof: Some(certificate),
-        least,
-        ..Report::empty()
+    let named = NamedQuery {
+        timetable: &problem.timetable,
+        query,
     };
+    let text = holds_text(alloc, &named, least)?;
+    let mut report = Report::empty();
+    report.query = Some(query);
+    report.proof = Some(certificate);
+    report.least = least;
     Ok(Answer { report, text })
 }
 

@@ -16,7 +16,7 @@ use crate::answers::Answered;
 use command_line::Start;
 use departure_table::{DepartureRow, extended_by, greatest, says_of_source, table};
 use journey_model::{Fault, Problem};
-use journey_report::{Answer, NamedQuery, Report, departures_text, latest_text};
+use journey_report::{Answer, NamedQuery, Printable, Report, departures_text, latest_text};
 use meat_scan::{ScanTables, Scanned, scan};
 use merged_runs::MergedRuns;
 use plan_model::{BackwardOrder, List, Moment, Network, NoMemory, PlaceId, Query};
@@ -181,15 +181,16 @@ fn departures_answer(
     ensures { IfOk result (λ a. AnswersDepartures up_to.now.asked.problem.now up_to.now.asked.query
         up_to.now.last.0 (findings_of a.report) a.text.items) }
 {
-    let timetable = &up_to.asked.problem.timetable;
     let query = up_to.asked.query;
-    let rows = departures.as_slice();
-    let text = departures_text(alloc, timetable, &query, up_to.last, rows)?;
-    let report = Report {
-        query: Some(query),
-        departures: Some(departures),
-        ..Report::empty()
+    let named = NamedQuery {
+        timetable: &up_to.asked.problem.timetable,
+        query,
     };
+    let last = Printable { moment: up_to.last };
+    let text = departures_text(alloc, &named, last, departures.as_slice())?;
+    let mut report = Report::empty();
+    report.query = Some(query);
+    report.departures = Some(departures);
     Ok(Answer { report, text })
 }
 
@@ -200,15 +201,14 @@ fn latest_answer(alloc: Global, asked: &QueryUntil, moment: Moment) -> Result<An
     ensures { IfOk result (λ a. AnswersLatest asked.now.problem.now asked.now.query
         (findings_of a.report) a.text.items) }
 {
-    let query = asked.query;
-    let names = &asked.problem.timetable.names;
-    let named = NamedQuery::new(names, query.source, query.target, query);
-    let text = latest_text(alloc, &named, moment)?;
-    let report = Report {
-        query: Some(query),
-        latest: Some(moment),
-        ..Report::empty()
+    let named = NamedQuery {
+        timetable: &asked.problem.timetable,
+        query: asked.query,
     };
+    let text = latest_text(alloc, &named, Printable { moment })?;
+    let mut report = Report::empty();
+    report.query = Some(asked.query);
+    report.latest = Some(moment);
     Ok(Answer { report, text })
 }
 

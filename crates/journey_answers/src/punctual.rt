@@ -20,7 +20,7 @@ use graph_score::{Outlook, score_fit};
 use graph_text::{Head, fit_is_printable, write};
 use interval_fixed::Span;
 use journey_model::Problem;
-use journey_report::{Answer, Report, punctual_row};
+use journey_report::{Answer, Printable, punctual_row};
 use late_chance::LateChance;
 use plan_graph::PlanGraph;
 use plan_model::{Moment, NoMemory};
@@ -101,7 +101,10 @@ fn punctual_text(alloc: Global, promised: &PromisedGraph, bounds: Span) -> Resul
     let network = &asked.problem.timetable.network;
     let names = &asked.problem.timetable.names;
     fit_is_printable();
-    let mut text = punctual_row(alloc, promised.promise.moment, promised.chance)?;
+    let moment = Printable {
+        moment: promised.promise.moment,
+    };
+    let mut text = punctual_row(alloc, moment, promised.chance)?;
     let graph = write(alloc, &promised.graph, &head, network, names)?;
     text.extend_from_slice(graph.as_slice())?;
     Ok(text)
@@ -117,12 +120,10 @@ fn punctual_answer(alloc: Global, promised: PromisedGraph, bounds: Span) -> Resu
         promised.entry.chance bounds a.text.items) }
 {
     let text = punctual_text(alloc, &promised, bounds)?;
-    let report = Report {
-        graph: Some(promised.graph),
-        bounds: Some(bounds),
-        chance: Some(promised.chance),
-        ..promised.promise.asked.report()
-    };
+    let mut report = promised.promise.asked.report();
+    report.graph = Some(promised.graph);
+    report.bounds = Some(bounds);
+    report.chance = Some(promised.chance);
     Ok(Answer { report, text })
 }
 

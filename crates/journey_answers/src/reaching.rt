@@ -11,7 +11,7 @@ use crate::departures::{QueryUntil, query_until, scan_of};
 use command_line::Start;
 use departure_table::{ReachRow, reach, with_every_gate};
 use journey_model::Problem;
-use journey_report::{Answer, Report, reach_text};
+use journey_report::{Answer, NamedQuery, Report, reach_text};
 use plan_model::{List, Moment, NoMemory, PlaceId, Query};
 use std::alloc::Global;
 
@@ -38,14 +38,14 @@ fn reach_answer(alloc: Global, asked: &QueryUntil) -> Result<Answer, NoMemory>
         (findings_of a.report) a.text.items) }
 {
     let rows = reach_of(alloc, asked)?;
-    let query = asked.query;
-    let names = &asked.problem.timetable.names;
-    let text = reach_text(alloc, names, &query, rows.as_slice())?;
-    let report = Report {
-        query: Some(query),
-        reach: Some(rows),
-        ..Report::empty()
+    let named = NamedQuery {
+        timetable: &asked.problem.timetable,
+        query: asked.query,
     };
+    let text = reach_text(alloc, &named, rows.as_slice())?;
+    let mut report = Report::empty();
+    report.query = Some(asked.query);
+    report.reach = Some(rows);
     Ok(Answer { report, text })
 }
 

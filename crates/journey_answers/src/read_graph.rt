@@ -1,5 +1,7 @@
 //! A graph that was read.
-ghost use Rattle.std.specs.Prelude.{◌<◌, ◌≤◌, length};
+ghost use Rattle.std.proofs.Props.{props};
+ghost use Rattle.std.specs.Prelude.{◌≡◌, ◌≤◌};
+ghost use Rattle.plan_graph.specs.Tidy.{IsFit};
 ghost use Rattle.journey_model.specs.Sites.{last_printable};
 ghost use Rattle.plan_model.specs.Bounds.{last_start};
 
@@ -7,8 +9,8 @@ use graph_text::Head;
 use journey_model::Problem;
 use plan_graph::PlanGraph;
 
-/// A graph of a problem that was read, with its head: the places of its query are the network's, and its
-/// moments have texts.
+/// A graph that was read and fits the network of a problem, with its head: its query is between the ends of the problem,
+/// and the moments of that have texts.
 #[derive(Drop)]
 pub struct ReadGraph<'a> {
     /// The problem.
@@ -17,10 +19,12 @@ pub struct ReadGraph<'a> {
     pub head: Head,
     /// The graph.
     pub graph: PlanGraph,
-    /// That the query begins at a place of the network.
-    pub ghost source_in: { head.query.source.0 < length problem.now.timetable.network.change },
-    /// That it ends at one.
-    pub ghost target_in: { head.query.target.0 < length problem.now.timetable.network.change },
+    /// That it fits the network and the query.
+    pub ghost fit: { IsFit problem.now.timetable.network head.query graph } by { Prim.hlevel props },
+    /// That the query begins where the problem does.
+    pub ghost source: { head.query.source.0 ≡ problem.now.source.0 },
+    /// That it ends where the problem does.
+    pub ghost target: { head.query.target.0 ≡ problem.now.target.0 },
     /// That it does not start after the last start.
     pub ghost start: { head.query.start.0 ≤ last_start },
     /// That the deadline has a text.

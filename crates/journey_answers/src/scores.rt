@@ -1,6 +1,5 @@
 //! Bounds on the expected arrival of a graph.
 ghost use Rattle.std.specs.Prelude.{◌≡◌, ◌≢◌, Some, None, IfOk, IfErr};
-ghost use Rattle.plan_graph.specs.Tidy.{IsFit};
 ghost use Rattle.journey_model.specs.Faults.{unread_input};
 ghost use Rattle.journey_model.specs.Sites.{HasSite};
 ghost use Rattle.journey_model.specs.Known.{parts_of};
@@ -28,26 +27,21 @@ fn enclosed_answer(alloc: Global, read: ReadGraph, bounds: Span) -> Result<Answe
 {
     let problem = read.problem;
     let query = read.head.query;
-    let named = NamedQuery::new(
-        &problem.timetable.names,
-        problem.source,
-        problem.target,
+    let named = NamedQuery {
+        timetable: &problem.timetable,
         query,
-    );
-    let text = encloses_text(alloc, &named, bounds)?;
-    let report = Report {
-        query: Some(query),
-        graph: Some(read.graph),
-        bounds: Some(bounds),
-        ..Report::empty()
     };
+    let text = encloses_text(alloc, &named, bounds)?;
+    let mut report = Report::empty();
+    report.query = Some(query);
+    report.graph = Some(read.graph);
+    report.bounds = Some(bounds);
     Ok(Answer { report, text })
 }
 
-/// Bounds on the expected arrival of a graph that fits; or `Unsafe`, with the first moment and place at which one may
+/// Bounds on the expected arrival of a graph; or `Unsafe`, with the first moment and place at which one may
 /// fail by it.
 pub fn score_over(alloc: Global, read: ReadGraph) -> Result<Answer, Fault>
-    requires { IsFit read.problem.now.timetable.network read.head.query read.graph }
     ensures answer { IfOk result (λ a. IsEnclosed read.entry.problem.now (findings_of a.report)
         a.text.items read.entry.head read.entry.graph) }
     ensures fault { IfErr result (λ fault. fault ≢ Fault.NoMemory

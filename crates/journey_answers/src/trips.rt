@@ -1,20 +1,17 @@
 //! The trip by a graph, as the delays come.
-ghost use Rattle.std.specs.Prelude.{◌≡◌, ◌≢◌, ◌≤◌, All, Some, None, IfOk, IfErr};
-ghost use Rattle.plan_graph.specs.Tidy.{IsFit};
+ghost use Rattle.std.specs.Prelude.{◌≡◌, ◌≢◌, Some, None, IfOk, IfErr};
 ghost use Rattle.command_line.specs.Jobs.{late_in};
 ghost use Rattle.journey_model.specs.Faults.{unread_input};
-ghost use Rattle.journey_model.specs.Sites.{last_printable, HasSite};
+ghost use Rattle.journey_model.specs.Sites.{HasSite};
 ghost use Rattle.journey_model.specs.Known.{parts_of};
 ghost use Rattle.journey_report.specs.Findings.{findings_of, replay_findings};
 ghost use Rattle.journey_report.specs.AnswerTexts.{trace_text};
-ghost use Rattle.trip_replay.specs.Rides.{IsRidden};
 ghost use Rattle.journey_answers.specs.Trips.{replay_as, AnswersReplay, IsTripFault};
 
 use crate::read_graph::ReadGraph;
 use command_line::read_late;
 use journey_model::Fault;
-use journey_report::{Answer, Report, trace_text};
-use plan_model::NoMemory;
+use journey_report::{Answer, PrintableTrip, Report, trace_text};
 use std::alloc::Global;
 use trip_replay::{ReplayFault, Trace, replay};
 
@@ -31,34 +28,21 @@ fn fault_of(fault: ReplayFault) -> Fault
     }
 }
 
-/// The answer with the trip by a graph.
-fn trip_answer(alloc: Global, read: ReadGraph, trace: Trace) -> Result<Answer, NoMemory>
-    requires rides { All (IsRidden read.problem.now.timetable.network) trace.rides }
-    requires arrival { trace.arrival.0 ≤ last_printable }
-    ensures found { IfOk result (λ a. findings_of a.report
-        ≡ replay_findings read.entry.head.query read.entry.graph trace) }
-    ensures text { IfOk result (λ a. a.text.items
-        ≡ trace_text read.entry.problem.now.timetable.network
-        read.entry.problem.now.timetable.names read.entry.problem.now.target.0 trace) }
+/// The answer with the trip by a graph, and its text.
+fn trip_answer(read: ReadGraph, trace: Trace, text: Vec<u8>) -> Answer
+    ensures found { findings_of result.report
+        ≡ replay_findings read.entry.head.query read.entry.graph trace }
+    ensures text { result.text.items ≡ text.items }
 {
-    let ReadGraph {
-        problem,
-        head,
-        graph,
-    } = read;
-    let text = trace_text(alloc, problem, &trace)?;
-    let report = Report {
-        query: Some(head.query),
-        graph: Some(graph),
-        trace: Some(trace),
-        ..Report::empty()
-    };
-    Ok(Answer { report, text })
+    let mut report = Report::empty();
+    report.query = Some(read.head.query);
+    report.graph = Some(read.graph);
+    report.trace = Some(trace);
+    Answer { report, text }
 }
 
-/// The trip by a graph that fits, with the given delays in seconds; or `Replay` with the fault of the trip.
+/// The trip by a graph, with the given delays in seconds; or `Replay` with the fault of the trip.
 pub fn trip_over(alloc: Global, read: ReadGraph, late: &str) -> Result<Answer, Fault>
-    requires { IsFit read.problem.now.timetable.network read.head.query read.graph }
     ensures answer { IfOk result (λ a. AnswersReplay read.entry.problem.now (late_in late.now)
         (findings_of a.report) a.text.items read.entry.head read.entry.graph) }
     ensures fault { IfErr result (λ fault. fault ≢ Fault.NoMemory
@@ -79,6 +63,10 @@ pub fn trip_over(alloc: Global, read: ReadGraph, late: &str) -> Result<Answer, F
         Err(fault) => return Err(fault_of(fault)),
         Ok(trace) => trace,
     };
-    let answer = trip_answer(alloc, read, trace)?;
-    Ok(answer)
+    let trip = PrintableTrip {
+        problem: read.problem,
+        trace: &trace,
+    };
+    let text = trace_text(alloc, &trip)?;
+    Ok(trip_answer(read, trace, text))
 }

@@ -1,29 +1,31 @@
 //! The printed texts of departures, and of the latest moment at which one can leave.
-ghost use Rattle.std.specs.Prelude.{◌≡◌, ◌≤◌, ◌<◌, ◌++◌, map, length, All, IfOk};
+ghost use Rattle.std.specs.Prelude.{◌≡◌, ◌++◌, map, All, IfOk};
 ghost use Rattle.departure_table.specs.Departures.{IsDepartureRow};
-ghost use Rattle.journey_model.specs.Sites.{last_printable};
+ghost use Rattle.printed_rows.specs.Writers.{place_name};
 ghost use Rattle.journey_report.specs.DepartureTexts.{departures_head, departure_text, rows_text, departures_text, latest_text};
 
-use crate::texts::{NamedQuery, moments_row, row};
+use crate::printable::{NamedQuery, Printable};
+use crate::texts::{moments_row, row};
 use clock_text::{write_moment, write_nanos};
 use departure_table::DepartureRow;
 use itoa::Buffer;
-use plan_model::{Moment, NoMemory, Query, Timetable};
+use plan_model::{NoMemory, Timetable};
 use std::alloc::Global;
 
 /// The first row of departures: between which moments, by which deadline, and how many follow.
 fn departures_head(
     alloc: Global,
     named: &NamedQuery,
-    last: Moment,
+    last: Printable,
     count: u64,
 ) -> Result<Vec<u8>, NoMemory>
-    requires { last.0 ≤ last_printable }
-    ensures { IfOk result (λ text. text.items
-        ≡ departures_head named.now.source.now named.now.target.now named.now.query last.0 count) }
+    ensures { IfOk result (λ text. text.items ≡ departures_head
+        (place_name named.now.timetable.now.names named.now.query.source.0)
+        (place_name named.now.timetable.now.names named.now.query.target.0)
+        named.now.query last.moment.0 count) }
 {
     let first = write_moment(named.query.start);
-    let last = write_moment(last);
+    let last = write_moment(last.moment);
     let deadline = write_moment(named.query.deadline);
     let mut digits = Buffer::new();
     row(
@@ -31,8 +33,8 @@ fn departures_head(
         &[
             b"departures".as_slice(),
             b"1".as_slice(),
-            named.source.as_bytes(),
-            named.target.as_bytes(),
+            named.source().as_bytes(),
+            named.target().as_bytes(),
             first.as_slice(),
             last.as_slice(),
             deadline.as_slice(),
@@ -72,25 +74,18 @@ fn departure_text(
 /// The text of departures up to a last moment: a first row, and then a row for each.
 pub fn departures_text(
     alloc: Global,
-    timetable: &Timetable,
-    query: &Query,
-    last: Moment,
+    named: &NamedQuery,
+    last: Printable,
     departures: &[DepartureRow],
 ) -> Result<Vec<u8>, NoMemory>
-    requires source { query.now.source.0 < length timetable.now.network.change }
-    requires target { query.now.target.0 < length timetable.now.network.change }
-    requires first { query.now.start.0 ≤ last_printable }
-    requires last { last.0 ≤ last_printable }
-    requires deadline { query.now.deadline.0 ≤ last_printable }
-    requires departures { All (IsDepartureRow timetable.now.network) departures.now }
-    ensures { IfOk result (λ text. text.items ≡ departures_text timetable.now.network
-        timetable.now.names query.now last.0 departures.now) }
+    requires { All (IsDepartureRow named.now.timetable.now.network) departures.now }
+    ensures { IfOk result (λ text. text.items ≡ departures_text named.now.timetable.now.network
+        named.now.timetable.now.names named.now.query last.moment.0 departures.now) }
 {
-    let named = NamedQuery::new(&timetable.names, query.source, query.target, *query);
     let count = departures.len() as u64;
-    let mut text = departures_head(alloc, &named, last, count)?;
+    let mut text = departures_head(alloc, named, last, count)?;
     for departure in departures {
-        let row = departure_text(alloc, timetable, departure)?;
+        let row = departure_text(alloc, named.timetable, departure)?;
         text.extend_from_slice(row.as_slice())?;
     }
     Ok(text)
@@ -98,11 +93,21 @@ pub fn departures_text(
 
 /// The text of the latest moment at which one can leave.
 #[tactic(auto, unfolding(crate::specs::DepartureTexts::latest_text))]
-pub fn latest_text(alloc: Global, named: &NamedQuery, moment: Moment) -> Result<Vec<u8>, NoMemory>
-    requires { moment.0 ≤ last_printable }
-    ensures { IfOk result (λ text.
-        text.items ≡ latest_text named.now.source.now named.now.target.now named.now.query moment) }
+pub fn latest_text(
+    alloc: Global,
+    named: &NamedQuery,
+    latest: Printable,
+) -> Result<Vec<u8>, NoMemory>
+    ensures { IfOk result (λ text. text.items ≡ latest_text
+        (place_name named.now.timetable.now.names named.now.query.source.0)
+        (place_name named.now.timetable.now.names named.now.query.target.0)
+        named.now.query latest.moment) }
 {
-    let query = named.query;
-    moments_row(alloc, "latest", named, query.start, query.deadline, moment)
+    let start = Printable {
+        moment: named.query.start,
+    };
+    let deadline = Printable {
+        moment: named.query.deadline,
+    };
+    moments_row(alloc, "latest", named, start, deadline, latest)
 }

@@ -6,14 +6,14 @@
 
 mod answer;
 mod departure_texts;
+mod printable;
 mod reach_texts;
 mod report;
 mod texts;
 
 pub use answer::Answer;
 pub use departure_texts::{departures_text, latest_text};
+pub use printable::{NamedQuery, Printable, PrintableTrip};
 pub use reach_texts::reach_text;
 pub use report::{Report, Status};
-pub use texts::{
-    NamedQuery, encloses_text, holds_text, punctual_row, safe_text, sample_text, trace_text,
-};
+pub use texts::{encloses_text, holds_text, punctual_row, safe_text, sample_text, trace_text};

@@ -1,31 +1,29 @@
 //! The printed text of the places from which one can reach a target.
-ghost use Rattle.std.specs.Prelude.{◌≡◌, ◌≤◌, ◌<◌, length, All, IfOk};
-ghost use Rattle.journey_model.specs.Sites.{last_printable};
+ghost use Rattle.std.specs.Prelude.{◌≡◌, All, IfOk};
 ghost use Rattle.journey_report.specs.DepartureTexts.{IsPrintable, from_text, reach_head, reach_text};
 
+use crate::printable::NamedQuery;
 use crate::texts::row;
 use clock_text::{write_moment, write_nanos};
 use departure_table::ReachRow;
 use itoa::Buffer;
-use plan_model::{Names, NoMemory, Query};
+use plan_model::{Names, NoMemory};
 use std::alloc::Global;
 
 /// The first row: from which moment on, by which deadline, and how many places follow.
-fn reach_head(alloc: Global, names: &Names, query: &Query, count: u64) -> Result<Vec<u8>, NoMemory>
-    requires target { query.now.target.0 < length names.now.places }
-    requires first { query.now.start.0 ≤ last_printable }
-    requires deadline { query.now.deadline.0 ≤ last_printable }
-    ensures { IfOk result (λ text. text.items ≡ reach_head names.now query.now count) }
+fn reach_head(alloc: Global, named: &NamedQuery, count: u64) -> Result<Vec<u8>, NoMemory>
+    ensures { IfOk result (λ text.
+        text.items ≡ reach_head named.now.timetable.now.names named.now.query count) }
 {
-    let first = write_moment(query.start);
-    let deadline = write_moment(query.deadline);
+    let first = write_moment(named.query.start);
+    let deadline = write_moment(named.query.deadline);
     let mut digits = Buffer::new();
     row(
         alloc,
         &[
             b"reach".as_slice(),
             b"1".as_slice(),
-            names.place_name(query.target).as_bytes(),
+            named.target().as_bytes(),
             first.as_slice(),
             deadline.as_slice(),
             digits.format(count).as_bytes(),
@@ -54,21 +52,14 @@ fn from_text(alloc: Global, names: &Names, from: &ReachRow) -> Result<Vec<u8>, N
 }
 
 /// The text of the places from which one can reach the target of a query: a first row, and then a row for each.
-pub fn reach_text(
-    alloc: Global,
-    names: &Names,
-    query: &Query,
-    rows: &[ReachRow],
-) -> Result<Vec<u8>, NoMemory>
-    requires target { query.now.target.0 < length names.now.places }
-    requires first { query.now.start.0 ≤ last_printable }
-    requires deadline { query.now.deadline.0 ≤ last_printable }
-    requires rows { All (IsPrintable names.now) rows.now }
-    ensures { IfOk result (λ text. text.items ≡ reach_text names.now query.now rows.now) }
+pub fn reach_text(alloc: Global, named: &NamedQuery, rows: &[ReachRow]) -> Result<Vec<u8>, NoMemory>
+    requires { All (IsPrintable named.now.timetable.now.names) rows.now }
+    ensures { IfOk result (λ text.
+        text.items ≡ reach_text named.now.timetable.now.names named.now.query rows.now) }
 {
-    let mut text = reach_head(alloc, names, query, rows.len() as u64)?;
+    let mut text = reach_head(alloc, named, rows.len() as u64)?;
     for from in rows {
-        let row = from_text(alloc, names, from)?;
+        let row = from_text(alloc, &named.timetable.names, from)?;
         text.extend_from_slice(row.as_slice())?;
     }
     Ok(text)

@@ -18,7 +18,6 @@ pub struct Status(pub u8);
 
 /// What a run came to. At status 0 and at status 8 the fields of the command are present, and else
 /// only the fault.
-#[derive(Drop)]
 pub struct Report {
     /// The number that the process ends with.
     pub status: Status,
@@ -54,6 +53,29 @@ pub struct Report {
     pub fault: Option<Fault>,
 }
 
+impl Drop for Report {
+    /// Drops its parts here, so that a caller drops one value.
+    fn drop(self) {
+        let Report {
+            status,
+            query,
+            worst,
+            expanded,
+            graph,
+            bounds,
+            trace,
+            connections,
+            proof,
+            least,
+            chance,
+            departures,
+            latest,
+            reach,
+            fault,
+        } = self;
+    }
+}
+
 impl Report {
     /// A report of nothing, at status 0.
     pub fn empty() -> Report
@@ -86,10 +108,9 @@ impl Report {
         ensures status { result.status.0 ≡ status_of result.fault }
         ensures fault { result.fault ≡ Some fault }
     {
-        Report {
-            status: Status(fault.status()),
-            fault: Some(fault),
-            ..Report::empty()
-        }
+        let mut report = Report::empty();
+        report.status = Status(fault.status());
+        report.fault = Some(fault);
+        report
     }
 }

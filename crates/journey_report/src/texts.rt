@@ -1,21 +1,20 @@
 //! The printed texts of the answers that are no graphs.
-ghost use Rattle.std.specs.Prelude.{◌≡◌, ◌≤◌, ◌<◌, ◌++◌, [], ◌∷◌, map, length, sum_by, All, IfOk};
+ghost use Rattle.std.specs.Prelude.{◌≡◌, ◌++◌, [], ◌∷◌, map, IfOk};
 ghost use Rattle.printed_rows.specs.Writers.{place_name, row_of_fields};
 ghost use Rattle.clock_text.specs.Civil.{moment_text};
 ghost use Rattle.trip_replay.specs.Rides.{IsRidden};
 ghost use Rattle.journey_report.specs.AnswerTexts.{safe_text, ride_text, rides_text, arrived_text, trace_text, leg_count, sample_text, least_text, holds_text, encloses_text, punctual_row};
-ghost use Rattle.journey_model.specs.Sites.{last_printable};
 
+use crate::printable::{NamedQuery, Printable, PrintableTrip};
 use clock_text::{write_moment, write_nanos};
 use interval_fixed::Span;
 use itoa::Buffer;
-use journey_model::Problem;
 use late_chance::{LateChance, write_chance};
 use plan_graph::PlanGraph;
-use plan_model::{Moment, Names, NoMemory, PlaceId, Query, Timetable};
+use plan_model::{NoMemory, Timetable};
 use printed_rows::put_row;
 use std::alloc::Global;
-use trip_replay::{Ridden, Trace};
+use trip_replay::Ridden;
 
 /// A row of fields, each quoted if it needs it, with its line end.
 pub(crate) fn row(alloc: Global, fields: &[&[u8]]) -> Result<Vec<u8>, NoMemory>
@@ -25,66 +24,29 @@ pub(crate) fn row(alloc: Global, fields: &[&[u8]]) -> Result<Vec<u8>, NoMemory>
     put_row(Vec::new(alloc), fields)
 }
 
-/// A query with the names of its ends, and with moments that have texts.
-#[derive(Clone, Copy)]
-pub struct NamedQuery<'a> {
-    /// The name of the place where it begins.
-    pub source: &'a str,
-    /// The name of the place where it ends.
-    pub target: &'a str,
-    /// The query.
-    pub query: Query,
-    /// That its start has a text.
-    pub ghost start: { query.start.0 ≤ last_printable },
-    /// That its deadline has a text.
-    pub ghost deadline: { query.deadline.0 ≤ last_printable },
-}
-
-impl<'a> NamedQuery<'a> {
-    /// A query with the names of these places as those of its ends.
-    pub fn new(names: &'a Names, source: PlaceId, target: PlaceId, query: Query) -> NamedQuery<'a>
-        requires source { source.0 < length names.now.places }
-        requires target { target.0 < length names.now.places }
-        requires start { query.start.0 ≤ last_printable }
-        requires deadline { query.deadline.0 ≤ last_printable }
-        ensures source { result.source.now ≡ place_name names.now source.0 }
-        ensures target { result.target.now ≡ place_name names.now target.0 }
-        ensures query { result.query ≡ query }
-    {
-        let source = names.place_name(source);
-        let target = names.place_name(target);
-        NamedQuery {
-            source,
-            target,
-            query,
-        }
-    }
-}
-
 /// A row of a kind, with the names of the ends of a query and three moments.
 pub(crate) fn moments_row(
     alloc: Global,
     kind: &str,
     named: &NamedQuery,
-    first: Moment,
-    second: Moment,
-    third: Moment,
+    first: Printable,
+    second: Printable,
+    third: Printable,
 ) -> Result<Vec<u8>, NoMemory>
-    requires first { first.0 ≤ last_printable }
-    requires second { second.0 ≤ last_printable }
-    requires third { third.0 ≤ last_printable }
-    ensures { IfOk result (λ text. text.items ≡ row_of_fields (kind.now ∷ named.now.source.now
-        ∷ named.now.target.now ∷ moment_text first.0 ∷ moment_text second.0 ∷ moment_text third.0 ∷ [])) }
+    ensures { IfOk result (λ text. text.items ≡ row_of_fields (kind.now
+        ∷ place_name named.now.timetable.now.names named.now.query.source.0
+        ∷ place_name named.now.timetable.now.names named.now.query.target.0
+        ∷ moment_text first.moment.0 ∷ moment_text second.moment.0 ∷ moment_text third.moment.0 ∷ [])) }
 {
-    let first = write_moment(first);
-    let second = write_moment(second);
-    let third = write_moment(third);
+    let first = write_moment(first.moment);
+    let second = write_moment(second.moment);
+    let third = write_moment(third.moment);
     row(
         alloc,
         &[
             kind.as_bytes(),
-            named.source.as_bytes(),
-            named.target.as_bytes(),
+            named.source().as_bytes(),
+            named.target().as_bytes(),
             first.as_slice(),
             second.as_slice(),
             third.as_slice(),
@@ -94,13 +56,19 @@ pub(crate) fn moments_row(
 
 /// The text of the least worst arrival and the deadline.
 #[tactic(auto, unfolding(crate::specs::AnswerTexts::safe_text))]
-pub fn safe_text(alloc: Global, named: &NamedQuery, worst: Moment) -> Result<Vec<u8>, NoMemory>
-    requires { worst.0 ≤ last_printable }
-    ensures { IfOk result (λ text.
-        text.items ≡ safe_text named.now.source.now named.now.target.now named.now.query worst) }
+pub fn safe_text(alloc: Global, named: &NamedQuery, worst: Printable) -> Result<Vec<u8>, NoMemory>
+    ensures { IfOk result (λ text. text.items ≡ safe_text
+        (place_name named.now.timetable.now.names named.now.query.source.0)
+        (place_name named.now.timetable.now.names named.now.query.target.0)
+        named.now.query worst.moment) }
 {
-    let query = named.query;
-    moments_row(alloc, "safe", named, query.start, worst, query.deadline)
+    let start = Printable {
+        moment: named.query.start,
+    };
+    let deadline = Printable {
+        moment: named.query.deadline,
+    };
+    moments_row(alloc, "safe", named, start, worst, deadline)
 }
 
 /// The row of a ride.
@@ -133,11 +101,10 @@ fn ride_text(alloc: Global, timetable: &Timetable, ride: &Ridden) -> Result<Vec<
 }
 
 /// The row of an arrival at the target.
-fn arrived_text(alloc: Global, target: &str, arrival: Moment) -> Result<Vec<u8>, NoMemory>
-    requires { arrival.0 ≤ last_printable }
-    ensures { IfOk result (λ text. text.items ≡ arrived_text target.now arrival) }
+fn arrived_text(alloc: Global, target: &str, arrival: Printable) -> Result<Vec<u8>, NoMemory>
+    ensures { IfOk result (λ text. text.items ≡ arrived_text target.now arrival.moment) }
 {
-    let moment = write_moment(arrival);
+    let moment = write_moment(arrival.moment);
     row(
         alloc,
         &[b"arrived".as_slice(), target.as_bytes(), moment.as_slice()],
@@ -145,19 +112,21 @@ fn arrived_text(alloc: Global, target: &str, arrival: Moment) -> Result<Vec<u8>,
 }
 
 /// The text of a trip: a row for each ride, and then the arrival at the target.
-pub fn trace_text(alloc: Global, problem: &Problem, trace: &Trace) -> Result<Vec<u8>, NoMemory>
-    requires rides { All (IsRidden problem.now.timetable.network) trace.now.rides }
-    requires arrival { trace.now.arrival.0 ≤ last_printable }
-    ensures { IfOk result (λ text. text.items ≡ trace_text problem.now.timetable.network
-        problem.now.timetable.names problem.now.target.0 trace.now) }
+pub fn trace_text(alloc: Global, trip: &PrintableTrip) -> Result<Vec<u8>, NoMemory>
+    ensures { IfOk result (λ text. text.items ≡ trace_text trip.now.problem.now.timetable.network
+        trip.now.problem.now.timetable.names trip.now.problem.now.target.0 trip.now.trace.now) }
 {
+    let timetable = &trip.problem.timetable;
     let mut text: Vec<u8> = Vec::new(alloc);
-    for ride in trace.rides.as_slice() {
-        let row = ride_text(alloc, &problem.timetable, ride)?;
+    for ride in trip.trace.rides.as_slice() {
+        let row = ride_text(alloc, timetable, ride)?;
         text.extend_from_slice(row.as_slice())?;
     }
-    let target = problem.timetable.names.place_name(problem.target);
-    let row = arrived_text(alloc, target, trace.arrival)?;
+    let target = timetable.names.place_name(trip.problem.target);
+    let arrival = Printable {
+        moment: trip.trace.arrival,
+    };
+    let row = arrived_text(alloc, target, arrival)?;
     text.extend_from_slice(row.as_slice())?;
     Ok(text)
 }
@@ -224,8 +193,10 @@ pub fn holds_text(
     named: &NamedQuery,
     least: Option<u64>,
 ) -> Result<Vec<u8>, NoMemory>
-    ensures { IfOk result (λ text.
-        text.items ≡ holds_text named.now.source.now named.now.target.now named.now.query least) }
+    ensures { IfOk result (λ text. text.items ≡ holds_text
+        (place_name named.now.timetable.now.names named.now.query.source.0)
+        (place_name named.now.timetable.now.names named.now.query.target.0)
+        named.now.query least) }
 {
     let start = write_moment(named.query.start);
     let deadline = write_moment(named.query.deadline);
@@ -234,8 +205,8 @@ pub fn holds_text(
         alloc,
         &[
             b"holds".as_slice(),
-            named.source.as_bytes(),
-            named.target.as_bytes(),
+            named.source().as_bytes(),
+            named.target().as_bytes(),
             start.as_slice(),
             deadline.as_slice(),
             least.as_slice(),
@@ -245,8 +216,10 @@ pub fn holds_text(
 
 /// The text of the bounds of a graph.
 pub fn encloses_text(alloc: Global, named: &NamedQuery, bounds: Span) -> Result<Vec<u8>, NoMemory>
-    ensures { IfOk result (λ text.
-        text.items ≡ encloses_text named.now.source.now named.now.target.now named.now.query bounds) }
+    ensures { IfOk result (λ text. text.items ≡ encloses_text
+        (place_name named.now.timetable.now.names named.now.query.source.0)
+        (place_name named.now.timetable.now.names named.now.query.target.0)
+        named.now.query bounds) }
 {
     let start = write_moment(named.query.start);
     let deadline = write_moment(named.query.deadline);
@@ -256,8 +229,8 @@ pub fn encloses_text(alloc: Global, named: &NamedQuery, bounds: Span) -> Result<
         alloc,
         &[
             b"encloses".as_slice(),
-            named.source.as_bytes(),
-            named.target.as_bytes(),
+            named.source().as_bytes(),
+            named.target().as_bytes(),
             start.as_slice(),
             deadline.as_slice(),
             lower.as_slice(),
@@ -267,11 +240,14 @@ pub fn encloses_text(alloc: Global, named: &NamedQuery, bounds: Span) -> Result<
 }
 
 /// The row of a promise and of the chance to arrive after it.
-pub fn punctual_row(alloc: Global, promise: Moment, chance: LateChance) -> Result<Vec<u8>, NoMemory>
-    requires { promise.0 ≤ last_printable }
-    ensures { IfOk result (λ text. text.items ≡ punctual_row promise.0 chance) }
+pub fn punctual_row(
+    alloc: Global,
+    promise: Printable,
+    chance: LateChance,
+) -> Result<Vec<u8>, NoMemory>
+    ensures { IfOk result (λ text. text.items ≡ punctual_row promise.moment.0 chance) }
 {
-    let promise = write_moment(promise);
+    let promise = write_moment(promise.moment);
     let lower = write_chance(chance.lo());
     let upper = write_chance(chance.hi());
     row(

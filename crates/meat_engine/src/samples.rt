@@ -20,7 +20,7 @@ use interval_fixed::Span;
 use journey_answers::{Asked, asked_of, planned_of};
 use journey_model::{Fault, Problem};
 use journey_problem::problem_of;
-use journey_report::{Answer, Report, sample_text};
+use journey_report::{Answer, sample_text};
 use plan_graph::PlanGraph;
 use plan_model::{Moment, NoMemory};
 use std::alloc::Global;
@@ -57,12 +57,10 @@ fn sampled_answer(
 {
     let connections = asked.problem.timetable.network.count();
     let text = sample_text(alloc, size.value, connections, &found.graph, found.value)?;
-    let report = Report {
-        graph: Some(found.graph),
-        bounds: Some(found.value),
-        connections: Some(connections),
-        ..asked.report()
-    };
+    let mut report = asked.report();
+    report.graph = Some(found.graph);
+    report.bounds = Some(found.value);
+    report.connections = Some(connections);
     Ok(Answer { report, text })
 }
 

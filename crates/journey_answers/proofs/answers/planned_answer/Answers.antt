@@ -11,7 +11,7 @@ returns c =
     let in_time : asked.query.start.0 ≤ asked.query.deadline.0 = omega (arith, asked.printable.order, asked.printable.deadline) in (
       graph,
       bounds,
-      ap (λ (f : Findings). record f { graph = Some graph; bounds = Some bounds }) c.report.ensures,
+      ap (λ (f : Findings). record f { graph = Some graph; bounds = Some bounds }) c.report-report.ensures,
       c.requires,
       c.in_ok-text.ensures.text,
       has_rows asked.problem.now.timetable.network asked.problem.now.timetable.names (record { query = asked.query; bounds = bounds }) graph c.in_ok-text.text.items

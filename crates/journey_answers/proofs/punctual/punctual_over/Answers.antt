@@ -1,14 +1,13 @@
-use Rattle.journey_answers.proofs.Common.{subst, sym, MatchOption-at_some, IsNoneSafe, Problem, IsWorst, findings_of}
+use Rattle.journey_answers.proofs.Common.{MatchOption-at_some, IsNoneSafe, findings_of}
 use Rattle.journey_answers.specs.Punctual.{AnswersPunctual}
 use Rattle.journey_answers.proofs.Sought.{in_query, none_is_safe, match_none}
 use Rattle.journey_answers.proofs.punctual.punctual_over.Goals as goal
 
 pub unreachable-requires : goal.unreachable-requires
 unreachable-requires c =
-    let e = c.in_ok-asked.ensures in
     let asked = c.in_ok-asked.asked in
     let n = asked.problem.now.timetable.network in
-    none_is_safe n asked.query asked.worst (subst (λ (p : Problem). IsWorst p.timetable.network asked.query asked.worst) (sym e.problem) e.asked.least) asked.printable.deadline
+    none_is_safe n asked.query asked.worst asked.least asked.printable.deadline
     (match_none c.in_ok-found.field-0 (IsNoneSafe n asked.query) _ c.in_default.is c.in_ok-found.ensures)
 
 pub returns-clause-answer : goal.returns-clause-answer

@@ -17,12 +17,12 @@ returns-in-Err c =
       answer = tt;
       fault = subst (λ (f : Fault). f ≢ NoMemory → IsTripFault p late f c.args.read.head c.args.read.graph) named (trip_fault p c.args.read.head c.args.read.graph late fault is c.in-Err.ensures.safe);
       has_site = subst (HasSite (Some (parts_of p))) named
-          (stuck_has_site p c.args.read.head.query c.args.read.source_in c.args.read.start fault c.in-Err.ensures.stuck);
+          (stuck_has_site p c.args.read.head.query (omega (arith, c.args.read.source, p.source_in)) c.args.read.start fault c.in-Err.ensures.stuck);
       read = subst (λ (f : Fault). unread_input f ≡ None) named (replay_unread fault);
     }
 
-pub trip_answer-requires-clause-arrival : goal.trip_answer-requires-clause-arrival
-trip_answer-requires-clause-arrival c =
+pub invariant_of-trip-clause-arrival : goal.invariant_of-trip-clause-arrival
+invariant_of-trip-clause-arrival c =
     subst (λ (k : ℕ). k ≤ last_printable) (sym c.in-Ok.ensures.arrival)
     (arrivals c.args.read.problem.now.timetable.network c.args.read.problem.now.timetable.valid c.args.read.head.query.start.0 c.in-Ok.trace.rides
     (omega (arith, c.args.read.start)) c.in-Ok.ensures.rides)

@@ -4,4 +4,5 @@ use Rattle.journey_report.proofs.departure_texts.departures_text.Given as goal
 -- the text so far, and that of the rows that remain
 abbrev pub invariant-loop-departure : goal.invariant-loop-departure
 invariant-loop-departure l =
-    l.text.items ++ rows_text l.timetable.network l.timetable.names (drop l.departure-index l.departures) ≡ departures_text l.timetable.network l.timetable.names l.query l.fn.last.0 l.departures
+    let t = l.named.timetable.now in
+    l.text.items ++ rows_text t.network t.names (drop l.departure-index l.departures) ≡ departures_text t.network t.names l.named.query l.fn.last.moment.0 l.departures

@@ -1,11 +1,11 @@
-use Rattle.journey_report.proofs.Common.{[], ◌∷◌, ◌∙◌, name_is, reach_head}
+use Rattle.journey_report.proofs.Common.{[], ◌∷◌, ◌∙◌, reach_head}
 use Rattle.journey_report.proofs.RowLemmas.{row-of}
 use Rattle.journey_report.proofs.reach_texts.reach_head.Goals as goal
 
 pub returns : goal.returns
 unfolding reach_head
 returns c =
-    let target = c.as_bytes.ensures.value ∙ name_is c.args.names.now.places c.args.query.now.target.0 c.place_name.result.now c.place_name.ensures.name in
+    let target = c.as_bytes.ensures.value ∙ c.target.ensures in
     let first = c.as_slice-3.ensures ∙ c.write_moment-first.ensures.text in
     let deadline = c.as_slice-4.ensures ∙ c.write_moment-deadline.ensures.text in
     let count = c.as_bytes-2.ensures.value ∙ c.format.ensures.text in

@@ -3,14 +3,14 @@ use Rattle.journey_report.proofs.ReachLines.{froms_step, froms_end}
 use Rattle.journey_report.proofs.reach_texts.reach_text.Goals as goal
 
 pub loop-from-init : goal.loop-from-init
-loop-from-init c = ap (λ (head : List ℕ). head ++ froms_text c.args.names.now c.args.rows.now) c.in_ok-text.ensures
+loop-from-init c = ap (λ (head : List ℕ). head ++ froms_text c.args.named.now.timetable.now.names c.args.rows.now) c.in_ok-text.ensures
 
 pub loop-from-preserved : goal.loop-from-preserved
 loop-from-preserved c =
-    froms_step c.args.names.now c.args.rows.now c.loop-from.from-index c.from-item.result c.extend_from_slice.new.self.items c.loop-from.text.items
-    (reach_text c.args.names.now c.args.query.now c.args.rows.now) c.loop-from-test.true
-    (c.in_ok-extend_from_slice.ensures.items ∙ ap (λ (row : List ℕ). c.loop-from.text.items ++ row) (c.as_slice.ensures.value ∙ c.in_ok-row.ensures ∙ ap (from_text c.args.names.now) c.from-item.is))
+    froms_step c.args.named.now.timetable.now.names c.args.rows.now c.loop-from.from-index c.from-item.result c.extend_from_slice.new.self.items c.loop-from.text.items
+    (reach_text c.args.named.now.timetable.now.names c.args.named.now.query c.args.rows.now) c.loop-from-test.true
+    (c.in_ok-extend_from_slice.ensures.items ∙ ap (λ (row : List ℕ). c.loop-from.text.items ++ row) (c.as_slice.ensures.value ∙ c.in_ok-row.ensures ∙ ap (from_text c.args.named.now.timetable.now.names) c.from-item.is))
     c.loop-from.invariant
 
 pub returns : goal.returns
-returns c = froms_end c.args.names.now c.args.rows.now c.loop-from.from-index c.loop-from.text.items _ c.loop-from-test.false c.loop-from.invariant
+returns c = froms_end c.args.named.now.timetable.now.names c.args.rows.now c.loop-from.from-index c.loop-from.text.items _ c.loop-from-test.false c.loop-from.invariant

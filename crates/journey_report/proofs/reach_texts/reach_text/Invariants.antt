@@ -3,4 +3,6 @@ use Rattle.journey_report.proofs.reach_texts.reach_text.Given as goal
 
 -- the text so far, and that of the rows that remain
 abbrev pub invariant-loop-from : goal.invariant-loop-from
-invariant-loop-from l = l.text.items ++ froms_text l.names (drop l.from-index l.rows) ≡ reach_text l.names l.query l.rows
+invariant-loop-from l =
+    let names = l.named.timetable.now.names in
+    l.text.items ++ froms_text names (drop l.from-index l.rows) ≡ reach_text names l.named.query l.rows

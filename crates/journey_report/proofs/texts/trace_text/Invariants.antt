@@ -3,4 +3,7 @@ use Rattle.journey_report.proofs.texts.trace_text.Given as goal
 
 -- the text so far, and that of the rides that remain
 abbrev pub invariant-loop-ride : goal.invariant-loop-ride
-invariant-loop-ride l = l.text.items ++ rides_text l.problem.timetable.network l.problem.timetable.names (drop l.ride-index l.trace.rides) ≡ rides_text l.problem.timetable.network l.problem.timetable.names l.trace.rides
+invariant-loop-ride l =
+    let t = l.trip.problem.now.timetable in
+    let rides = l.trip.trace.now.rides in
+    l.text.items ++ rides_text t.network t.names (drop l.ride-index rides) ≡ rides_text t.network t.names rides

@@ -1,0 +1,5 @@
+use Rattle.journey_report.proofs.Common.{name_is}
+use Rattle.journey_report.proofs.printable.NamedQuery.target.Goals as goal
+
+pub returns : goal.returns
+returns c = name_is c.args.self.now.timetable.now.names.places c.args.self.now.query.target.0 c.place_name.result.now c.place_name.ensures.name
