@@ -1,7 +1,7 @@
 -- Two choices that fix one tree, which is safe, choose the same after each leg in it.
-use Rattle.run_laws.proofs.Common.{arith, ◌≡◌, ◌≢◌, ℕ, zero, suc, ◌+◌, List, [], ◌∷◌, Option, Some, None, Contains, sym, subst, refl, inl, inr, ap, cases_eq, eq-eqb, Leg, Outcome, NetworkModel}
-use Rattle.run_laws.proofs.Common.{arr_of, Tree, Done, Ride, Stuck, Kids, Nil, Kid, IsSafe, IsSafeFromStart, AreSafe, end_of, arrival_of, outcomes_of, kids_after, ride_of, ride_or_stuck}
-use Rattle.run_laws.proofs.Common.{unfold_after, unfold_from, Stands, StandsIn, Contains-nil, Contains-head, Contains-tail, Contains-cons_cases}
+use Rattle.run_laws.proofs.Common.{arith, ◌≡◌, ◌≢◌, ℕ, zero, suc, ◌+◌, List, [], ◌∷◌, Option, Some, None, Contains, sym, subst, inl, inr, ap, cases_eq, eq-eqb, Leg, Outcome, NetworkModel, arr_of}
+use Rattle.run_laws.proofs.Common.{Tree, Done, Ride, Stuck, Kids, Nil, Kid, IsSafe, IsSafeFromStart, AreSafe, end_of, arrival_of, outcomes_of, kids_after, ride_of, ride_or_stuck, unfold_after}
+use Rattle.run_laws.proofs.Common.{unfold_from, Stands, StandsIn, Contains-nil, Contains-head, Contains-tail, Contains-cons_cases}
 use Rattle.std.proofs.Common.{ne_eqb}
 use Rattle.plan_graph.proofs.Searches.{same_leg}
 use Rattle.plan_graph.proofs.Places.{safe_child}
@@ -18,10 +18,7 @@ other_children (Kid weight tree others) = others
 child_same : (f g : ℕ → Tree) (row : List Outcome) (scheduled : ℕ) → kids_after f scheduled row ≡ kids_after g scheduled row → (o : Outcome) → Contains row o
     → f (scheduled + o.delay) ≡ g (scheduled + o.delay)
 child_same f g [] scheduled same o has = absurd (Contains-nil o has)
-child_same f g (head ∷ row) scheduled same o has = elim (Contains-cons_cases head row o has) [
-  | inl is ↦ subst (λ (u : Outcome). f (scheduled + u.delay) ≡ g (scheduled + u.delay)) is (ap (first_tree (Done 0)) same)
-  | inr more ↦ child_same f g row scheduled (ap other_children same) o more
-]
+child_same f g (head ∷ row) scheduled same o has = grind (arith, Contains-cons_cases, child_same f g row scheduled (ap other_children same) o)
 
 -- what is in the children is in the tree after an outcome
 stands_after : (f : ℕ → Tree) (row : List Outcome) (scheduled : ℕ) (other : Leg) → StandsIn other (kids_after f scheduled row)
@@ -47,10 +44,8 @@ children_in (Stuck place moment) = Nil
 
 -- the first rides of one tree are of one leg
 one_leg : (n : NetworkModel) (f g : Leg → ℕ → Tree) (a b : Option Leg) (place x : ℕ) → ride_or_stuck n f a place x ≡ ride_or_stuck n g b place x → a ≡ b
-one_leg n f g None None place x same = refl
-one_leg n f g None (Some b) place x same = absurd (cc)
-one_leg n f g (Some a) None place x same = absurd (cc)
-one_leg n f g (Some a) (Some b) place x same = ap (λ (l : Leg). Some l) (same_leg a b (ap enter_of same) (ap exit_of same))
+one_leg n f g None h place x same = grind arith
+one_leg n f g (Some a) h place x same = grind (arith, same_leg)
 
 module _ (n : NetworkModel) (target : ℕ) (c d : Leg → ℕ → Option Leg) where
   -- after each outcome of a leg that does not end at the target both choose the same
@@ -63,8 +58,7 @@ module _ (n : NetworkModel) (target : ℕ) (c d : Leg → ℕ → Option Leg) wh
   module _ (by : Option ℕ) where
     next_same : (rides : ℕ) (leg : Leg) (x : ℕ) → end_of n leg ≢ target → unfold_after n target c rides leg x ≡ unfold_after n target d rides leg x
         → IsSafe n target by (unfold_after n target c rides leg x) (end_of n leg) x → c leg x ≡ d leg x
-    next_same zero leg x away same safe = absurd (rw (ne_eqb (end_of n leg) target away) at safe)
-    next_same (suc rides) leg x away same safe = grind (arith, one_leg, ne_eqb)
+    next_same rides leg x away same safe = grind (arith, ne_eqb, one_leg)
 
     -- over that number of further rides they agree after each leg in it
     abbrev AgreeOver : ℕ → Type 0
@@ -94,11 +88,7 @@ module _ (n : NetworkModel) (target : ℕ) (c d : Leg → ℕ → Option Leg) wh
         → (other : Leg) → Stands other (ride_or_stuck n (unfold_after n target c rides) a place x) → Agrees other
     agree_by rides over None b place x same safe other stands = absurd stands
     agree_by rides over (Some a) None place x same safe other stands = absurd (cc)
-    agree_by rides over (Some a) (Some b) place x same safe other stands =
-        let f = unfold_after n target c rides in
-        let g = unfold_after n target d rides in
-        let leg : b ≡ a = sym (same_leg a b (ap enter_of same) (ap exit_of same)) in
-        agree_ride rides over a (subst (λ (l : Leg). ride_of n f a ≡ ride_of n g l) leg same) safe.3 other stands
+    agree_by rides over (Some a) (Some b) place x same safe other stands = grind (arith, same_leg a b (ap enter_of same) (ap exit_of same), agree_ride rides over a)
 
     pub agree_over : (rides : ℕ) → AgreeOver rides
     agree_over zero leg x same safe other stands = grind (arith, cases_eq, eq-eqb, ne_eqb)

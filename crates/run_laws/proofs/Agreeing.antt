@@ -1,16 +1,14 @@
 -- What two runs of questions about a journey agree in.
-use Rattle.run_laws.proofs.Common.{◌≡◌, ℕ, ◌≤◌, List, length, Option, None, Some, Result, Ok, Err, arith, ◌↔◌, inl, inr, refl, sym, subst, ap, ◌∙◌, Appends, FileMap, file_at, Limits, Moment}
-use Rattle.run_laws.proofs.Common.{Query, IsLeastWorst, PlanGraph, JobModel, JourneyModel, AskModel, Ask, Safe, Expand, Plan, Certify, CheckProof, CheckGraph, Punctual, Departures, Latest, Reach, job_of}
-use Rattle.run_laws.proofs.Common.{Fault, Problem, status_of, HasOneProblem, IsProblem, Findings, findings_of, Head, graph_of, NetworkModel, IsValid, graph_in, graph_as, trip_by, AnswersPlan}
-use Rattle.run_laws.proofs.Common.{head_of, AnswersCertify, query_until, AnswersAsk, EndsAsk, FailsJourney, FailsScore, EndsByGraphFile, EndsByWalk, AnswersJob, NamedParts, own_problem, WritesLine, Interval, IsEnclosed, punctual_row, [], ◌++◌}
-use Rattle.run_laws.proofs.Common.{RunModel, IsRunWithin, IsUntroubled, worst_kept, no_worse, of_last_row}
+use Rattle.run_laws.proofs.Common.{◌≡◌, ℕ, ◌≤◌, List, length, Option, None, Some, Result, Ok, Err, arith, ◌↔◌, inl, inr, sym, subst, ap, ◌∙◌, Appends, FileMap, file_at, Limits, Moment, Query}
+use Rattle.run_laws.proofs.Common.{IsLeastWorst, PlanGraph, JobModel, JourneyModel, AskModel, Ask, Safe, Expand, Plan, Certify, CheckProof, CheckGraph, Punctual, Departures, Latest, Reach, job_of}
+use Rattle.run_laws.proofs.Common.{Fault, Problem, status_of, HasOneProblem, IsProblem, Findings, findings_of, Head, graph_of, NetworkModel, IsValid, graph_in, graph_as, trip_by, AnswersPlan, head_of}
+use Rattle.run_laws.proofs.Common.{AnswersCertify, query_until, AnswersAsk, EndsAsk, FailsJourney, FailsScore, EndsByGraphFile, EndsByWalk, AnswersJob, NamedParts, own_problem, WritesLine, Interval}
+use Rattle.run_laws.proofs.Common.{IsEnclosed, punctual_row, [], ◌++◌, RunModel, IsRunWithin, IsUntroubled, worst_kept, no_worse, of_last_row}
 use Rattle.std.proofs.Common.{IsSome}
 use Rattle.std.proofs.lemmas.List.{append_cancel_left}
 use Rattle.command_line.specs.Jobs.{Replay}
 use Rattle.journey_model.specs.declared.faults.Fault.TheVariants as fault
-use Rattle.journey_model.specs.declared.faults.Input.TheVariants as input
 use Rattle.graph_text.specs.declared.reader.TextFault.{TextFault}
-use Rattle.graph_text.specs.declared.reader.TextFault.TheVariants as reader
 use Rattle.graph_text.specs.FirstFaults.{IsFirstFaultOf}
 use Rattle.plan_model.specs.NameLists.{NameLists}
 use Rattle.meat_engine.specs.Received.{Outcome}
@@ -38,33 +36,11 @@ use Rattle.run_laws.proofs.Queries.{in_one_query, worst_is}
 
 -- what was written after the same bytes was one text
 pub one_text : (old : Option (List ℕ)) (text other : List ℕ) (new : Option (List ℕ)) → IsSome old → Appends old new text → Appends old new other → text ≡ other
-one_text None text other new known first second = absurd (cc)
-one_text (Some old) text other None known first second = absurd first
-one_text (Some old) text other (Some new) known first second = append_cancel_left old text other (sym first ∙ second)
+one_text old text other new known first second = grind (arith, append_cancel_left)
 
 -- a run that ends with 0 has no fault
 no_fault_of : (fault : Option Fault) → status_of fault ≡ 0 → fault ≡ None
-no_fault_of None is = refl
-no_fault_of (Some fault.NoSafe) is = absurd (cc)
-no_fault_of (Some (fault.Words f)) is = absurd (cc)
-no_fault_of (Some (fault.Feed f)) is = absurd (cc)
-no_fault_of (Some (fault.Cut f)) is = absurd (cc)
-no_fault_of (Some (fault.Missing (input.Feed table))) is = absurd (cc)
-no_fault_of (Some (fault.Missing input.Cut)) is = absurd (cc)
-no_fault_of (Some (fault.Missing input.Delays)) is = absurd (cc)
-no_fault_of (Some (fault.Missing input.Graph)) is = absurd (cc)
-no_fault_of (Some (fault.Missing input.Proof)) is = absurd (cc)
-no_fault_of (Some (fault.Delays f)) is = absurd (cc)
-no_fault_of (Some (fault.UnknownStop which)) is = absurd (cc)
-no_fault_of (Some (fault.Limit kind n)) is = absurd (cc)
-no_fault_of (Some (fault.Read i)) is = absurd (cc)
-no_fault_of (Some fault.Write) is = absurd (cc)
-no_fault_of (Some fault.NoMemory) is = absurd (cc)
-no_fault_of (Some (fault.GraphFile f)) is = absurd (cc)
-no_fault_of (Some (fault.Replay f)) is = absurd (cc)
-no_fault_of (Some (fault.ProofFails c)) is = absurd (cc)
-no_fault_of (Some (fault.ProofFile f)) is = absurd (cc)
-no_fault_of (Some (fault.Unsafe p m)) is = absurd (cc)
+no_fault_of fault is = grind arith
 
 same_job : (words : List (List ℕ)) (j : JourneyModel) (a : AskModel) (wanted : JobModel) → job_of words ≡ Ok wanted → job_of words ≡ Ok (Ask j a) → wanted ≡ Ask j a
 same_job words j a wanted is also = cc
@@ -87,13 +63,7 @@ FaultsAreReported =
     → graph_of text n names source target start ≡ Err f ↔ IsFirstFaultOf n names source target start text f
 
 as_text : (read : Result (Head × PlanGraph) TextFault) (f : TextFault) → graph_as read ≡ Err (fault.GraphFile f) → read ≡ Err f
-as_text (Ok found) f is = absurd (cc)
-as_text (Err (reader.Row line)) f is = cc
-as_text (Err (reader.UnknownName line)) f is = cc
-as_text (Err (reader.NotRising line)) f is = cc
-as_text (Err (reader.NoLeg line)) f is = cc
-as_text (Err (reader.OtherQuery line)) f is = cc
-as_text (Err reader.NoMemory) f is = absurd (cc)
+as_text read f is = grind arith
 
 module _ (limits : Limits) (files : FileMap) (r : RunModel) (run : IsRunWithin limits r) (calm : IsUntroubled files r) where
   module _ (j : JourneyModel) (a : AskModel) (asks : job_of r.words ≡ Ok (Ask j a)) where
@@ -119,8 +89,7 @@ module _ (limits : Limits) (files : FileMap) (r : RunModel) (run : IsRunWithin l
   no_fault zero = no_fault_of r.report.fault (sym run.status ∙ zero)
 
 pub or_nine : {P Q : Type 0} (s : RunModel) → (P → Q) → OrStatus9 s P → OrStatus9 s Q
-or_nine s f (inl holds) = inl (f holds)
-or_nine s f (inr nine) = inr nine
+or_nine s f h = grind arith
 
 module _ (limits : Limits) (r s : RunModel) (first : IsRunWithin limits r) (second : IsRunWithin limits s) (one_problem : HasOneProblem) where
   module _ (files others : FileMap) (j : JourneyModel) (a b : AskModel) (both : AskBoth files others j a b r s) where
@@ -142,8 +111,7 @@ module _ (limits : Limits) (r s : RunModel) (first : IsRunWithin limits r) (seco
 
     -- the answers of one run, over the problem of the other
     pub second_over : (p : Problem) → IsProblem limits files j p → (w : Second) → AnswersAsk (Some others) limits j.start p b (findings_of s.report) w.text
-    second_over p is w =
-        subst (λ (q : Problem). AnswersAsk (Some others) limits j.start q b (findings_of s.report) w.text) (one_problem limits others j w.p p w.is_problem (other_problem p is)) w.answers
+    second_over p is w = grind (arith, other_problem p is)
 
     pub first_over : (p : Problem) → IsProblem limits files j p → (w : First) → AnswersAsk (Some files) limits j.start p a (findings_of r.report) w.text
     first_over p is w = subst (λ (q : Problem). AnswersAsk (Some files) limits j.start q a (findings_of r.report) w.text) (one_problem limits files j w.p p w.is_problem is) w.answers
@@ -388,9 +356,7 @@ module _ (limits : Limits) (r s : RunModel) (first : IsRunWithin limits r) (seco
 
     -- the answer of the second, over the problem of its journey
     other_answer : s.report.fault ≡ None → (p : Problem) → IsProblem limits others other p → (text : List ℕ) × AnswersAsk (Some others) limits other.start p ask (findings_of s.report) text
-    other_answer none p is =
-        let v = answered limits others s second both.second other ask both.second_asks none in
-        (v.text, subst (λ (q : Problem). AnswersAsk (Some others) limits other.start q ask (findings_of s.report) v.text) (one_problem limits others other v.p p v.is_problem is) v.answers)
+    other_answer none p is = grind (arith, answered)
 
   module _ (one_timetable : HasOneTimetable) (files others : FileMap) (j : JourneyModel) (name : List ℕ) (until : ℕ) (ask : AskModel) (p : Problem) (rows : List ReachRow)
       (both : ReachesBoth files others j (from_stop j name) until ask rows r s) (is : IsProblem limits files (from_stop j name) p) where
@@ -442,8 +408,7 @@ module _ (limits : Limits) (r s : RunModel) (first : IsRunWithin limits r) (seco
     of_text there small fails = grind (arith, as_text)
 
     of_score : FailsScore (Some files) limits j.start path p (fault.GraphFile f) → file_at files path ≡ Some text → length text ≤ limits.bytes → IsFirst
-    of_score (inl fails) there small = of_text there small fails.1
-    of_score (inr (head, graph, is, (place, moment, wrong, unsafe))) there small = absurd (cc)
+    of_score h is one = grind (arith, of_text)
 
     of_journey : (known : Option NamedParts) → IsProblem limits files j p → FailsJourney (Some files) limits j (CheckGraph path) known (fault.GraphFile f)
         → file_at files path ≡ Some text → length text ≤ limits.bytes → IsFirst

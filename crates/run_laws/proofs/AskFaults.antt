@@ -1,9 +1,9 @@
 -- What is asked about a problem has an answer or one first fault.
 use Rattle.run_laws.proofs.Common.{◌≡◌, ◌≢◌, ℕ, ◌<◌, ◌⊎◌, List, Option, Some, Result, Ok, Err, inl, inr, sym, subst, ap, ◌∙◌, arith, cases_eq, cases_order, FileMap, file_at, table_of, Limits, Query}
 use Rattle.run_laws.proofs.Common.{NetworkModel, IsValid, count, dep_of, IsEarlier, PlanGraph, Head, LowerBounds, ProofFault, IsLastFault, read_once, never_memory, AskModel, Safe, Expand, Plan}
-use Rattle.run_laws.proofs.Common.{Replays, Certify, CheckProof, CheckGraph, Punctual, Departures, Latest, Reach, Input, Fault, ProofFile, ProofFails, Problem, Findings, none_unread, bytes_of}
-use Rattle.run_laws.proofs.Common.{AnswersReplay, IsTripFault, trip_by, IsEnclosed, IsUnsafeGraph, IsHeld, IsBroken, graph_in, InGraphFile, FailsGraph, FailsText, FailsFile, FailsCertificate}
-use Rattle.run_laws.proofs.Common.{InCertificateFile, IsNoSafe, AnswersAsk, FailsAsk, FailsCheck, FailsReplay, FailsScore}
+use Rattle.run_laws.proofs.Common.{Replays, Certify, CheckProof, CheckGraph, Punctual, Departures, Latest, Reach, Input, Fault, ProofFile, Problem, Findings, none_unread, bytes_of, AnswersReplay}
+use Rattle.run_laws.proofs.Common.{IsTripFault, trip_by, IsEnclosed, IsUnsafeGraph, IsHeld, IsBroken, graph_in, InGraphFile, FailsGraph, FailsText, FailsFile, FailsCertificate, InCertificateFile}
+use Rattle.run_laws.proofs.Common.{IsNoSafe, AnswersAsk, FailsAsk, FailsCheck, FailsReplay, FailsScore}
 use Rattle.lower_proof.specs.declared.reader.ProofFault.TheVariants.{NoMemory as NoRoom}
 use Rattle.journey_model.specs.declared.faults.Input.TheVariants as input
 use Rattle.run_laws.proofs.FirstFaults.{NotRead}
@@ -15,19 +15,7 @@ use Rattle.run_laws.proofs.Queries.{not_none}
 -- ---- of two connections one is earlier
 
 either_earlier : (n : NetworkModel) → IsValid n → (c d : ℕ) → c < count n → d < count n → c ≢ d → IsEarlier n c d ⊎ IsEarlier n d c
-either_earlier n valid c d there here apart = elim (cases_order (dep_of n c) (dep_of n d)) [
-  | inl same ↦ elim (cases_order c d) [
-    | inl is ↦ absurd (apart is)
-    | inr way ↦ elim way [
-      | inl before ↦ inl (inr (same, valid.rising c d before here))
-      | inr after ↦ inr (inr (sym same, valid.rising d c after there))
-    ]
-  ]
-  | inr way ↦ elim way [
-    | inl before ↦ inl (inl before)
-    | inr after ↦ inr (inl after)
-  ]
-]
+either_earlier n valid c d there here apart = grind (arith, cases_order (dep_of n c) (dep_of n d), cases_order c d)
 
 one_last : (n : NetworkModel) → IsValid n → (q : Query) (values : List (Option ℕ)) (c d : ℕ) → IsLastFault n q values c → IsLastFault n q values d → c ≡ d
 one_last n valid q values c d a b = elim (cases_eq c d) [
@@ -40,10 +28,7 @@ one_last n valid q values c d a b = elim (cases_eq c d) [
 
 -- two faults, each of a file or of what it holds, are one if both are of the file, or both of what it holds, and never one of each
 one_cause : {A B C D E : Type 0} → (A → B → E) → (A → D → ⊥) → (B → C → ⊥) → (C → D → E) → A ⊎ C → B ⊎ D → E
-one_cause files left right held (inl a) (inl b) = files a b
-one_cause files left right held (inl a) (inr d) = absurd (left a d)
-one_cause files left right held (inr c) (inl b) = absurd (right b c)
-one_cause files left right held (inr c) (inr d) = held c d
+one_cause files left right held h is = grind arith
 
 module _ (p : Problem) (files : FileMap) (limits : Limits) (start : ℕ) where
   -- ---- graph files
@@ -121,17 +106,13 @@ module _ (p : Problem) (files : FileMap) (limits : Limits) (start : ℕ) where
 
     -- a text with a fault has no certificate
     text_or_fault : (r : Result (List ℕ) Fault) (text : List ℕ) (q : Query) (certificate : LowerBounds) (a : Fault) → r ≡ Ok text → Reported text (Ok (q, certificate)) → FailsFile p start r a → ⊥
-    text_or_fault (Ok other) text q certificate a there reported (first, is, late) = grind (arith, never_memory, read_once, free)
-    text_or_fault (Err e) text q certificate a there reported fails = cc
+    text_or_fault r text q certificate a there reported fails = grind (arith, never_memory, read_once, free)
 
     of_certificate : (P : Query → LowerBounds → Type 0) (a : Fault) → NotRead a → FailsCertificate (Some files) limits start path p a → InCertificateFile (Some files) limits start path p P → ⊥
     of_certificate P a m fails (q, certificate, is, holds) = text_or_fault bytes_read is.text q certificate a is.reads is.reports (certificate_fault a m fails)
 
     one_broken : (a b : Fault) (q : Query) (certificate : LowerBounds) → IsBroken p a q certificate → IsBroken p b q certificate → a ≡ b
-    one_broken a b q certificate (c, is, last) (d, also, other) =
-        let same : c.0 ≡ d.0 = one_last p.timetable.network p.timetable.valid q certificate.values c.0 d.0 last other in
-        let fault : ProofFails c ≡ ProofFails d = λ i. ProofFails (record { 0 = same i }) in
-        is ∙ fault ∙ sym also
+    one_broken a b q certificate (c, is, last) (d, also, other) = grind (arith, one_last p.timetable.network p.timetable.valid q certificate.values c.0 d.0 last other)
 
     one_check_fault : (a b : Fault) → NotRead a → NotRead b → FailsCheck (Some files) limits start path p a → FailsCheck (Some files) limits start path p b → a ≡ b
     one_check_fault a b m n =

@@ -1,7 +1,7 @@
 -- The answers of two runs are one.
-use Rattle.run_laws.proofs.Common.{arith, ◌≡◌, ℕ, List, Option, None, Some, sym, subst, ◌∙◌, Appends, FileMap, Limits, Moment, Query, JobModel, Ask, Sample, AskModel, Safe, Expand, Plan}
-use Rattle.run_laws.proofs.Common.{Certify, CheckProof, CheckGraph, Punctual, Departures, Latest, Reach, Problem, HasOneProblem, agree_all, own_problem, Findings, findings_of, query_until, AnswersAsk}
-use Rattle.run_laws.proofs.Common.{AnswersJob, AnswersWords, HasAnswer, sample_journey, sample_alpha, AnswersSampled, IsSampled, WritesLine, IsOneAnswer, RunModel, IsRunWithin, HasOneRun}
+use Rattle.run_laws.proofs.Common.{arith, ◌≡◌, ℕ, List, None, Some, sym, subst, ◌∙◌, Appends, FileMap, Limits, Moment, Query, JobModel, Ask, Sample, AskModel, Safe, Expand, Plan, Certify, CheckProof}
+use Rattle.run_laws.proofs.Common.{CheckGraph, Punctual, Departures, Latest, Reach, Problem, HasOneProblem, agree_all, own_problem, Findings, findings_of, query_until, AnswersAsk, AnswersJob}
+use Rattle.run_laws.proofs.Common.{AnswersWords, HasAnswer, sample_journey, sample_alpha, AnswersSampled, IsSampled, WritesLine, IsOneAnswer, RunModel, IsRunWithin, HasOneRun}
 use Rattle.command_line.specs.Jobs.{Replay}
 use Rattle.meat_engine.specs.Received.{Outcome}
 use Rattle.run_laws.proofs.Framed.{CarriesWords, carried_bytes, framed_answer}
@@ -52,8 +52,7 @@ module _ (found others : Findings) (text other : List ℕ) where
 -- what a run comes to, by what the files hold
 pub outcome_of : (limits : Limits) (files : FileMap) (r : RunModel) → IsRunWithin limits r → r.before.files.files ≡ Some files
     → Outcome (Some files) limits r.words r.report r.before.out.written r.after.out.written (WritesLine r.before.err r.after.err) r.report.fault
-outcome_of limits files r run reports =
-    subst (λ (contents : Option FileMap). Outcome contents limits r.words r.report r.before.out.written r.after.out.written (WritesLine r.before.err r.after.err) r.report.fault) reports run.outcome
+outcome_of limits files r run reports = grind arith
 
 -- the answer of a run that ends without a fault
 pub answer_of : (limits : Limits) (files : FileMap) (r : RunModel) → IsRunWithin limits r → r.before.files.files ≡ Some files → r.report.fault ≡ None
@@ -65,8 +64,7 @@ pub one_answer : HasOneProblem → (limits : Limits) (files others : FileMap) (r
     → AnswersWords (Some files) limits r.words (findings_of r.report) text → AnswersWords (Some others) limits s.words (findings_of s.report) other
     → IsOneAnswer (findings_of r.report) (findings_of s.report) text other
 one_answer by limits files others r s text other words carries answers reported =
-    let own = subst (λ (w : List (List ℕ)). AnswersWords (Some others) limits w (findings_of s.report) other) (sym words) reported in
-    one_words (findings_of r.report) (findings_of s.report) text other by files limits r.words answers (framed_answer limits files others r.words carries (findings_of s.report) other own)
+    grind (arith, one_words (findings_of r.report) (findings_of s.report) text other by files limits r.words answers, framed_answer limits files others r.words carries (findings_of s.report) other)
 
 pub one_run : HasOneProblem → HasOneRun
 one_run by limits files others r s run again ends well words agree =

@@ -1,6 +1,7 @@
 -- What is asked by safe strategies has one status, one query and one least worst arrival.
-use Rattle.run_laws.proofs.Common.{◌≡◌, ℕ, sym, ap, subst, ◌∙◌, inl, inr, List, Some, FileMap, Limits, Moment, Query, IsQueryOf, reaches_from_safe, AskModel, Safe, Expand, Plan, Certify, CheckProof}
-use Rattle.run_laws.proofs.Common.{CheckGraph, Punctual, Departures, Latest, Reach, Replays, Problem, Findings, AnswersAsk, EndsAsk, HasNoSafe, query_until, EndsByLatest}
+use Rattle.std.proofs.Common.{arith}
+use Rattle.run_laws.proofs.Common.{◌≡◌, ℕ, subst, inl, inr, List, Some, FileMap, Limits, Moment, Query, IsQueryOf, reaches_from_safe, AskModel, Safe, Expand, Plan, Certify, CheckProof, CheckGraph}
+use Rattle.run_laws.proofs.Common.{Punctual, Departures, Latest, Reach, Replays, Problem, Findings, AnswersAsk, EndsAsk, HasNoSafe, query_until, EndsByLatest}
 use Rattle.meat_engine.specs.Ends.{EndsBySafety}
 use Rattle.run_laws.specs.Pairs.{IsBySafety}
 use Rattle.run_laws.proofs.Departing.{later_is_now}
@@ -8,10 +9,7 @@ use Rattle.run_laws.proofs.Queries.{in_one_query}
 
 module _ (p : Problem) (start : ℕ) where
   pub one_status : (status other : ℕ) → EndsBySafety p start status → EndsBySafety p start other → status ≡ other
-  one_status status other (inl one) (inl two) = one.0 ∙ sym two.0
-  one_status status other (inr one) (inr two) = one.0 ∙ sym two.0
-  one_status status other (inl one) (inr two) = absurd (two.1 one.1)
-  one_status status other (inr one) (inl two) = absurd (one.1 two.1)
+  one_status status other h is = grind arith
 
   -- where no strategy always reaches the target there is no latest moment
   pub never_latest : (until status : ℕ) → HasNoSafe p start → EndsByLatest p (query_until p start until) status → status ≡ 1
@@ -22,17 +20,7 @@ module _ (p : Problem) (start : ℕ) where
 
   module _ (limits : Limits) (files : FileMap) (alpha : ℕ) where
     pub by_safety : (a : AskModel) (status : ℕ) → IsBySafety alpha a → EndsAsk limits files start p a status → EndsBySafety p start status
-    by_safety (Safe beta) status by ends = ends
-    by_safety (Expand beta) status by ends = ends
-    by_safety (Plan beta) status by ends = ends
-    by_safety (Certify beta) status by ends = ends
-    by_safety (Punctual beta promise) status by ends = ends
-    by_safety (Replays graph late) status by ends = absurd by
-    by_safety (CheckProof certificate) status by ends = absurd by
-    by_safety (CheckGraph graph) status by ends = absurd by
-    by_safety (Departures until last) status by ends = absurd by
-    by_safety (Latest until) status by ends = absurd by
-    by_safety (Reach until) status by ends = absurd by
+    by_safety a status by ends = grind arith
 
     -- the query that was found, and the least worst arrival
     pub record Asked (found : Findings) : Type 0 where
@@ -46,16 +34,11 @@ module _ (p : Problem) (start : ℕ) where
     found_by beta found q w same is query worst = record { q = q; w = w; asked = subst (λ (a : ℕ). IsQueryOf p start a q w) same is; query = query; worst = worst }
 
     pub asked_by : (a : AskModel) (found : Findings) (text : List ℕ) → IsBySafety alpha a → AnswersAsk (Some files) limits start p a found text → Asked found
-    asked_by (Safe beta) found text by (q, w, is, answers) =
-        found_by beta found q w by is (ap (λ (f : Findings). f.query) answers.0) (ap (λ (f : Findings). f.worst) answers.0)
-    asked_by (Expand beta) found text by (q, w, is, answers) =
-        found_by beta found q w by is (ap (λ (f : Findings). f.query) answers.2) (ap (λ (f : Findings). f.worst) answers.2)
-    asked_by (Plan beta) found text by (q, w, is, answers) =
-        found_by beta found q w by is (ap (λ (f : Findings). f.query) answers.2) (ap (λ (f : Findings). f.worst) answers.2)
-    asked_by (Certify beta) found text by (q, w, is, answers) =
-        found_by beta found q w by is (ap (λ (f : Findings). f.query) answers.found_is) (ap (λ (f : Findings). f.worst) answers.found_is)
-    asked_by (Punctual beta promise) found text by (q, w, is, answers) =
-        found_by beta found q w by is (ap (λ (f : Findings). f.query) answers.3) (ap (λ (f : Findings). f.worst) answers.3)
+    asked_by (Safe beta) found text by (q, w, is, answers) = grind (arith, found_by)
+    asked_by (Expand beta) found text by (q, w, is, answers) = grind (arith, found_by)
+    asked_by (Plan beta) found text by (q, w, is, answers) = grind (arith, found_by)
+    asked_by (Certify beta) found text by (q, w, is, answers) = grind (arith, found_by)
+    asked_by (Punctual beta promise) found text by (q, w, is, answers) = grind (arith, found_by)
     asked_by (Replays graph late) found text by answers = absurd by
     asked_by (CheckProof certificate) found text by answers = absurd by
     asked_by (CheckGraph graph) found text by answers = absurd by
@@ -66,6 +49,4 @@ module _ (p : Problem) (start : ℕ) where
   -- both found one query and one least worst arrival
   pub one_asked : (alpha : ℕ) (limits : Limits) (files others : FileMap) (found other : Findings) → Asked limits files alpha found → Asked limits others alpha other
       → (found.query ≡ other.query) × (found.worst ≡ other.worst)
-  one_asked alpha limits files others found other a b =
-      let both = in_one_query p start alpha (λ (q : Query) (w : Moment). (other.query ≡ Some q) × (other.worst ≡ Some w)) a.q b.q a.w b.w a.asked b.asked (b.query, b.worst) in
-      (a.query ∙ sym both.0, a.worst ∙ sym both.1)
+  one_asked alpha limits files others found other a b = grind (arith, in_one_query)

@@ -1,7 +1,6 @@
 -- The answers about a certificate, and about a certificate file, follow from the problem and the files.
-use Rattle.run_laws.proofs.Common.{arith, ◌≡◌, ℕ, List, Option, Some, sym, ap, ◌∙◌, FileMap, Limits, Moment, Query, LowerBounds, IsLeast-unique, Problem, Findings, certify_findings, IsHeld}
-use Rattle.run_laws.proofs.Common.{InCertificateFile, InQuery, AnswersCertify, IsOneAnswer}
-use Rattle.lower_proof.specs.CertificateTexts.{certificate_text}
+use Rattle.run_laws.proofs.Common.{arith, ℕ, List, Option, Some, FileMap, Limits, Moment, Query, LowerBounds, IsLeast-unique, Problem, Findings, IsHeld, InCertificateFile, InQuery, AnswersCertify}
+use Rattle.run_laws.proofs.Common.{IsOneAnswer}
 use Rattle.run_laws.proofs.Queries.{in_one_query}
 use Rattle.run_laws.proofs.OneFile.{in_certificate}
 use Rattle.run_laws.proofs.Tight.{one_tight}
@@ -14,12 +13,7 @@ module _ (p : Problem) (found others : Findings) (text other : List ℕ) where
   One = IsOneAnswer found others text other
 
   one_certified : (q : Query) (w : Moment) → AnswersCertify p found text q w → AnswersCertify p others other q w → One
-  one_certified q w reports reported =
-      let same : reports.proof.values ≡ reported.proof.values = one_tight p.timetable.network p.timetable.valid q reports.proof.values reported.proof.values reports.tight reported.tight in
-      record {
-        found = reports.found_is ∙ ap (λ (values : List (Option ℕ)). certify_findings q w (bounds_with values)) same ∙ sym reported.found_is;
-        text_is = reports.text_is ∙ ap (certificate_text p.timetable.network p.timetable.names q) same ∙ sym reported.text_is;
-      }
+  one_certified q w reports reported = grind (arith, one_tight p.timetable.network p.timetable.valid q reports.proof.values reported.proof.values reports.tight reported.tight)
 
   pub one_certificate_answer : (start alpha : ℕ) → InQuery p start alpha (AnswersCertify p found text)
       → InQuery p start alpha (AnswersCertify p others other) → One

@@ -32,13 +32,13 @@ pub use Rattle.journey_answers.specs.Trips.{AnswersReplay, IsTripFault, trip_by}
 pub use Rattle.journey_model.specs.Faults.{status_of, unread_input}
 pub use Rattle.journey_model.specs.Sites.{NamedParts}
 pub use Rattle.journey_model.specs.declared.faults.Fault.{Fault}
-pub use Rattle.journey_model.specs.declared.faults.Fault.TheVariants.{NoMemory, ProofFails, ProofFile, Read, Replay, Unsafe, Write}
+pub use Rattle.journey_model.specs.declared.faults.Fault.TheVariants.{NoMemory, ProofFile, Read, Write}
 pub use Rattle.journey_model.specs.declared.faults.Input.{Input}
 pub use Rattle.journey_model.specs.declared.problem.Problem.{Problem}
 pub use Rattle.journey_problem.proofs.NoFaults.{no_fault, no_folder_fault, none_unread, not_feed, table_read}
 pub use Rattle.journey_problem.proofs.SameFiles.{agree_all, agree_sym, own_problem, own_fault}
 pub use Rattle.journey_problem.specs.CertificateFiles.{FailsCertificate, FailsFile, FailsText, InCertificateFile, IsCertificateText}
-pub use Rattle.journey_problem.specs.FeedProblems.{GtfsFolder, IsFaultAfterFolder, IsFeedProblemFault, IsFolderFault, IsLaterTableFault, IsWindowFault, feed_as, feed_stop_fault}
+pub use Rattle.journey_problem.specs.FeedProblems.{GtfsFolder, IsFaultAfterFolder, IsFeedProblemFault, IsFolderFault, IsLaterTableFault, IsWindowFault}
 pub use Rattle.journey_problem.specs.Files.{AgreeAt, bytes_of, path_of as file_path}
 pub use Rattle.journey_problem.specs.Paths.{AgreeFor, no_path}
 pub use Rattle.journey_problem.specs.GraphFiles.{FailsGraph, InGraphFile, graph_as, graph_in}
@@ -46,8 +46,7 @@ pub use Rattle.journey_problem.specs.InputTables.{delay_fault}
 pub use Rattle.journey_problem.specs.OneProblem.{HasOneProblem}
 pub use Rattle.journey_problem.specs.Problems.{IsProblem, IsProblemFault, IsProblemFaultOver}
 pub use Rattle.journey_report.specs.AnswerTexts.{punctual_row}
-pub use Rattle.journey_report.specs.DepartureTexts.{departures_text}
-pub use Rattle.journey_report.specs.Findings.{Findings, certify_findings, departures_findings, findings_of, no_findings, plan_findings, punctual_findings}
+pub use Rattle.journey_report.specs.Findings.{Findings, findings_of, no_findings, plan_findings, punctual_findings}
 pub use Rattle.journey_report.specs.declared.report.Report.{Report}
 pub use Rattle.lower_proof.proofs.ReadOnce.{never_memory, read_once}
 pub use Rattle.lower_proof.proofs.Vias.{IsLeast-unique}
@@ -81,7 +80,6 @@ pub use Rattle.plan_model.specs.declared.model.Leg.{Leg}
 pub use Rattle.plan_model.specs.declared.model.Moment.{Moment}
 pub use Rattle.plan_model.specs.declared.model.Outcome.{Outcome}
 pub use Rattle.plan_model.specs.declared.model.Query.{Query}
-unfoldable pub use Rattle.service_days.specs.Calendars.{calendars_in}
 pub use Rattle.trip_replay.specs.declared.ReplayFault.{ReplayFault}
 pub use Rattle.value_laws.specs.Means.{from_span, mean_scoring}
 pub use Rattle.run_laws.specs.OneAnswer.{IsOneAnswer}

@@ -1,14 +1,11 @@
 -- The departures of a query follow from the problem.
-use Rattle.run_laws.proofs.Common.{◌≡◌, ℕ, ◌+◌, ◌-◌, List, [], ◌∷◌, Option, sym, subst, refl, ap, ap₂, ◌∙◌, inl, inr, arith, cases_eq, ConnectionId, Query, NetworkModel, mean_scoring, kept_after}
-use Rattle.run_laws.proofs.Common.{one_found, Problem, Findings, departures_findings, departures_text, AreDepartures, AnswersDepartures, IsOneAnswer}
-use Rattle.std.specs.Option.{option_map}
+use Rattle.run_laws.proofs.Common.{◌≡◌, ℕ, ◌+◌, List, [], ◌∷◌, Option, sym, subst, refl, inl, inr, arith, cases_eq, Query, NetworkModel, one_found, Problem, Findings, AreDepartures, AnswersDepartures}
+use Rattle.run_laws.proofs.Common.{IsOneAnswer}
 use Rattle.value_laws.specs.declared.MeanSpan.{MeanSpan}
-use Rattle.stop_profile.specs.declared.Row.{Row}
-use Rattle.stop_profile.specs.Inserts.{row_in_time}
 use Rattle.meat_scan.specs.ScanResult.{ScanResult}
 use Rattle.departure_table.specs.declared.DepartureRow.{DepartureRow}
 use Rattle.plan_model.specs.Gates.{extended_by}
-use Rattle.departure_table.specs.Looked.{asked_at, row_of_choice, row_found, AreLooked}
+use Rattle.departure_table.specs.Looked.{asked_at, row_found, AreLooked}
 use Rattle.journey_answers.specs.ByRules.{IsRuled, AreByRules, added_query}
 use Rattle.run_laws.proofs.OneOrder.{one_order}
 
@@ -19,17 +16,11 @@ one_looked look last next [] (y ∷ ys) (inl late) b = absurd (omega (arith, lat
 one_looked look last next [] (y ∷ ys) (inr none) b = let found = b.1 in absurd (cc)
 one_looked look last next (x ∷ xs) [] a (inl late) = absurd (omega (arith, late, a.0))
 one_looked look last next (x ∷ xs) [] a (inr none) = let found = a.1 in absurd (cc)
-one_looked look last next (x ∷ xs) (y ∷ ys) a b =
-    let same = one_found (look next) x y a.1 b.1 in
-    ap₂ (λ (z : DepartureRow) (zs : List DepartureRow). z ∷ zs) same
-    (one_looked look last (x.by.0 + 1) xs ys a.2 (subst (λ (z : DepartureRow). AreLooked look last (z.by.0 + 1) ys) (sym same) b.2))
+one_looked look last next (x ∷ xs) (y ∷ ys) a b = grind (arith, one_found, one_looked look last (x.by.0 + 1) xs ys a.2)
 
 -- what the rules give at a place and a moment is one row
 pub found_at : (n : NetworkModel) (q : Query) (a b : ScanResult MeanSpan) → IsRuled n q a → IsRuled n q b → (place next : ℕ) → row_found n (asked_at q place) a next ≡ row_found n (asked_at q place) b next
-found_at n q a b is other place next =
-    let kept : List ConnectionId → List (Row MeanSpan) = λ ids. (kept_after mean_scoring n q ids).rows place in
-    let same = is.rules.rows place ∙ ap kept (one_order n is.order other.order is.is_order other.is_order) ∙ sym (other.rules.rows place) in
-    ap (λ (rows : List (Row MeanSpan)). option_map (row_of_choice n) (option_map (λ (row : Row MeanSpan). (row.value, row.leg)) (row_in_time (next - 1) rows))) same
+found_at n q a b is other place next = grind (arith, one_order n is.order other.order is.is_order other.is_order)
 
 module _ (p : Problem) (q : Query) (last : ℕ) where
   one_by_rules : (xs ys : List DepartureRow) → AreByRules p q last xs → AreByRules p q last ys → xs ≡ ys
@@ -46,8 +37,4 @@ module _ (p : Problem) (q : Query) (last : ℕ) where
   pub one_departures_answer : (found others : Findings) (text other : List ℕ) → AnswersDepartures p q last found text → AnswersDepartures p q last others other
       → IsOneAnswer found others text other
   one_departures_answer found others text other (rows, is, departures, safe, text_is) (more, is_other, departures_other, safe_other, text_other) =
-      let same = one_departures rows more departures departures_other in
-      record {
-        found = is ∙ ap (departures_findings q) same ∙ sym is_other;
-        text_is = text_is ∙ ap (departures_text p.timetable.network p.timetable.names q last) same ∙ sym text_other;
-      }
+      grind (arith, one_departures rows more departures departures_other)

@@ -1,8 +1,8 @@
 -- Two runs that nothing disturbs end in one way.
 use Rattle.run_laws.proofs.Common.{arith, ◌≡◌, ◌≢◌, ℕ, ◌⊎◌, List, [], Option, None, Some, Ok, Err, inl, inr, refl, sym, subst, ap, ◌∙◌, Appends, Keeps, FileMap, file_at, Limits, JobModel, Ask, Sample}
-use Rattle.run_laws.proofs.Common.{JourneyModel, AskModel, Plan, job_of, Fault, Replay, ProofFails, Unsafe, Write, NoMemory, Problem, status_of, NamedParts, HasOneProblem, no_fault}
-use Rattle.run_laws.proofs.Common.{agree_all, IsNoSafe, Findings, findings_of, no_findings, FailsJourney, AnswersJob, AnswersWords, FailsJob, IsExplained, IsRefused}
-use Rattle.run_laws.proofs.Common.{WritesLine, sample_journey, sample_alpha, RunModel, IsRunWithin, IsUntroubled, IsOneEnd, EndAlike}
+use Rattle.run_laws.proofs.Common.{JourneyModel, AskModel, Plan, job_of, Fault, Write, NoMemory, Problem, status_of, NamedParts, HasOneProblem, no_fault, agree_all, IsNoSafe, Findings, findings_of}
+use Rattle.run_laws.proofs.Common.{no_findings, FailsJourney, AnswersJob, AnswersWords, FailsJob, IsExplained, IsRefused, WritesLine, sample_journey, sample_alpha, RunModel, IsRunWithin, IsUntroubled}
+use Rattle.run_laws.proofs.Common.{IsOneEnd, EndAlike}
 use Rattle.std.proofs.Common.{append-nil}
 use Rattle.command_line.specs.declared.job.WordsFault.{WordsFault}
 use Rattle.journey_model.specs.Known.{parts_of}
@@ -21,10 +21,7 @@ use Rattle.run_laws.proofs.Queries.{not_none}
 
 -- a fault that comes before the search is at no site, so its line is one whatever timetable is known
 line_before : (known other : Option NamedParts) (timetable : SourceModel) (fault : Fault) → IsBeforeSearch timetable fault → line_of known fault ≡ line_of other fault
-line_before known other timetable (Replay stop) before = absurd before
-line_before known other timetable (ProofFails connection) before = absurd before
-line_before known other timetable (Unsafe place moment) before = absurd before
-line_before known other timetable _ before = refl
+line_before known other timetable fault before = grind arith
 
 -- the two faults are one, with one line
 pub record IsOneFault (known other : Option NamedParts) (a b : Fault) : Type 0 where
@@ -56,10 +53,7 @@ module _ (limits : Limits) (files : FileMap) where
   Fails j a known fault = FailsJourney (Some files) limits j a known fault
 
   pub one_journey_fault : (j : JourneyModel) (ask : AskModel) (known other : Option NamedParts) (a b : Fault) → IsCalm a → IsCalm b → Fails j ask known a → Fails j ask other b → IsOneFault known other a b
-  one_journey_fault j ask known other a b m n (inl (p, has, is, (named, fails))) (inl (q, has_other, also, (called, misses))) = grind (arith, one_problem, one_ask_fault, with_line, one_known)
-  one_journey_fault j ask known other a b m n (inl (p, has, is, fails)) (inr early) = absurd (no_fault limits files j p b is n.read n.memory early.1)
-  one_journey_fault j ask known other a b m n (inr early) (inl (q, has_other, also, misses)) = absurd (no_fault limits files j q a also m.read m.memory early.1)
-  one_journey_fault j ask known other a b m n (inr early) (inr soon) = grind (arith, with_line, one_first_fault, line_before)
+  one_journey_fault j ask known other a b m n h is = grind (arith, one_problem, one_ask_fault, with_line, one_known, no_fault, one_first_fault, line_before)
 
   -- what is refused over a made timetable is so over other files with the same bytes
   made_fault : (other : FileMap) (known : Option NamedParts) (fault : Fault) → ((path : List ℕ) → file_at other path ≡ file_at files path)
@@ -79,18 +73,15 @@ module _ (limits : Limits) (files : FileMap) where
       → IsExplained (Some files) limits words other b → IsOneFault known other a b
   one_cause words known other a b m n (inl none) also = absurd (m.memory none)
   one_cause words known other a b m n (inr is) (inl none) = absurd (n.memory none)
-  one_cause words known other a b m n (inr (inl (refusal, is, from))) (inr (inl (second, also, of))) = grind (arith, one_refusal, with_line)
-  one_cause words known other a b m n (inr (inl (refusal, is, from))) (inr (inr (job, of, misses))) = absurd (refused_or_not words refusal job from of)
+  one_cause words known other a b m n (inr (inl (refusal, is, from))) h = grind (arith, one_refusal, with_line, refused_or_not)
   one_cause words known other a b m n (inr (inr (job, from, fails))) (inr (inl (second, also, of))) = absurd (refused_or_not words second job of from)
-  one_cause words known other a b m n (inr (inr (job, from, fails))) (inr (inr (second, of, misses))) =
-      one_job_fault job known other a b m n fails (subst (λ (w : JobModel). FailsJob (Some files) limits w other b) (one_job words second job of from) misses)
+  one_cause words known other a b m n (inr (inr (job, from, fails))) (inr (inr (second, of, misses))) = grind (arith, one_job_fault job known other a b m n fails, one_job words second job of from)
 
   -- ---- an answer excludes a fault
 
   pub journey_answered : (j : JourneyModel) (ask : AskModel) (found : Findings) (text : List ℕ) (known : Option NamedParts) (a : Fault) → IsCalm a
       → AnswersJob (Some files) limits (Ask j ask) found text → FailsJourney (Some files) limits j ask known a → ⊥
-  journey_answered j ask found text known a m (p, has, is, answers) (inl (q, has_other, also, (called, fails))) = grind (arith, answered_or_not, one_problem)
-  journey_answered j ask found text known a m (p, has, is, answers) (inr early) = no_fault limits files j p a is m.read m.memory early.1
+  journey_answered j ask found text known a m h is = grind (arith, answered_or_not, one_problem, no_fault)
 
   pub job_answered : (job : JobModel) (found : Findings) (text : List ℕ) (known : Option NamedParts) (a : Fault) → IsCalm a → AnswersJob (Some files) limits job found text
       → FailsJob (Some files) limits job known a → ⊥
@@ -109,14 +100,12 @@ module _ (limits : Limits) (files : FileMap) where
       → IsExplained (Some files) limits words known a → ⊥
   answered_or_refused words found text known a m answers (inl none) = m.memory none
   answered_or_refused words found text known a m (job, is, answers) (inr (inl (refusal, also, from))) = refused_or_not words refusal job from is
-  answered_or_refused words found text known a m (job, is, answers) (inr (inr (other, from, fails))) =
-      job_answered job found text known a m answers (subst (λ (w : JobModel). FailsJob (Some files) limits w known a) (one_job words other job from is) fails)
+  answered_or_refused words found text known a m (job, is, answers) (inr (inr (other, from, fails))) = grind (arith, job_answered job found text known a m answers, one_job words other job from is)
 
 -- nothing more is no byte more
 pub keeps_none : (old new : Option (List ℕ)) → Keeps old new → Appends old new []
 keeps_none None new kept = tt
-keeps_none (Some old) None kept = absurd kept
-keeps_none (Some old) (Some new) kept = kept ∙ sym (append-nil old)
+keeps_none (Some old) h kept = grind (arith, append-nil)
 
 -- ---- how a run ends that nothing disturbs
 
@@ -157,22 +146,10 @@ module _ (limits : Limits) (files : FileMap) (r : RunModel) where
     not_write fault is write = calm.out_calm (run.write (is ∙ ap (λ (f : Fault). Some f) write))
 
     pub settled : (fault : Option Fault) → r.report.fault ≡ fault → Answers ⊎ Refuses
-    settled None is =
-        let (text, answers, written) = (outcome None is).whole refl in
-        inl (record { none = is; text = text; answers = answers; out = written; err = run.quiet is })
+    settled None is = grind (arith, outcome)
     settled (Some fault) is =
         let both = (outcome (Some fault) is).refused fault refl (not_write fault is) in
-        let refused : IsRefused (Some files) limits r.words r.report Reports fault = both.1 in
-        inr (record {
-          fault = fault;
-          some = is;
-          calm = calm_fault fault is;
-          findings = refused.0;
-          known = refused.1.0;
-          why = refused.1.1;
-          out = both.0;
-          err = reports_err (line_of refused.1.0 fault) refused.1.2;
-        })
+        let refused : IsRefused (Some files) limits r.words r.report Reports fault = both.1 in grind (arith, calm_fault, reports_err)
 
 -- over files of which this carries over what the words ask
 ends_over : HasOneProblem → (limits : Limits) (Same : FileMap → FileMap → Type 0) (r s : RunModel) → ((files others : FileMap) → Same files others → CarriesWords limits files others r.words)

@@ -1,8 +1,7 @@
 -- The files of a journey have one first fault.
-use Rattle.run_laws.proofs.Common.{arith, ◌≡◌, ◌≢◌, ℕ, List, Option, None, Some, Result, Ok, Err, IsOk, inl, inr, sym, subst, ap, ◌∙◌, FileMap, Limits, Table, FeedFault, unread_table, FeedParts}
-use Rattle.run_laws.proofs.Common.{tables_in, calendars_in, SourceModel, CutFile, FeedFolder, JourneyModel, Input, Fault, Read, NoMemory, unread_input, GtfsFolder, feed_as, feed_stop_fault}
-use Rattle.run_laws.proofs.Common.{IsFolderFault, IsLaterTableFault, IsWindowFault, IsFaultAfterFolder, IsFeedProblemFault, IsProblemFault, IsProblemFaultOver, none_unread, table_read, not_feed}
-use Rattle.run_laws.proofs.Common.{no_folder_fault}
+use Rattle.run_laws.proofs.Common.{arith, ◌≡◌, ◌≢◌, ℕ, List, Option, None, Some, Result, Err, IsOk, inl, inr, subst, ◌∙◌, FileMap, Limits, Table, FeedFault, unread_table, FeedParts, tables_in}
+use Rattle.run_laws.proofs.Common.{SourceModel, CutFile, FeedFolder, JourneyModel, Input, Fault, Read, NoMemory, unread_input, GtfsFolder, IsFolderFault, IsLaterTableFault, IsWindowFault}
+use Rattle.run_laws.proofs.Common.{IsFaultAfterFolder, IsFeedProblemFault, IsProblemFault, IsProblemFaultOver, none_unread, table_read, not_feed, no_folder_fault}
 use Rattle.journey_problem.proofs.OneFeed.{one_feed_of}
 use Rattle.journey_problem.proofs.OneFeedProblem.{SameGtfsFolder, one_folder, one_window_fault}
 
@@ -19,8 +18,7 @@ one_err : {A E : Type 0} (r : Result A E) (e f : E) → r ≡ Err e → r ≡ Er
 one_err r e f one two = cc
 
 not_ok : {A E : Type 0} (r : Result A E) (e : E) → IsOk r → r ≡ Err e → ⊥
-not_ok (Ok a) e ok is = absurd (cc)
-not_ok (Err f) e ok is = absurd (cc)
+not_ok r e ok is = grind arith
 
 module _ (limits : Limits) (files : FileMap) where
   -- where no file is unread
@@ -29,37 +27,28 @@ module _ (limits : Limits) (files : FileMap) where
 
   module _ (folder : List ℕ) where
     one_later : (f : FeedParts) (a b : FeedFault) → unread_table a ≡ None → unread_table b ≡ None → IsLaterTableFault limits files folder f a → IsLaterTableFault limits files folder f b → a ≡ b
-    one_later f a b u v (inl is) (inl also) = grind (arith, one_err)
-    one_later f a b u v (inl is) (inr (ok, also)) = absurd (not_ok (calendars_in files folder limits None) a ok (subst (λ (t : Option Table). calendars_in files folder limits t ≡ Err a) u is))
-    one_later f a b u v (inr (ok, is)) (inl also) = absurd (not_ok (calendars_in files folder limits None) b ok (subst (λ (t : Option Table). calendars_in files folder limits t ≡ Err b) v also))
-    one_later f a b u v (inr (ok, is)) (inr (good, also)) = grind (arith, one_err)
+    one_later f a b u v (inl is) h = grind (arith, one_err, not_ok)
+    one_later f a b u v (inr (ok, is)) h = grind (arith, not_ok, one_err)
 
     of_tables : (fault : FeedFault) → unread_table fault ≡ None → tables_in files folder limits (unread_table fault) ≡ Err fault → tables_in files folder limits None ≡ Err fault
     of_tables fault u is = subst (λ (t : Option Table). tables_in files folder limits t ≡ Err fault) u is
 
     one_table_fault : (a b : FeedFault) → unread_table a ≡ None → unread_table b ≡ None → IsFolderFault limits files folder a → IsFolderFault limits files folder b → a ≡ b
-    one_table_fault a b u v (inl is) (inl also) = one_err (tables_in files folder limits None) a b (of_tables a u is) (of_tables b v also)
-    one_table_fault a b u v (inl is) (inr (f, feed, later)) = absurd (not_feed (tables_in files folder limits None) f a feed (of_tables a u is))
-    one_table_fault a b u v (inr (f, feed, later)) (inl also) = absurd (not_feed (tables_in files folder limits None) f b feed (of_tables b v also))
-    one_table_fault a b u v (inr (f, feed, later)) (inr (g, other, after)) = grind (arith, one_feed_of, one_later)
+    one_table_fault a b u v (inl is) h = grind (arith, one_err, of_tables, not_feed)
+    one_table_fault a b u v (inr (f, feed, later)) h = grind (arith, not_feed, of_tables, one_feed_of, one_later)
 
     module _ (horizon : ℕ) (j : JourneyModel) where
       one_window : (h g : GtfsFolder) (a b : Fault) → SameGtfsFolder h g → IsWindowFault limits horizon j h a → IsWindowFault limits horizon j g b → a ≡ b
-      one_window h g a b same (inl is) (inl also) = one_some (feed_stop_fault h.feed j.from j.to) a b is (ap (λ (f : FeedParts). feed_stop_fault f j.from j.to) same.feed ∙ also)
-      one_window h g a b same (inl is) (inr (none, also)) = absurd (not_both (feed_stop_fault h.feed j.from j.to) a (ap (λ (f : FeedParts). feed_stop_fault f j.from j.to) same.feed ∙ none) is)
-      one_window h g a b same (inr (none, is)) (inl also) = absurd (not_both (feed_stop_fault h.feed j.from j.to) b none (ap (λ (f : FeedParts). feed_stop_fault f j.from j.to) same.feed ∙ also))
-      one_window h g a b same (inr (none, is)) (inr (free, also)) = grind (arith, one_some, one_window_fault)
+      one_window h g a b same (inl is) given = grind (arith, one_some, not_both)
+      one_window h g a b same (inr (none, is)) given = grind (arith, not_both, one_some, one_window_fault)
 
       one_after : (h g : GtfsFolder) (a b : Fault) → SameGtfsFolder h g → NotRead a → NotRead b → IsFaultAfterFolder limits files horizon j h a → IsFaultAfterFolder limits files horizon j g b → a ≡ b
-      one_after h g a b same m n (inl is) (inl also) = grind (arith, one_some, quiet)
-      one_after h g a b same m n (inl is) (inr (none, later)) = grind (arith, not_both, quiet)
+      one_after h g a b same m n (inl is) given = grind (arith, one_some, quiet, not_both)
       one_after h g a b same m n (inr (none, later)) (inl also) = grind (arith, not_both, quiet)
       one_after h g a b same m n (inr (none, later)) (inr (free, after)) = one_window h g a b same later after
 
       one_feed_fault : (a b : Fault) → NotRead a → NotRead b → IsFeedProblemFault limits files folder horizon j a → IsFeedProblemFault limits files folder horizon j b → a ≡ b
-      one_feed_fault a b m n (inl (f, is, why)) (inl (g, also, whys)) =
-          let same = one_table_fault f g (table_read limits f (λ i e. m i (is ∙ e))) (table_read limits g (λ i e. n i (also ∙ e))) why whys in
-          is ∙ ap (feed_as limits) same ∙ sym also
+      one_feed_fault a b m n (inl (f, is, why)) (inl (g, also, whys)) = grind (arith, one_table_fault f g, table_read limits f, table_read limits g)
       one_feed_fault a b m n (inl (f, is, why)) (inr (h, folder_is, after)) = absurd (no_folder_fault limits files folder h folder_is f (table_read limits f (λ i e. m i (is ∙ e))) why)
       one_feed_fault a b m n (inr (h, folder_is, after)) (inl (g, also, whys)) = absurd (no_folder_fault limits files folder h folder_is g (table_read limits g (λ i e. n i (also ∙ e))) whys)
       one_feed_fault a b m n (inr (h, folder_is, after)) (inr (g, other_is, afters)) = one_after h g a b (one_folder limits files folder h g folder_is other_is) m n after afters

@@ -1,13 +1,13 @@
 -- What `punctual` wrote up to its first end of a line is the row of its chance.
-use Rattle.run_laws.proofs.Common.{◌≡◌, ℕ, suc, zero, ◌+◌, List, [], ◌∷◌, ◌++◌, arith, inl, inr, refl, sym, ap, ap₂, subst, ◌∙◌, cases_Bool, false, ne_eqb, Contains, Contains-head}
-use Rattle.run_laws.proofs.Common.{Contains-tail, Limits, Punctual, Interval}
-use Rattle.run_laws.proofs.Common.{findings_of, RunModel, IsRunWithin}
+use Rattle.std.proofs.lemmas.Grind.{common_steps}
+use Rattle.run_laws.proofs.Common.{◌≡◌, ℕ, suc, zero, ◌+◌, List, [], ◌∷◌, ◌++◌, arith, refl, sym, ap, subst, ◌∙◌, cases_Bool, false, ne_eqb, Contains, Contains-head, Contains-tail, Limits, Punctual}
+use Rattle.run_laws.proofs.Common.{Interval, findings_of, RunModel, IsRunWithin}
 use Rattle.journey_report.specs.AnswerTexts.{punctual_row}
 use Rattle.std.proofs.Common.{Bool, true, ◌==◌, ◌||◌, ◌/◌, ◌%◌, append_assoc, codes}
 use Rattle.std.proofs.lemmas.Bool.{false≢true}
 use Rattle.std.proofs.lemmas.List.Folds.{list_any-append}
 use Rattle.std.specs.List.{list_any}
-use Rattle.csv.specs.Writing.{default_writer, needs_byte, escaped, field_text, fields_text, is_blank, row_body}
+use Rattle.csv.specs.Writing.{default_writer, escaped, field_text, fields_text, is_blank, row_body}
 use Rattle.clock_text.specs.Civil.{moment_text, parts_of_day}
 use Rattle.clock_text.specs.Digits.{digits}
 use Rattle.clock_text.specs.Times.{Parts, text_of_parts}
@@ -23,8 +23,7 @@ abbrev HasNoEnd : List ℕ → Type 0
 HasNoEnd text = list_any (λ b. b == 10) text ≡ false
 
 or_parts : (a b : Bool) → (a || b) ≡ false → (a ≡ false) × (b ≡ false)
-or_parts false b none = (refl, none)
-or_parts true b none = absurd (cc)
+or_parts a b none = grind arith
 
 before : (b : ℕ) (text : List ℕ) → (b == 10) ≡ false → HasNoEnd text → HasNoEnd (b ∷ text)
 before b text one two = rw (one, two) refl
@@ -46,16 +45,7 @@ then_mark : (k n mark : ℕ) (rest : List ℕ) → (mark == 10) ≡ false → Ha
 then_mark k n mark rest other none = joined (digits k n) (mark ∷ rest) (digits_end k n) (before mark rest other none)
 
 parts_end : (p : Parts) → HasNoEnd (text_of_parts p)
-parts_end p =
-    let minutes = digits 2 p.minute ++ 58 ∷ digits 2 p.second in
-    let hours = digits 2 p.hour ++ 58 ∷ minutes in
-    let days = digits 2 p.day ++ 84 ∷ hours in
-    let months = digits 2 p.month ++ 45 ∷ days in
-    let by_minutes = then_mark 2 p.minute 58 (digits 2 p.second) refl (digits_end 2 p.second) in
-    let by_hours = then_mark 2 p.hour 58 minutes refl by_minutes in
-    let by_days = then_mark 2 p.day 84 hours refl by_hours in
-    let by_months = then_mark 2 p.month 45 days refl by_days in
-    then_mark 4 p.year 45 months refl by_months
+parts_end p = grind (arith, common_steps, then_mark, digits_end)
 
 chance_end : (chance : ℕ) → HasNoEnd (chance_text chance)
 chance_end chance = joined (digits 1 (chance / certainty)) (46 ∷ digits 18 chance) (digits_end 1 (chance / certainty)) (before 46 (digits 18 chance) refl (digits_end 18 chance))
@@ -65,19 +55,10 @@ chance_end chance = joined (digits 1 (chance / certainty)) (46 ∷ digits 18 cha
 escaped_end : (field : List ℕ) → HasNoEnd field → HasNoEnd (escaped default_writer field)
 unfolding escaped
 escaped_end [] none = refl
-escaped_end (b ∷ rest) none =
-    let both = or_parts (b == 10) (list_any (λ c. c == 10) rest) none in
-    let after = escaped_end rest both.1 in
-    elim (cases_Bool (b == 34)) [
-      | inl quote ↦ rw quote (before 34 (b ∷ escaped default_writer rest) refl (before b (escaped default_writer rest) both.0 after))
-      | inr other ↦ rw other (before b (escaped default_writer rest) both.0 after)
-    ]
+escaped_end (b ∷ rest) none = grind (arith, or_parts, cases_Bool, before, escaped_end rest)
 
 field_end : (field : List ℕ) → HasNoEnd field → HasNoEnd (field_text default_writer field)
-field_end field none = elim (cases_Bool (list_any (needs_byte default_writer) field)) [
-  | inl needs ↦ rw needs (before 34 (escaped default_writer field ++ (34 ∷ [])) refl (joined (escaped default_writer field) (34 ∷ []) (escaped_end field none) refl))
-  | inr plain ↦ rw plain none
-]
+field_end field none = grind (arith, cases_Bool, before, joined, escaped_end)
 
 abbrev EachHasNone : List (List ℕ) → Type 0
 EachHasNone [] = Unit {0}
@@ -86,9 +67,7 @@ EachHasNone (field ∷ fields) = HasNoEnd field × EachHasNone fields
 fields_end : (fields : List (List ℕ)) → EachHasNone fields → HasNoEnd (fields_text default_writer fields)
 unfolding fields_text
 fields_end [] each = refl
-fields_end (field ∷ fields) each =
-    before 44 (field_text default_writer field ++ fields_text default_writer fields) refl
-    (joined (field_text default_writer field) (fields_text default_writer fields) (field_end field each.0) (fields_end fields each.1))
+fields_end (field ∷ fields) each = grind (arith, before, joined, field_end, fields_end fields each.1)
 
 body_end : (field : List ℕ) (fields : List (List ℕ)) → EachHasNone (field ∷ fields) → HasNoEnd (row_body default_writer (field ∷ fields))
 body_end field fields each = joined (field_text default_writer field) (fields_text default_writer fields) (field_end field each.0) (fields_end fields each.1)
@@ -122,15 +101,11 @@ lines_same : (a b x y : List ℕ) → HasNoEnd a → HasNoEnd b → a ++ (10 ∷
 lines_same [] [] x y one two same = refl
 lines_same [] (d ∷ b) x y one two same = let is : 10 ≡ d = cc in absurd (never_end d is (or_parts (d == 10) _ two).0)
 lines_same (c ∷ a) [] x y one two same = let is : 10 ≡ c = cc in absurd (never_end c is (or_parts (c == 10) _ one).0)
-lines_same (c ∷ a) (d ∷ b) x y one two same =
-    let head : c ≡ d = cc in
-    let tail : a ++ (10 ∷ x) ≡ b ++ (10 ∷ y) = cc in
-    ap₂ (λ (h : ℕ) (t : List ℕ). h ∷ t) head (lines_same a b x y (or_parts (c == 10) _ one).1 (or_parts (d == 10) _ two).1 tail)
+lines_same (c ∷ a) (d ∷ b) x y one two same = grind (arith, or_parts, lines_same a b x y (or_parts (c == 10) _ one).1 (or_parts (d == 10) _ two).1)
 
 no_end : (line : List ℕ) → ¬ Contains line 10 → HasNoEnd line
 no_end [] none = refl
-no_end (b ∷ line) none =
-    before b line (ne_eqb b 10 (λ e. none (subst (λ (z : ℕ). Contains (b ∷ line) z) e (Contains-head b line)))) (no_end line (λ has. none (Contains-tail b line 10 has)))
+no_end (b ∷ line) none = grind (arith, before b line, ne_eqb b 10, Contains-head b line, Contains-tail b line 10, no_end line)
 
 module _ (limits : Limits) (r : RunModel) (run : IsRunWithin limits r) where
   pub first_line : FirstLineIsItsRow limits r

@@ -1,14 +1,12 @@
 -- What is answered, and why it is not, depends on the records of the files at the paths that the words name, and on no others.
-use Rattle.run_laws.proofs.Common.{arith, ◌≡◌, ◌⊎◌, ℕ, ◌≤◌, List, length, nat_lt, nat_tests, false, Option, None, Some, Result, Ok, Err, inl, inr, refl, sym, subst, ap, ◌∙◌, FileMap, file_at, table_of, Limits}
-use Rattle.run_laws.proofs.Common.{JobModel, Ask, Sample, job_of, JourneyModel, AskModel, Safe, Expand, Plan, Replays, Certify, CheckProof, CheckGraph, Punctual, Departures, Latest, Reach, Query, PlanGraph, Head}
-use Rattle.run_laws.proofs.Common.{LowerBounds, Fault, Read, Input, unread_input, NamedParts, Problem, Findings, bytes_of, AgreeAt, AgreeFor, agree_sym, own_problem, own_fault, file_path, own_paths, path_in}
-use Rattle.run_laws.proofs.Common.{graph_in, graph_as, graph_of, InGraphFile, FailsGraph, FailsFile, FailsCertificate, InCertificateFile, IsProblem, IsProblemFault, AnswersAsk, FailsAsk, FailsJourney}
-use Rattle.run_laws.proofs.Common.{AnswersJob, AnswersWords, FailsJob, IsExplained, AgreeOn}
-use Rattle.std.proofs.Common.{Bool, true, if◌then◌else◌, IfSome}
+use Rattle.run_laws.proofs.Common.{arith, ◌≡◌, ◌⊎◌, ℕ, ◌≤◌, List, length, nat_lt, nat_tests, false, Option, None, Some, Result, Ok, Err, inl, inr, sym, subst, ◌∙◌, FileMap, file_at, table_of, Limits}
+use Rattle.run_laws.proofs.Common.{JobModel, Ask, Sample, job_of, JourneyModel, AskModel, Safe, Expand, Plan, Replays, Certify, CheckProof, CheckGraph, Punctual, Departures, Latest, Reach, Query}
+use Rattle.run_laws.proofs.Common.{PlanGraph, Head, LowerBounds, Fault, Read, Input, unread_input, NamedParts, Problem, Findings, bytes_of, AgreeAt, AgreeFor, agree_sym, own_problem, own_fault}
+use Rattle.run_laws.proofs.Common.{file_path, own_paths, path_in, graph_in, graph_as, graph_of, InGraphFile, FailsGraph, FailsFile, FailsCertificate, InCertificateFile, IsProblem, IsProblemFault}
+use Rattle.run_laws.proofs.Common.{AnswersAsk, FailsAsk, FailsJourney, AnswersJob, AnswersWords, FailsJob, IsExplained, AgreeOn}
+use Rattle.std.proofs.Common.{Bool, if◌then◌else◌, IfSome}
 use Rattle.plan_model.specs.Results.{and_then}
-use Rattle.csv_rows.specs.Tables.{header}
-use Rattle.graph_text.specs.Reading.{graph_of_records}
-use Rattle.lower_proof.specs.Reading.{bounds_in, IsFaultAfter, IsProofReported}
+use Rattle.lower_proof.specs.Reading.{IsProofReported}
 use Rattle.journey_model.specs.Faults.{is_unread_input}
 use Rattle.journey_model.specs.declared.faults.Input.TheVariants as input
 use Rattle.journey_problem.proofs.SameFiles.{alike_sym, problem_of_records, fault_of_records}
@@ -39,25 +37,21 @@ SameBytes (Err e) (Ok b) = ⊥
 SameBytes (Err e) (Err f) = e ≡ f
 
 bytes_same : (r : Result (List ℕ) Fault) → SameBytes r r
-bytes_same (Ok a) = refl
-bytes_same (Err e) = refl
+bytes_same r = grind arith
 
 few : (most : ℕ) (file : List ℕ) → length file ≤ most → nat_lt most (length file) ≡ false
 few most file small = grind (arith, nat_tests)
 
 present_alike : (most : ℕ) (kind : Input) (file other : Option (List ℕ)) → HaveSameRecords most file other → SameBytes (bytes_present most kind file) (bytes_present most kind other)
-present_alike most kind None None same = refl
-present_alike most kind None (Some b) same = absurd same
-present_alike most kind (Some a) None same = absurd same
-present_alike most kind (Some a) (Some b) same = rw (few most a same.0, few most b same.1) same.2
+present_alike most kind None h same = grind arith
+present_alike most kind (Some a) h same = grind (arith, few)
 
 bytes_alike : (most : ℕ) (kind : Input) (unread : Option Input) (file other : Option (List ℕ)) → HaveSameRecords most file other
     → SameBytes (bytes_of most kind unread file) (bytes_of most kind unread other)
 bytes_alike most kind unread file other same = by_read (is_unread_input unread kind)
   where
     by_read : (b : Bool) → SameBytes (if b then Err (Read kind) else bytes_present most kind file) (if b then Err (Read kind) else bytes_present most kind other)
-    by_read true = refl
-    by_read false = present_alike most kind file other same
+    by_read b = grind (arith, present_alike)
 
 -- from other files to these
 module _ (limits : Limits) (files other : FileMap) where
@@ -77,10 +71,7 @@ module _ (limits : Limits) (files other : FileMap) where
   Carries (Sample size) = Unit {0}
 
   by_bytes_some : (kind : Input) (path : Option (List ℕ)) → IfSome path (λ at. file_at other at ≡ file_at files at) → IfSome path (ReadsSame kind)
-  by_bytes_some kind None same = tt
-  by_bytes_some kind (Some path) same = λ unread.
-      subst (λ (f : Option (List ℕ)). SameBytes (bytes_of limits.bytes kind unread (file_at other path)) (bytes_of limits.bytes kind unread f)) same
-      (bytes_same (bytes_of limits.bytes kind unread (file_at other path)))
+  by_bytes_some kind path same = grind (arith, bytes_same)
 
   pub by_bytes : (job : JobModel) → AgreeAt (path_in job) other files → Carries job
   by_bytes (Ask j a) same = record {
@@ -92,8 +83,7 @@ module _ (limits : Limits) (files other : FileMap) where
   by_bytes (Sample size) same = tt
 
   by_records_some : (kind : Input) (path : Option (List ℕ)) → IfSome path (λ at. HaveSameRecords limits.bytes (file_at other at) (file_at files at)) → IfSome path (ReadsSame kind)
-  by_records_some kind None same = tt
-  by_records_some kind (Some path) same = λ unread. bytes_alike limits.bytes kind unread (file_at other path) (file_at files path) same
+  by_records_some kind path same = grind (arith, bytes_alike)
 
   pub by_records : (job : JobModel) → ReadAlikeAt limits.bytes (path_in job) other files → Carries job
   by_records (Ask j a) same = record {
@@ -108,10 +98,8 @@ module _ (limits : Limits) (files other : FileMap) where
     graph_by : (r s : Result (List ℕ) Fault) → SameBytes r s
         → and_then r (λ bytes. graph_as (graph_of bytes p.timetable.network p.timetable.names p.source.0 p.target.0 start))
         ≡ and_then s (λ bytes. graph_as (graph_of bytes p.timetable.network p.timetable.names p.source.0 p.target.0 start))
-    graph_by (Ok a) (Ok b) same = ap (λ (t : Records). graph_as (graph_of_records p.timetable.network p.timetable.names p.source.0 p.target.0 start t)) same
-    graph_by (Ok a) (Err f) same = absurd same
-    graph_by (Err e) (Ok b) same = absurd same
-    graph_by (Err e) (Err f) same = ap (λ (g : Fault). Err g) same
+    graph_by (Ok a) h same = grind arith
+    graph_by (Err e) h same = grind arith
 
     graph_same : ReadsSame input.Graph path → (unread : Option Input) → graph_in limits p start unread (file_at other path) ≡ graph_in limits p start unread (file_at files path)
     graph_same same unread = graph_by (bytes_of limits.bytes input.Graph unread (file_at other path)) (bytes_of limits.bytes input.Graph unread (file_at files path)) (same unread)
@@ -129,11 +117,7 @@ module _ (limits : Limits) (files other : FileMap) where
       records : table_of text ≡ table_of other_text
 
     text_by : (r s : Result (List ℕ) Fault) (text : List ℕ) → SameBytes r s → r ≡ Ok text → HasText s text
-    text_by (Ok a) (Ok b) text same is =
-        let own : a ≡ text = cc in
-        record { other_text = b; is = refl; records = subst (λ (t : List ℕ). table_of t ≡ table_of b) own same }
-    text_by (Ok a) (Err f) text same is = absurd same
-    text_by (Err e) s text same is = absurd (cc)
+    text_by r s text same is = grind arith
 
     in_certificate : (P : Query → LowerBounds → Type 0) → ReadsSame input.Proof path → InCertificateFile (Some other) limits start path p P → InCertificateFile (Some files) limits start path p P
     in_certificate P same (query, certificate, is, holds) =
@@ -149,11 +133,9 @@ module _ (limits : Limits) (files other : FileMap) where
         )
 
     fails_by : (r s : Result (List ℕ) Fault) (fault : Fault) → SameBytes r s → FailsFile p start r fault → FailsFile p start s fault
-    fails_by (Ok a) (Ok b) fault same (first, is, late) =
-        (first, is, subst (λ (t : Records). IsFaultAfter p.timetable.network p.timetable.names t (bounds_in p.timetable.names p.source.0 p.target.0 start (header t)) first) same late)
+    fails_by (Ok a) (Ok b) fault same (first, is, late) = grind arith
     fails_by (Ok a) (Err f) fault same fails = absurd same
-    fails_by (Err e) (Ok b) fault same fails = absurd same
-    fails_by (Err e) (Err f) fault same fails = fails ∙ same
+    fails_by (Err e) h fault same fails = grind arith
 
     certificate_fails : (fault : Fault) → ReadsSame input.Proof path → FailsCertificate (Some other) limits start path p fault → FailsCertificate (Some files) limits start path p fault
     certificate_fails fault same (of, fails) = (
@@ -164,8 +146,7 @@ module _ (limits : Limits) (files other : FileMap) where
 
     either_graph : (P : Head → PlanGraph → Type 0) (fault : Fault) → ReadsSame input.Graph path → FailsGraph (Some other) limits start path p fault ⊎ InGraphFile (Some other) limits start path p P
         → FailsGraph (Some files) limits start path p fault ⊎ InGraphFile (Some files) limits start path p P
-    either_graph P fault same (inl fails) = inl (graph_fails fault same fails)
-    either_graph P fault same (inr is) = inr (in_graph P same is)
+    either_graph P fault same h = grind (arith, graph_fails, in_graph)
 
     either_certificate : (P : Query → LowerBounds → Type 0) (fault : Fault) → ReadsSame input.Proof path
         → FailsCertificate (Some other) limits start path p fault ⊎ InCertificateFile (Some other) limits start path p P

@@ -1,7 +1,7 @@
 -- What a run over more service finds, beside one over less.
-use Rattle.run_laws.proofs.Common.{◌≡◌, ℕ, ◌<◌, ◌≤◌, arith, inl, inr, refl, sym, ap, subst, ◌∙◌, cases_lt, List, Option, None, Some, NetworkModel, FileMap, Limits, Moment, Query, Tree}
-use Rattle.run_laws.proofs.Common.{IsLeastWorst, IsSafeFromStart, JourneyModel, SourceModel}
-use Rattle.run_laws.proofs.Common.{AskModel, Plan, Latest, Problem, HasOneProblem, Findings, findings_of, AnswersAsk, EndsAsk, EndsByLatest, query_until, unfold_plan, RunModel, IsRunWithin}
+use Rattle.run_laws.proofs.Common.{◌≡◌, ℕ, ◌<◌, ◌≤◌, arith, inl, inr, refl, sym, ap, subst, ◌∙◌, cases_lt, List, Option, None, Some, NetworkModel, FileMap, Limits, Moment, Query, Tree, IsLeastWorst}
+use Rattle.run_laws.proofs.Common.{IsSafeFromStart, JourneyModel, SourceModel, AskModel, Plan, Latest, HasOneProblem, Findings, findings_of, AnswersAsk, EndsAsk, EndsByLatest, query_until}
+use Rattle.run_laws.proofs.Common.{unfold_plan, RunModel, IsRunWithin}
 use Rattle.journey_problem.specs.Problems.{IsProblemOver}
 use Rattle.meat_engine.specs.Ends.{EndsBySafety, HasSafe}
 use Rattle.service_laws.proofs.Changes.{alike_no_later}
@@ -48,12 +48,7 @@ module _ (limits : Limits) (r s : RunModel) (first : IsRunWithin limits r) (seco
       answers : AnswersAsk (Some others) limits i.start asks.problem b (findings_of s.report) text
 
     more_answers : s.report.fault ≡ None → Answers
-    more_answers none =
-        let v = answered limits others s second asks.second i b asks.second_asks none in
-        record {
-          text = v.text;
-          answers = subst (λ (p : Problem). AnswersAsk (Some others) limits i.start p b (findings_of s.report) v.text) (one_problem limits others i v.p asks.problem v.is_problem asks.is_problem) v.answers;
-        }
+    more_answers none = grind (arith, answered)
 
     none_if_zero : s.report.status.0 ≡ 0 → s.report.fault ≡ None
     none_if_zero = no_fault limits others s second asks.second
@@ -109,10 +104,7 @@ module _ (limits : Limits) (r s : RunModel) (first : IsRunWithin limits r) (seco
 
     no_sooner : (moment other : Moment) → ((tree : Tree) × IsSafeFromStart asks.problem.timetable.network asks.problem.target.0 (Some until) tree asks.problem.source.0 moment.0)
         → ((later : ℕ) → other.0 < later → (tree : Tree) → IsSafeFromStart asks.problem.timetable.network asks.problem.target.0 (Some until) tree asks.problem.source.0 later → ⊥) → moment.0 ≤ other.0
-    no_sooner moment other has never = elim (cases_lt other.0 moment.0) [
-      | inl late ↦ absurd (never moment.0 late has.0 has.1)
-      | inr kept ↦ kept
-    ]
+    no_sooner moment other has never = grind (arith, cases_lt)
 
     by_latest : EndsByLatest asks.problem (query_until asks.problem i.start until) s.report.status.0 → (s.report.status.0 ≡ 0) × FindsNoLater s.report.latest r.report.latest
     by_latest (inl (zero, has)) =

@@ -1,6 +1,6 @@
 -- A graph file has one graph, and a certificate file one certificate; what holds of one that was read holds of another.
-use Rattle.run_laws.proofs.Common.{arith, ◌≡◌, ℕ, List, None, Some, Result, Ok, Err, subst, FileMap, file_at, Limits, Query, PlanGraph, Head, LowerBounds, ProofFault, read_once, Fault, Problem}
-use Rattle.run_laws.proofs.Common.{bytes_of, graph_in, InGraphFile, InCertificateFile}
+use Rattle.run_laws.proofs.Common.{arith, ◌≡◌, ℕ, List, None, Some, Result, Ok, Err, FileMap, file_at, Limits, Query, PlanGraph, Head, LowerBounds, ProofFault, read_once, Fault, Problem, bytes_of}
+use Rattle.run_laws.proofs.Common.{graph_in, InGraphFile, InCertificateFile}
 use Rattle.lower_proof.specs.Reading.{IsProofRead}
 use Rattle.journey_model.specs.declared.faults.Input.TheVariants as input
 
@@ -30,8 +30,4 @@ module _ (p : Problem) (files : FileMap) (limits : Limits) (start : ℕ) (path :
   pub in_certificate : (P Q : Query → LowerBounds → Type 0) (R : Type 0) → ((q : Query) (certificate : LowerBounds) → P q certificate → Q q certificate → R)
       → InCertificateFile (Some files) limits start path p P → InCertificateFile (Some files) limits start path p Q → R
   in_certificate P Q R both (q, certificate, is, holds) (r, more, also, others) =
-      let text : also.text ≡ is.text = one_ok read_bytes also.text is.text also.reads is.reads in
-      let reported : Reads is.text (Ok (r, more)) = subst (λ (t : List ℕ). Reads t (Ok (r, more))) text also.reports in
-      let one = read_once p.timetable.network p.timetable.names p.source.0 p.target.0 start is.text (Ok (r, more)) (Ok (q, certificate)) reported is.reports (λ e. cc) (λ e. cc) in
-      let same : (r, more) ≡ (q, certificate) = cc in
-      both q certificate holds (subst (λ (w : Query × LowerBounds). Q w.0 w.1) same others)
+      grind (arith, one_ok read_bytes also.text is.text also.reads is.reads, read_once p.timetable.network p.timetable.names p.source.0 p.target.0 start is.text (Ok (r, more)) (Ok (q, certificate)))

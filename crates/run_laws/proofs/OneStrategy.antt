@@ -1,15 +1,13 @@
 -- The strategy that the rules keep, and its value, follow from the network and the query.
-use Rattle.run_laws.proofs.Common.{arith, ◌≡◌, ◌≢◌, ℕ, List, Some, sym, ap, ap₂, ◌∙◌, cases_eq, Interval, ConnectionId, Leg, Query, NetworkModel, IsSafeFor, Tree, Done, Ride, Stuck, unfolding_of}
-use Rattle.run_laws.proofs.Common.{by_place, mean_scoring, from_span, Kept, IsByRules, kept_after, kept_leg}
+use Rattle.run_laws.proofs.Common.{arith, ◌≡◌, ◌≢◌, List, Some, ap, cases_eq, Interval, ConnectionId, Leg, Query, NetworkModel, IsSafeFor, Tree, Done, unfolding_of, by_place, mean_scoring, from_span}
+use Rattle.run_laws.proofs.Common.{Kept, IsByRules, kept_after, kept_leg}
 use Rattle.value_laws.specs.ScoreLaws.{Scoring}
 use Rattle.decision_graph.specs.GraphValues.{IsBest}
 use Rattle.run_laws.proofs.OneOrder.{one_order}
 
 -- where source and target are one place, to have arrived is the one safe strategy
 at_once : (n : NetworkModel) (q : Query) (tree : Tree) → q.source.0 ≡ q.target.0 → IsSafeFor n q tree → tree ≡ Done q.start.0
-at_once n q (Done moment) same safe = ap (λ (m : ℕ). Done m) safe.0
-at_once n q (Ride i j kids) same safe = absurd (safe.0 same)
-at_once n q (Stuck place moment) same safe = absurd safe
+at_once n q tree same safe = grind arith
 
 module _ {V : Type 0} (scoring : Scoring V) (n : NetworkModel) (q : Query) where
   abbrev kept : List ConnectionId → Kept V
@@ -22,11 +20,7 @@ module _ {V : Type 0} (scoring : Scoring V) (n : NetworkModel) (q : Query) where
   ByRules = IsByRules scoring n q
 
   one_by_rules : (s t : Tree) (v w : V) → ByRules s v → ByRules t w → (s ≡ t) × (v ≡ w)
-  one_by_rules s t v w a b =
-      let same = one_order n a.order b.order a.is_order b.is_order in
-      let both : Some (v, a.start) ≡ Some (w, b.start) = sym a.begins ∙ ap (λ (ids : List ConnectionId). (kept ids).start) same ∙ b.begins in
-      let pair : (v, a.start) ≡ (w, b.start) = cc in
-      (a.goes_on ∙ ap₂ tree_of same (ap (λ (p : V × Leg). p.1) pair) ∙ sym b.goes_on, ap (λ (p : V × Leg). p.0) pair)
+  one_by_rules s t v w a b = grind (arith, one_order n a.order b.order a.is_order b.is_order)
 
   -- a safe strategy with its value, by the rules or at once
   pub record IsThe (strategy : Tree) (value : V) : Type 0 where

@@ -48,13 +48,7 @@ rows_own (head ∷ tables) up t has = elim (Contains-cons_cases head tables t ha
 table_of_row : (tables : List PlaceTable) (p : ℕ) (row : GraphRow) → Contains (rows_of_place tables p) row
     → (t : PlaceTable) × Contains tables t × (t.place.0 ≡ p) × (rows_of_place tables p ≡ t.rows)
 table_of_row [] p row has = absurd (Contains-nil row has)
-table_of_row (head ∷ tables) p row has = elim (cases_eq head.place.0 p) [
-  | inl here ↦ (head, Contains-head head tables, here, table_here head tables p here)
-  | inr away ↦
-      let further = table_further head tables p away in
-      let found = table_of_row tables p row (subst (λ (list : List GraphRow). Contains list row) further has) in
-      (found.0, Contains-tail head tables found.0 found.1, found.2, further ∙ found.3)
-]
+table_of_row (head ∷ tables) p row has = grind (arith, cases_eq, Contains-head, table_here, table_further, Contains-tail, table_of_row tables p row)
 
 -- a table that fits has a row
 some_row : (rows : List GraphRow) → 1 ≤ length rows → (row : GraphRow) × Contains rows row
@@ -128,8 +122,7 @@ module _ (n : NetworkModel) (q : Query) where
   by_start : (a b : PlanGraph) (s t : Option Leg) → a.start ≡ s → b.start ≡ t → IsTidy n q a → IsTidy n q b → IsSafeForSome n q (unfold_plan a n q)
       → unfold_plan a n q ≡ unfold_plan b n q
       → MatchOption s ((q.source.0 ≡ q.target.0) × (a.tables ≡ [])) (IsFitStart n q) → MatchOption t ((q.source.0 ≡ q.target.0) × (b.tables ≡ [])) (IsFitStart n q) → a ≡ b
-  by_start a b None None is other tidy tidies safe same none nothing = ap₂ graph_of (is ∙ sym other) (none.1 ∙ sym nothing.1)
-  by_start a b None (Some t) is other tidy tidies safe same none fit = absurd (fit.differ none.0)
+  by_start a b None h is other tidy tidies safe same none nothing = grind arith
   by_start a b (Some s) None is other tidy tidies safe same fit none = absurd (fit.differ none.0)
   by_start a b (Some s) (Some t) is other tidy tidies safe same fit fits =
       let starts : a.start ≡ b.start = start_same n q.target.0 (by_place n (pick_at a.tables)) (by_place n (pick_at b.tables)) a.start b.start q.source.0 q.start.0 fit.differ same in

@@ -1,7 +1,7 @@
 -- Over one network the first row of `departures` by a moment has the upper bound of the plan of who sets out then.
-use Rattle.run_laws.proofs.Common.{◌≡◌, ◌≢◌, ℕ, refl, sym, ap, subst, ◌∙◌, List, [], Option, None, Some, MatchOption, Limits, NetworkModel, Query, Departures, Plan, Problem}
-use Rattle.run_laws.proofs.Common.{HasOneProblem, Findings, findings_of}
-use Rattle.run_laws.proofs.Common.{FileMap, JourneyModel, SourceModel, own_problem, AnswersAsk, query_until, unfold_plan, Interval, RunModel, IsRunWithin}
+use Rattle.std.proofs.Common.{arith}
+use Rattle.run_laws.proofs.Common.{◌≡◌, ◌≢◌, ℕ, refl, sym, ap, subst, ◌∙◌, List, [], Option, Some, MatchOption, Limits, NetworkModel, Query, Departures, Plan, Problem, HasOneProblem, Findings}
+use Rattle.run_laws.proofs.Common.{findings_of, FileMap, JourneyModel, SourceModel, own_problem, AnswersAsk, query_until, unfold_plan, Interval, RunModel, IsRunWithin}
 use Rattle.decision_graph.specs.GraphValues.{IsBest}
 use Rattle.departure_table.specs.Departures.{IsBestFrom, IsNoneSafeFrom, SafeFrom, first_row_by}
 use Rattle.departure_table.specs.declared.DepartureRow.{DepartureRow}
@@ -13,9 +13,7 @@ use Rattle.run_laws.proofs.Agreeing.{answered, one_some}
 use Rattle.run_laws.proofs.RowBounds.{row_upper}
 
 no_row : (moment : ℕ) (rows : List DepartureRow) (row : DepartureRow) → rows ≡ [] → first_row_by moment rows ≡ Some row → ⊥
-no_row moment rows row none found =
-    let empty : None ≡ Some row = sym (ap (first_row_by moment) none) ∙ found in
-    absurd (cc)
+no_row moment rows row none found = grind arith
 
 module _ (limits : Limits) (r s : RunModel) (first : IsRunWithin limits r) (second : IsRunWithin limits s) (one_problem : HasOneProblem) where
   pub row_of_plan : RowIsOfPlan limits r s
@@ -42,14 +40,7 @@ module _ (limits : Limits) (r s : RunModel) (first : IsRunWithin limits r) (seco
 
   -- a problem over a cut file is one for each start
   from_start : (others : FileMap) (j : JourneyModel) (cut : List ℕ) (start : ℕ) (p : Problem) → IsCutProblem limits others cut j p → IsCutProblem limits others cut (starting j start) p
-  from_start others j cut start p is = record {
-    table = is.table;
-    lists = is.lists;
-    no_fault = is.no_fault;
-    is_table = is.is_table;
-    are_delays = is.are_delays;
-    timetable = record { is_network = is.timetable.is_network; source = is.timetable.source; target = is.timetable.target };
-  }
+  from_start others j cut start p is = grind arith
 
   pub cut_row_of_plan : CutRowIsOfPlan r s
   cut_row_of_plan files others j cut start until last alpha query rows row bounds over calm also agree asks asks_too well early late rows_are row_is query_is deadline bounds_are =

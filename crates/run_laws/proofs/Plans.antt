@@ -1,6 +1,6 @@
 -- The graphs and the bounds of a query follow from the network and the query.
-use Rattle.run_laws.proofs.Common.{arith, ◌≡◌, ◌≢◌, Option, Some, None, MatchOption, refl, Interval, Leg, Query, NetworkModel, ExpandedGraph, PlanGraph, unfold_expanded, unfold_plan, IsPlanned}
-use Rattle.run_laws.proofs.Common.{HasEveryRow, IsOneStrategy}
+use Rattle.run_laws.proofs.Common.{arith, ◌≡◌, ◌≢◌, Option, Some, None, MatchOption, Interval, Leg, Query, NetworkModel, ExpandedGraph, PlanGraph, unfold_expanded, unfold_plan, IsPlanned, HasEveryRow}
+use Rattle.run_laws.proofs.Common.{IsOneStrategy}
 use Rattle.decision_graph.specs.Expanded.{IsExpanded}
 use Rattle.run_laws.proofs.Agree.{start_same}
 use Rattle.run_laws.proofs.OneStrategy.{IsTheMean, the_best, one_best}
@@ -25,10 +25,8 @@ module _ (n : NetworkModel) (q : Query) where
 
   by_start : {P Q : Leg → Type 0} {R : Type 0} (s t : Option Leg) → (q.source.0 ≢ q.target.0 → s ≡ t) → ((leg : Leg) → P leg → q.source.0 ≢ q.target.0) → ((leg : Leg) → Q leg → q.source.0 ≢ q.target.0)
       → (R → q.source.0 ≡ q.target.0) → MatchOption s (q.source.0 ≡ q.target.0) P → MatchOption t R Q → s ≡ t
-  by_start None None same p d r none nothing = refl
-  by_start None (Some t) same p d r none fit = absurd (d t fit none)
-  by_start (Some s) None same p d r fit none = absurd (p s fit (r none))
-  by_start (Some s) (Some t) same p d r fit fits = same (p s fit)
+  by_start None h same p d r none nothing = grind arith
+  by_start (Some s) h same p d r fit none = grind arith
 
   pub one_strategy : (a : ExpandedGraph) (b : PlanGraph) (s t : Interval) → IsExpanded n q a s → IsPlanned n q b t → IsOneStrategy n q a b s t
   one_strategy a b s t expanded plan = grind (arith, one_best, of_expanded, of_plan, by_start, start_same)

@@ -24,12 +24,7 @@ ok_no_err a f r x y = absurd (cc)
 
 -- a result answers itself
 is_own : (r : Result Trace ReplayFault) → IsAnswer r r
-is_own (Ok trace) = refl
-is_own (Err (stop.NotADelay number)) = refl
-is_own (Err (stop.TooFew ridden)) = refl
-is_own (Err (stop.TooMany ridden)) = refl
-is_own (Err (stop.Stuck place moment)) = refl
-is_own (Err stop.NoMemory) = tt
+is_own r = grind arith
 
 no_fault : (r : Result Trace ReplayFault) (trace : Trace) (e : ReplayFault) → r ≡ Ok trace → r ≡ Err e → ⊥
 no_fault r trace e x y = absurd (cc)
@@ -47,16 +42,7 @@ pub record IsSafeText (start : ℕ) (p : Problem) (text : List ℕ) : Type 0 whe
 
 module _ (start alpha : ℕ) (p : Problem) (found : Findings) (text : List ℕ) where
   pub of_plan : InQuery p start alpha (AnswersPlan p found text) → IsSafeText start p text
-  of_plan (q, worst, asked, (graph, bounds, is, planned, reported, reads)) = record {
-    q = q;
-    bounds = bounds;
-    graph = graph;
-    source = asked.source;
-    target = asked.target;
-    start_is = asked.start_is;
-    reads = text_read p.timetable.network p.timetable.names p.timetable.valid (head_of q bounds) graph text reads;
-    safe = planned.best.safe;
-  }
+  of_plan (q, worst, asked, (graph, bounds, is, planned, reported, reads)) = grind (arith, text_read p.timetable.network p.timetable.names p.timetable.valid (head_of q bounds) graph text reads)
 
   -- the text of `punctual` is the row of its chance and then such a text
   pub record IsAfterRow (promise : ℕ) : Type 0 where
@@ -148,12 +134,11 @@ pub keeps_upper : (start alpha : ℕ) (p : Problem) (found : Findings) (text : L
 unfolding of_plan
 keeps_upper start alpha p found text (q, worst, asked, (graph, bounds, is, planned, reported, reads)) other line own =
     let both = bounds_of_graph p.timetable.network q (unfold_plan graph p.timetable.network q) bounds planned.best in
-    let low = ap (λ (b : Interval). b.lo) own.scored.means in
     record {
       reported = bounds;
       found = own.bounds;
       planned_is = ap (λ (f : Findings). f.bounds) is;
       checked_is = ap (λ (f : Findings). f.bounds) own.found_is;
       upper = ap (λ (b : Interval). b.hi) own.scored.means ∙ sym both.0;
-      lower = omega (arith, both.1, low);
+      lower = omega (arith, both.1, (ap (λ (b : Interval). b.lo) own.scored.means));
     }

@@ -1,12 +1,12 @@
 -- From where one can reach a target follows from the problem, and agrees with the latest moment and the departures of each place.
-use Rattle.run_laws.proofs.Common.{◌≡◌, ◌≢◌, ℕ, ◌+◌, ◌-◌, ◌<◌, ◌≤◌, List, [], ◌∷◌, length, All, MatchOption, Option, Some, None, sym, subst, refl, ap, ◌∙◌, inl, inr, arith, zero, suc, cases_eq, cases_lt, cases_order, Moment, Query}
+use Rattle.run_laws.proofs.Common.{◌≡◌, ◌≢◌, ℕ, ◌+◌, ◌-◌, ◌<◌, ◌≤◌, List, [], ◌∷◌, length, All, MatchOption, Option, Some, None, sym, subst, refl, ap, ◌∙◌, inl, inr, arith, cases_eq, cases_lt}
+use Rattle.run_laws.proofs.Common.{cases_order, Moment, Query}
 use Rattle.std.proofs.Common.{slice_index_or}
 use Rattle.run_laws.proofs.Common.{NetworkModel, mean_scoring, Tree, one_found, Problem, Findings, query_until, IsOneAnswer, EndsByLatest, HasLater, HasSafeFor, AreDepartures, IsScanOrder, ConnectionId, IsSafeFromStart, reaches_from_safe}
 use Rattle.plan_model.specs.declared.model.PlaceId.{PlaceId}
 use Rattle.plan_model.specs.Gates.{FitGates, extended_by}
 unfoldable use Rattle.plan_model.specs.Network.{connection}
 use Rattle.plan_model.proofs.Laws.{safe_from_reaches}
-use Rattle.plan_model.specs.declared.Timetable.{Timetable}
 use Rattle.value_laws.specs.declared.MeanSpan.{MeanSpan}
 use Rattle.meat_scan.specs.ScanResult.{ScanResult}
 use Rattle.meat_scan.specs.Rules.{FollowsRules}
@@ -18,8 +18,6 @@ use Rattle.departure_table.specs.Reach.{IsReach, IsReachRow, IsFoundAtGate, Begi
 use Rattle.departure_table.proofs.EachRow.{of_place, none_of_place, same_rows, each_row}
 use Rattle.departure_table.proofs.ReachGrowth.{count_up_to}
 use Rattle.departure_table.proofs.SameGates.{first_departure}
-use Rattle.journey_report.specs.Findings.{reach_findings}
-use Rattle.journey_report.specs.DepartureTexts.{reach_text}
 use Rattle.journey_answers.specs.Departures.{SafeOf}
 use Rattle.journey_answers.specs.ByRules.{IsRuled, AreByRules, added_query}
 use Rattle.journey_answers.specs.Reach.{AreReached, AnswersReach}
@@ -30,13 +28,7 @@ use Rattle.run_laws.specs.Reaches.{KeepsRow}
 
 -- there is one greatest moment
 one_greatest : (Safe : ℕ → Tree → Type 0) (first : ℕ) (a b : Moment) → IsGreatestMoment Safe first (Some a) → IsGreatestMoment Safe first (Some b) → a ≡ b
-one_greatest Safe first a b is other = elim (cases_order a.0 b.0) [
-  | inl same ↦ λ i. record { 0 = same i }
-  | inr way ↦ elim way [
-    | inl less ↦ absurd (is.2 b.0 less other.1.0 other.1.1)
-    | inr more ↦ absurd (other.2 a.0 more is.1.0 is.1.1)
-  ]
-]
+one_greatest Safe first a b is other = grind (arith, cases_order)
 
 module _ (m : NetworkModel) (q : Query) where
   -- from the place of a row something is safe
@@ -91,19 +83,12 @@ module _ (m : NetworkModel) (q : Query) where
     one_reach = same_rows xs ys a.reach.rising b.reach.rising one_of_place
 
 pub one_reach_answer : (p : Problem) (q : Query) (found others : Findings) (text other : List ℕ) → AnswersReach p q found text → AnswersReach p q others other → IsOneAnswer found others text other
-one_reach_answer p q found others text other (rows, is, reached, text_is) (more, is_other, reached_other, text_other) =
-    let same = one_reach p.timetable.network q rows more reached reached_other in
-    record {
-      found = is ∙ ap (reach_findings q) same ∙ sym is_other;
-      text_is = text_is ∙ ap (reach_text p.timetable.names q) same ∙ sym text_other;
-    }
+one_reach_answer p q found others text other (rows, is, reached, text_is) (more, is_other, reached_other, text_other) = grind (arith, one_reach p.timetable.network q rows more reached reached_other)
 
 -- over a problem with the same timetable and the same target
 pub over_timetable : (p other : Problem) (start until : ℕ) (rows : List ReachRow) → p.timetable ≡ other.timetable → p.target ≡ other.target
     → AreReached p.timetable.network (query_until p start until) rows → AreReached other.timetable.network (asked_at (query_until other start until) p.source.0) rows
-over_timetable p other start until rows timetable target reached =
-    let asked : PlaceId → Query = λ t. record { source = p.source; target = t; start = record { 0 = start }; deadline = record { 0 = until } } in
-    subst (λ (t : PlaceId). AreReached other.timetable.network (asked t) rows) target (subst (λ (t : Timetable). AreReached t.network (asked p.target) rows) timetable reached)
+over_timetable p other start until rows timetable target reached = grind arith
 
 -- the connections are scanned in one order, whatever gates there are
 same_order : (m : NetworkModel) (xs ys : List PlaceId) (ids : List ConnectionId) → IsScanOrder (extended_by m xs) ids → IsScanOrder (extended_by m ys) ids
@@ -131,13 +116,7 @@ module _ (p : Problem) (start until x : ℕ) (rows : List ReachRow) (reached : A
       → (status : ℕ) (latest : Option Moment) → EndsLatest status latest → MatchOption o (status ≡ 1) (λ row. (status ≡ 0) × (latest ≡ Some row.latest))
   by_row None at none status latest (inl (is, later), found) = let safe = later_is_now p q later in absurd (none safe.0 safe.1)
   by_row None at none status latest (inr (is, never), found) = is
-  by_row (Some row) at is status latest (inl (ends, later), found) =
-      let (moment, finds, greatest) = found ends in
-      let own = subst (λ (k : ℕ). IsGreatestMoment (SafeFrom m k q) start (Some row.latest)) (there row at) is.latest in
-      (ends, finds ∙ ap (λ (t : Moment). Some t) (one_greatest (SafeOf p q) start moment row.latest greatest own))
-  by_row (Some row) at is status latest (inr (ends, never), found) =
-      let own = subst (λ (k : ℕ). IsGreatestMoment (SafeFrom m k q) start (Some row.latest)) (there row at) is.latest in
-      absurd (never (row.latest.0, own.1.0, own.0, own.1.1))
+  by_row (Some row) at is status latest h = grind (arith, there, one_greatest)
 
   pub latest_by_row : (status : ℕ) (latest : Option Moment) → EndsLatest status latest → MatchOption (row_of_place p.source.0 rows) (status ≡ 1) (λ row. (status ≡ 0) × (latest ≡ Some row.latest))
   latest_by_row status latest ends = by_row (row_of_place p.source.0 rows) refl answer status latest ends
@@ -151,8 +130,7 @@ module _ (p : Problem) (start until x : ℕ) (rows : List ReachRow) (reached : A
         record { there = λ k d within. one_there k d within; few = omega (arith, fit.few, many, p.source_in) }
       where
         one_there : All (λ (source : PlaceId). source.0 < length m.change) (p.source ∷ [])
-        one_there zero d within = p.source_in
-        one_there (suc k) d within = absurd (omega (arith, within))
+        one_there h d within = grind arith
 
     begins : (row : ReachRow) → row_of_place p.source.0 rows ≡ Some row → BeginsWithBounds row departures
     begins row at =
@@ -168,8 +146,7 @@ module _ (p : Problem) (start until x : ℕ) (rows : List ReachRow) (reached : A
 
     begins_by : (o : Option ReachRow) → row_of_place p.source.0 rows ≡ o → MatchOption o (IsNoneSafeFrom (SafeOf p q) start) (IsReachRow m (asked_at q x) start) → HasSafeFor p q
         → (row : ReachRow) × (row_of_place p.source.0 rows ≡ Some row) × BeginsWithBounds row departures
-    begins_by None at none safe = absurd (none safe.0 safe.1)
-    begins_by (Some row) at is safe = (row, at, begins row at)
+    begins_by o at none safe = grind (arith, begins)
 
     pub begins_the_departures : HasSafeFor p q → (row : ReachRow) × (row_of_place p.source.0 rows ≡ Some row) × BeginsWithBounds row departures
     begins_the_departures safe = begins_by (row_of_place p.source.0 rows) refl answer safe
@@ -191,19 +168,11 @@ module _ (m : NetworkModel) (target : PlaceId) (x y : PlaceId) (start : Moment) 
     no_earlier : (row : ReachRow) → row.place.0 < length m.change → IsReachRow m by_sooner start.0 row → (o : Option ReachRow) → row_of_place row.place.0 more ≡ o
         → MatchOption o (IsNoneSafeFrom (SafeFrom m row.place.0 by_later) start.0) (IsReachRow m by_later start.0) → KeepsRow more row
     no_earlier row inside is None at none =
-        let safe = has_safe m by_sooner row.place.0 row refl is in
-        absurd (none safe.0 (still_safe row.place.0 start.0 safe.0 safe.1))
+        grind (arith, has_safe m by_sooner row.place.0 row refl is, still_safe row.place.0 start.0 (has_safe m by_sooner row.place.0 row refl is).0 (has_safe m by_sooner row.place.0 row refl is).1)
     no_earlier row inside is (Some other) at also =
         let here = (of_place (IsReachRow m by_later start.0) row.place.0 more (each_row m by_later start.0 more others) other at).0 in
         let greatest = subst (λ (k : ℕ). IsGreatestMoment (SafeFrom m k by_later) start.0 (Some other.latest)) here also.latest in
-        let safe = still_safe row.place.0 row.latest.0 is.latest.1.0 is.latest.1.1 in (
-          other,
-          at,
-          elim (cases_lt other.latest.0 row.latest.0) [
-            | inl earlier ↦ absurd (greatest.2 row.latest.0 earlier is.latest.1.0 safe)
-            | inr no_later ↦ no_later
-          ],
-        )
+        let safe = still_safe row.place.0 row.latest.0 is.latest.1.0 is.latest.1.1 in grind (arith, cases_lt)
 
     pub keeps_rows : All (KeepsRow more) rows
     keeps_rows k d within =

@@ -1,6 +1,6 @@
 -- Over feeds of the same rows, in whatever order, two runs find one least worst arrival and one upper bound.
-use Rattle.run_laws.proofs.Common.{◌≡◌, ℕ, ◌≤◌, arith, inl, inr, refl, sym, ap, ◌∙◌, Option, None, Some, FileMap, Limits, Moment, JourneyModel, AskModel, Plan, HasOneProblem}
-use Rattle.run_laws.proofs.Common.{findings_of, RunModel, IsRunWithin, status_of, deadline_of}
+use Rattle.run_laws.proofs.Common.{◌≡◌, ℕ, ◌≤◌, arith, refl, sym, ap, ◌∙◌, Option, None, Some, FileMap, Limits, Moment, JourneyModel, AskModel, Plan, HasOneProblem, findings_of, RunModel, IsRunWithin}
+use Rattle.run_laws.proofs.Common.{status_of, deadline_of}
 use Rattle.run_laws.specs.MoreService.{AskWithMore, FindsNoLater}
 use Rattle.run_laws.specs.Reordered.{AskReordered, OrderKeepsWorst, OrderKeepsPlans}
 use Rattle.run_laws.specs.TwoRuns.{OrStatus9}
@@ -13,18 +13,11 @@ some_moment m = Some (record { 0 = m })
 
 -- each moment is no later than the other
 one_moment : (first second : Option Moment) → FindsNoLater first second → FindsNoLater second first → first ≡ second
-one_moment first second (a, b, is, also, less) (c, d, are, too, more) =
-    let own : b ≡ c = one_some b c second also are in
-    let theirs : a ≡ d = one_some a d first is too in
-    let down : b.0 ≤ a.0 = less in
-    let up : a.0 ≤ b.0 = rw (theirs, own) more in
-    let same : a.0 ≡ b.0 = omega (arith, down, up) in
-    is ∙ ap some_moment same ∙ sym also
+one_moment first second (a, b, is, also, less) (c, d, are, too, more) = grind (arith, one_some)
 
 -- a run without a fault does not end with 9
 not_nine : {P : Type 0} (s : RunModel) → s.report.status.0 ≡ status_of s.report.fault → s.report.fault ≡ None → OrStatus9 s P → P
-not_nine s status none (inl holds) = holds
-not_nine s status none (inr nine) = absurd (let zero : s.report.status.0 ≡ 0 = status ∙ ap status_of none in omega (arith, zero, nine))
+not_nine s status none h = grind arith
 
 module _ (limits : Limits) (r s : RunModel) (first : IsRunWithin limits r) (second : IsRunWithin limits s) (one_problem : HasOneProblem) where
   module _ (files others : FileMap) (j i : JourneyModel) (a b : AskModel) (asks : AskReordered limits files others j i a b r s) where

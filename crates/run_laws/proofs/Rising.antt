@@ -1,6 +1,6 @@
 -- A list in which each is before the next follows from what it contains.
-use Rattle.run_laws.proofs.Common.{◌≡◌, List, [], ◌∷◌, AllPairs, Contains, refl, sym, subst, inl, inr, ap₂, ◌∙◌, Contains-nil, Contains-head, Contains-tail, Contains-cons_cases, AllPairs-head}
-use Rattle.run_laws.proofs.Common.{AllPairs-tail}
+use Rattle.std.proofs.Common.{arith}
+use Rattle.run_laws.proofs.Common.{◌≡◌, List, [], ◌∷◌, AllPairs, Contains, refl, sym, ap₂, Contains-nil, Contains-head, Contains-tail, Contains-cons_cases, AllPairs-head, AllPairs-tail}
 
 -- what the one list has the other has too
 abbrev pub HasAll : {X : Type 0} → List X → List X → Type 0
@@ -8,21 +8,10 @@ HasAll {X} xs ys = (x : X) → Contains xs x → Contains ys x
 
 module _ {X : Type 0} (R : X → X → Type 0) (one_way : (a b : X) → R a b → R b a → ⊥) where
   first_same : (x y : X) (xs ys : List X) → AllPairs R (x ∷ xs) → AllPairs R (y ∷ ys) → Contains (y ∷ ys) x → Contains (x ∷ xs) y → x ≡ y
-  first_same x y xs ys up other has back = elim (Contains-cons_cases y ys x has) [
-    | inl is ↦ sym is
-    | inr later ↦ elim (Contains-cons_cases x xs y back) [
-      | inl is ↦ is
-      | inr sooner ↦ absurd (one_way x y (AllPairs-head R x xs up y sooner) (AllPairs-head R y ys other x later))
-    ]
-  ]
+  first_same x y xs ys up other has back = grind (arith, Contains-cons_cases y ys x has, Contains-cons_cases x xs y back, AllPairs-head R x xs up y, AllPairs-head R y ys other x)
 
   rest_has : (x y : X) (xs ys : List X) → x ≡ y → AllPairs R (x ∷ xs) → HasAll (x ∷ xs) (y ∷ ys) → HasAll xs ys
-  rest_has x y xs ys same up each z has = elim (Contains-cons_cases y ys z (each z (Contains-tail x xs z has))) [
-    | inl is ↦
-        let self : R x x = subst (R x) (sym (same ∙ is)) (AllPairs-head R x xs up z has) in
-        absurd (one_way x x self self)
-    | inr more ↦ more
-  ]
+  rest_has x y xs ys same up each z has = grind (arith, Contains-cons_cases y ys z (each z (Contains-tail x xs z has)), Contains-tail x xs z has, AllPairs-head R x xs up z has)
 
   pub one_rising : (xs ys : List X) → AllPairs R xs → AllPairs R ys → HasAll xs ys → HasAll ys xs → xs ≡ ys
   one_rising [] [] up other each back = refl

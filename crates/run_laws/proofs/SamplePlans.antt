@@ -1,9 +1,8 @@
 -- `sample` ends as `plan` does over the made files.
-use Rattle.run_laws.proofs.Common.{◌≡◌, ◌⊎◌, ℕ, refl, sym, ap, ap₂, subst, ◌∙◌, inl, inr, List, [], Option, None, Some, Ok, Appends, FileMap, file_at, Limits}
-use Rattle.run_laws.proofs.Common.{PlanGraph, Interval, Ask, Sample}
-use Rattle.run_laws.proofs.Common.{count, Plan, job_of, JobModel, Fault, Problem, status_of, NamedParts, HasOneProblem, AgreeFor, own_problem, none_unread, Findings}
-use Rattle.run_laws.proofs.Common.{findings_of, FailsJourney, AnswersJob, FailsJob, AnswersWords}
-use Rattle.run_laws.proofs.Common.{IsExplained, AnswersPlan, InQuery, sample_journey, sample_alpha, RunModel, IsRunWithin, agree_sym}
+use Rattle.std.proofs.Common.{arith}
+use Rattle.run_laws.proofs.Common.{◌≡◌, ◌⊎◌, ℕ, refl, sym, ap, ap₂, subst, ◌∙◌, inl, inr, List, [], Option, Some, Ok, Appends, FileMap, file_at, Limits, PlanGraph, Interval, Ask, Sample, count, Plan}
+use Rattle.run_laws.proofs.Common.{job_of, JobModel, Fault, Problem, status_of, NamedParts, HasOneProblem, AgreeFor, own_problem, none_unread, Findings, findings_of, FailsJourney, AnswersJob}
+use Rattle.run_laws.proofs.Common.{FailsJob, AnswersWords, IsExplained, AnswersPlan, InQuery, sample_journey, sample_alpha, RunModel, IsRunWithin, agree_sym}
 use Rattle.std.proofs.Common.{IfSome}
 use Rattle.feed_maker.specs.Made.{made, SameFolder}
 use Rattle.journey_model.specs.FaultLines.{line_of}
@@ -21,8 +20,7 @@ use Rattle.run_laws.proofs.Queries.{in_one_query}
 -- files that have the made ones agree with others that have them
 agree_some : (path : Option (List ℕ)) (folder files others : FileMap) → SameFolder files folder → IfSome path (λ at. file_at files at ≡ file_at others at)
     → IfSome path (λ at. file_at folder at ≡ file_at others at)
-agree_some None folder files others same agree = tt
-agree_some (Some path) folder files others same agree = same path ∙ agree
+agree_some path folder files others same agree = grind arith
 
 agree_made : (folder files others : FileMap) → SameFolder files folder → AgreeFor sample_journey files others → AgreeFor sample_journey folder others
 agree_made folder files others same agree input = agree_some (path_of sample_journey no_path input) folder files others same (agree input)
@@ -34,15 +32,13 @@ with_connections found connections = record found { connections = connections }
 -- the answer and the cause of the job that the words ask for
 of_job : (limits : Limits) (files : FileMap) (words : List (List ℕ)) (job : JobModel) (found : Findings) (text : List ℕ) → job_of words ≡ Ok job → AnswersWords (Some files) limits words found text
     → AnswersJob (Some files) limits job found text
-of_job limits files words job found text asks (wanted, is, answers) =
-    subst (λ (w : JobModel). AnswersJob (Some files) limits w found text) (one_job words wanted job is asks) answers
+of_job limits files words job found text asks (wanted, is, answers) = grind (arith, one_job)
 
 cause_of_job : (limits : Limits) (files : FileMap) (words : List (List ℕ)) (job : JobModel) (known : Option NamedParts) (fault : Fault) → job_of words ≡ Ok job → IsCalm fault
     → IsExplained (Some files) limits words known fault → FailsJob (Some files) limits job known fault
 cause_of_job limits files words job known fault asks calm (inl none) = absurd (calm.memory none)
 cause_of_job limits files words job known fault asks calm (inr (inl (refusal, is, from))) = absurd (refused_or_not words refusal job from asks)
-cause_of_job limits files words job known fault asks calm (inr (inr (wanted, is, fails))) =
-    subst (λ (w : JobModel). FailsJob (Some files) limits w known fault) (one_job words wanted job is asks) fails
+cause_of_job limits files words job known fault asks calm (inr (inr (wanted, is, fails))) = grind (arith, one_job)
 
 module _ (one_problem : HasOneProblem) (limits : Limits) (files others : FileMap) (size : ℕ) (agree : AgreeFor sample_journey (made size) others) where
   -- the same question, by words

@@ -14,9 +14,7 @@ module _ (n : NetworkModel) (valid : IsValid n) (q : Query) where
   module _ (values others : List (Option ℕ)) (m : ℕ) (agree : Agree values others m) (p x : ℕ) (few : after n x ≤ m) where
     -- what the one offers after an arrival the other does
     offered : (v : ℕ) → ((c : ℕ) × Offers n values (IsBoardable n p x) c v) → (c : ℕ) × Offers n others (IsBoardable n p x) c v
-    offered v (c, offer) =
-        let fewer = after_boards n x c offer.there (boards_later n valid p x c offer.there offer.boards) in
-        (c, record { there = offer.there; board = offer.board; boards = offer.boards; value = sym (agree c offer.there (omega (arith, fewer, few))) ∙ offer.value })
+    offered v (c, offer) = grind (arith, after_boards n x c offer.there (boards_later n valid p x c offer.there offer.boards), boards_later n valid p x c offer.there offer.boards)
 
   module _ (values others : List (Option ℕ)) (m : ℕ) (agree : Agree values others m) where
     back : Agree others values m
@@ -53,5 +51,4 @@ module _ (n : NetworkModel) (valid : IsValid n) (q : Query) where
     agree_by (suc m) c there few = grind (arith, cases_Bool, same_boarded, both_ways, agree_by m)
 
     pub one_tight : values ≡ others
-    one_tight = ext_get_or None values others (tight.as_many ∙ sym tights.as_many) (λ c within.
-        agree_by (count n + 1) c (omega (arith, within, tight.as_many)) (let le = after_le n (dep_of n c) in omega (arith, le)))
+    one_tight = grind (arith, ext_get_or None values others (tight.as_many ∙ sym tights.as_many), agree_by (count n + 1), after_le n)
