@@ -1,5 +1,4 @@
 //! What can be printed: moments that have texts, and queries and trips that have names beside.
-ghost use Rattle.std.proofs.Props.{props};
 ghost use Rattle.std.specs.Prelude.{◌≡◌, ◌≤◌, ◌<◌, All, length};
 ghost use Rattle.printed_rows.specs.Writers.{place_name};
 ghost use Rattle.journey_model.specs.Sites.{last_printable};
