@@ -300,15 +300,7 @@ module _ (limits : Limits) (r s : RunModel) (first : IsRunWithin limits r) (seco
 
   pub worst_is_kept : WorstIsKept limits r
   worst_is_kept files j alpha p query graph one is query_is graph_is arrives =
-      let w = answered limits files r first one.untroubled j (Plan alpha) one.asks one.no_fault in
-      let (q, v, asked, (table, bounds, found, planned, printed, reads)) =
-      subst (λ (x : Problem). AnswersAsk (Some files) limits j.start x (Plan alpha) (findings_of r.report) w.text) (one_problem limits files j w.p p w.is_problem is) w.answers in
-      let same_query = one_some q query r.report.query (ap (λ (f : Findings). f.query) found) query_is in
-      let same_graph = one_some table graph r.report.graph (ap (λ (f : Findings). f.graph) found) graph_is in
-      let same_worst = one_some v query.deadline r.report.worst (ap (λ (f : Findings). f.worst) found) arrives in
-      let least = subst (λ (m : Moment). IsLeastWorst p.timetable.network q.source.0 q.target.0 q.start.0 (Some m)) same_worst asked.least in
-      let own_least = subst (λ (z : Query). IsLeastWorst p.timetable.network z.source.0 z.target.0 z.start.0 (Some query.deadline)) same_query least in
-      worst_kept p.timetable.network query graph bounds (rw (sym same_query, sym same_graph) planned) own_least
+      grind (arith, answered limits files r first one.untroubled j (Plan alpha) one.asks one.no_fault, one_some, worst_kept p.timetable.network query graph)
 
   pub later_is_no_worse : LaterIsNoWorse r s
   later_is_no_worse files others j alpha beta query other bounds later both well query_is other_is bounds_is later_is by =

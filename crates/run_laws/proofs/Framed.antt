@@ -138,11 +138,7 @@ module _ (limits : Limits) (files other : FileMap) where
     fails_by (Err e) h fault same fails = grind arith
 
     certificate_fails : (fault : Fault) → ReadsSame input.Proof path → FailsCertificate (Some other) limits start path p fault → FailsCertificate (Some files) limits start path p fault
-    certificate_fails fault same (of, fails) = (
-      of,
-      fails_by (bytes_of limits.bytes input.Proof (unread_input fault) (file_at other path)) (bytes_of limits.bytes input.Proof (unread_input fault) (file_at files path)) fault
-          (same (unread_input fault)) fails,
-    )
+    certificate_fails fault same (of, fails) = grind (arith, fails_by)
 
     either_graph : (P : Head → PlanGraph → Type 0) (fault : Fault) → ReadsSame input.Graph path → FailsGraph (Some other) limits start path p fault ⊎ InGraphFile (Some other) limits start path p P
         → FailsGraph (Some files) limits start path p fault ⊎ InGraphFile (Some files) limits start path p P

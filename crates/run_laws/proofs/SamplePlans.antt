@@ -60,15 +60,7 @@ module _ (one_problem : HasOneProblem) (limits : Limits) (files others : FileMap
       let (table, span, planned_is, best_too, printed, reads) = in_one_query p sample_journey.start sample_alpha (AnswersPlan p planned other) q t w u asked also reported in
       let one = one_planned p.timetable.network q graph table bounds span best best_too in
       let number = ap (λ (f : Findings). f.connections) found_is in
-      let same_found = found_is ∙ ap₂ (λ (g : PlanGraph) (b : Interval). sample_findings q w g b (count p.timetable.network)) one.0 one.1 in (
-        same_found ∙ ap₂ with_connections (sym planned_is) (sym number),
-        λ plan by connections plan_is by_is connections_is.
-            let same_plan = one.0 ∙ one_some table plan planned.graph (ap (λ (f : Findings). f.graph) planned_is) plan_is in
-            let same_bounds = one.1 ∙ one_some span by planned.bounds (ap (λ (f : Findings). f.bounds) planned_is) by_is in
-            let same_number = one_some (count p.timetable.network) connections found.connections number connections_is in
-            text_is ∙ ap (λ (n : ℕ). sample_text size n (leg_count graph) bounds) same_number
-            ∙ ap₂ (λ (g : PlanGraph) (b : Interval). sample_text size connections (leg_count g) b) same_plan same_bounds,
-      )
+      let same_found = found_is ∙ ap₂ (λ (g : PlanGraph) (b : Interval). sample_findings q w g b (count p.timetable.network)) one.0 one.1 in grind (arith, one_some)
 
   -- what a plan over the made files lacks, it lacks over the others
   over_others : (folder : FileMap) → SameFolder (made size) folder → (known : Option NamedParts) (fault : Fault) → FailsJourney (Some folder) limits sample_journey (Plan sample_alpha) known fault

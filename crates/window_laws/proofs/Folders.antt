@@ -1,13 +1,13 @@
 -- A folder with more trips has all that is in the one without.
-use Rattle.std.proofs.Common.{arith, ◌≤◌, ◌≡◌, ℕ, ◌<◌, List, length, Option, Some, None, Result, Ok, Err, IsOkAnd, refl, sym, ap, ap₂, ◌∙◌, subst}
+use Rattle.std.proofs.Common.{arith, ◌≤◌, ◌≡◌, ℕ, ◌<◌, List, length, Option, Some, None, Result, Ok, IsOkAnd, refl, sym, ap, ap₂, ◌∙◌, subst}
 use Rattle.plan_model.specs.Results.{and_then, unless}
 use Rattle.file_ports.specs.Ports.{FileMap}
 use Rattle.csv_rows.specs.declared.limits.Limits.{Limits}
 use Rattle.csv_rows.specs.declared.feed_tables.Table.{Table}
-use Rattle.csv_rows.specs.declared.feed_tables.Table.TheVariants.{Stops, Routes, Trips, StopTimes, Frequencies, Transfers}
+use Rattle.csv_rows.specs.declared.feed_tables.Table.TheVariants.{Stops, Routes, Trips, StopTimes, Frequencies}
 use Rattle.csv_rows.specs.declared.feed_tables.FeedFault.{FeedFault}
 use Rattle.table_files.specs.declared.loading.Loaded.{Loaded}
-use Rattle.table_files.specs.Loading.{load_in, loaded_rows}
+use Rattle.table_files.specs.Loading.{load_in}
 use Rattle.table_files.specs.Required.{Records}
 use Rattle.feed_lists.specs.Lists.{stops_from, routes_from, trips_from}
 use Rattle.feed_lists.specs.Stops.{stop_ids, stop_places, stops_fault}
@@ -19,8 +19,8 @@ use Rattle.trip_frequencies.specs.Frequencies.{frequencies_from, fault_of_freque
 use Rattle.gtfs_tables.specs.Feeds.{FeedParts, Tables, IsFeed, IsFeedOf, IsSoundFeed, tables_from}
 unfoldable use Rattle.gtfs_tables.specs.Feeds.{tables_in}
 use Rattle.service_days.specs.Services.{ServiceParts, runs}
-use Rattle.service_days.specs.Calendars.{Calendars, RunsBy, calendars_in}
-use Rattle.change_times.specs.Changes.{ChangeParts, AreCollectedChanges, place_seconds, links_of, change_time, links_in, transfers_from, fault_of_transfers}
+use Rattle.service_days.specs.Calendars.{Calendars, RunsBy}
+use Rattle.change_times.specs.Changes.{ChangeParts, AreCollectedChanges, place_seconds, links_of, change_time, links_in, transfers_from}
 unfoldable use Rattle.change_times.specs.Transfers.{transfer_at}
 use Rattle.journey_problem.specs.FeedProblems.{GtfsFolder, IsFolder}
 use Rattle.window_laws.specs.MoreTrips.{HasLinks, HasAllOf}
@@ -34,8 +34,7 @@ no_more same = omega (arith, same)
 
 -- a part that is read where the one before it is
 then_parts : {A B E : Type 0} (r : Result A E) (next : A → Result B E) (b : B) → and_then r next ≡ Ok b → (a : A) × (r ≡ Ok a) × (next a ≡ Ok b)
-then_parts (Ok a) next b is = (a, refl, is)
-then_parts (Err e) next b is = absurd (cc)
+then_parts r next b is = grind arith
 
 unless_parts : {A E : Type 0} (o : Option E) (a b : A) → unless o a ≡ Ok b → (o ≡ None) × (a ≡ b)
 unless_parts {A} {E} None a b is = let same : a ≡ b = cc in (refl, same)
@@ -43,10 +42,7 @@ unless_parts (Some e) a b is = absurd (cc)
 
 -- a table that is read has no fault
 no_fault : {T : Type 0} (r : Result T FeedFault) (fault : T → Option FeedFault) (t : T) → and_then r (λ t. unless (fault t) t) ≡ Ok t → fault t ≡ None
-no_fault r fault t is =
-    let (a, read, whole) = then_parts r (λ t. unless (fault t) t) t is in
-    let parts = unless_parts (fault a) a t whole in
-    ap fault (sym parts.1) ∙ parts.0
+no_fault r fault t is = grind (arith, then_parts, unless_parts)
 
 module _ (load : Table → Result Loaded FeedFault) (t : Tables) (is : tables_from load ≡ Ok t) (f : FeedParts) (feed : IsFeed t f) where
   sound : (s : IsSoundFeed f) × (s.tables ≡ t)
@@ -94,14 +90,11 @@ module _ (f g : FeedParts) (stops : g.stop_ids ≡ f.stop_ids) (places : g.place
   module _ (c d : ChangeParts) where
     collected : (o p : Option FeedFault) (t : Records) → IsOkAnd (unless o t) (AreCollectedChanges f c) → IsOkAnd (unless p t) (AreCollectedChanges g d)
         → AreCollectedChanges f c t × AreCollectedChanges g d t
-    collected None None t a b = (a, b)
-    collected (Some e) p t a b = absurd a
-    collected None (Some e) t a b = absurd b
+    collected o p t a b = grind arith
 
     both_collected : (l : Result Loaded FeedFault) → IsOkAnd (transfers_from f l) (AreCollectedChanges f c) → IsOkAnd (transfers_from g l) (AreCollectedChanges g d)
         → (t : Records) × AreCollectedChanges f c t × AreCollectedChanges g d t
-    both_collected (Ok l) a b = let both = collected (fault_of_transfers f l) (fault_of_transfers g l) (loaded_rows l) a b in (loaded_rows l, both.0, both.1)
-    both_collected (Err e) a b = absurd a
+    both_collected l a b = grind (arith, collected)
 
     changes_same : (t : Records) → AreCollectedChanges f c t → AreCollectedChanges g d t → (place : ℕ) → place_seconds d place ≡ place_seconds c place
     changes_same t a b place = b.seconds place ∙ time_same t place ∙ sym (a.seconds place)
@@ -129,14 +122,10 @@ module _ (limits : Limits) (files others : FileMap) (folder other : List ℕ) (m
   own_places = there.0.feed.places_of_stops ∙ ap stop_places among.stops ∙ sym here.0.feed.places_of_stops
 
   collected_both : (t : Records) × AreCollectedChanges h.feed h.changes t × AreCollectedChanges k.feed k.changes t
-  collected_both = both_collected h.feed k.feed stops_same own_places h.changes k.changes (load_in files folder limits None Transfers) is.changes
-      (subst (λ (l : Result Loaded FeedFault). IsOkAnd (transfers_from k.feed l) (AreCollectedChanges k.feed k.changes)) more.transfers are.changes)
+  collected_both = grind (arith, both_collected, stops_same, own_places)
 
   run_no_less : RunNoLess h.services k.services
-  run_no_less =
-      let before = days_of (calendars_in files folder limits None) more.days h.services more.reads_days is.services in
-      let after = days_of (calendars_in others other limits None) more.more_days k.services more.reads_more_days are.services in
-      λ service day active. after service day ∙ more.active service day (sym (before service day) ∙ active)
+  run_no_less = grind (arith, days_of)
 
   pub has_all : HasAllOf h k
   has_all =

@@ -1,5 +1,5 @@
 -- The connections of a feed in a window are among those of one with more trips in a larger window.
-use Rattle.std.proofs.Common.{◌≡◌, ℕ, [], ◌<◌, ◌≤◌, Option, Some, List, length, map, All, Contains, inl, inr, refl, sym, ap, ap₂, ◌∙◌, subst, arith}
+use Rattle.std.proofs.Common.{◌≡◌, ℕ, [], ◌<◌, ◌≤◌, Option, List, length, map, All, Contains, inl, inr, refl, sym, ap, ◌∙◌, subst, arith}
 use Rattle.std.proofs.lemmas.Bool.{cases_lt}
 use Rattle.std.proofs.lemmas.List.{get_or_default}
 use Rattle.std.proofs.lemmas.List.Elements.{All-weaker, All-map}
@@ -12,7 +12,7 @@ use Rattle.gtfs_tables.specs.Feeds.{FeedParts}
 use Rattle.gtfs_tables.specs.Timed.{rows_of}
 use Rattle.service_days.specs.Services.{ServiceParts}
 use Rattle.change_times.specs.Changes.{place_seconds, links_of}
-use Rattle.delay_table.specs.DelayLists.{DelayLists, class_for}
+use Rattle.delay_table.specs.DelayLists.{DelayLists}
 use Rattle.connections.specs.Window.{window_of}
 use Rattle.connections.specs.Steps.{steps_of}
 use Rattle.connections.specs.TripRuns.{run_at, no_run, window_runs}
@@ -26,7 +26,7 @@ use Rattle.service_laws.proofs.Changes.{connections_alike, changes_alike, links_
 use Rattle.service_laws.proofs.Compose.{alike_twice}
 use Rattle.csv_rows.proofs.ListLemmas.{length-list_below, get-list_below}
 use Rattle.plan_model.specs.declared.model.Way.{Way}
-use Rattle.plan_model.specs.Network.{IsValid, AreLinks}
+use Rattle.plan_model.specs.Network.{IsValid}
 unfoldable use Rattle.plan_model.specs.Network.{connection, change_of, row_of}
 use Rattle.std.proofs.Common.{slice_index, slice_index_or}
 use Rattle.service_laws.proofs.Found.{safe_as_good, safe_no_worse, least_no_later}
@@ -75,9 +75,7 @@ module _ (start horizon at longer : ℕ) (within : IsWithin start horizon at lon
     number r = (pick r).0
 
     same_class : (trip other : ℕ) → IsTripOf less s more t trip other → class_of_trip more d other ≡ class_of_trip less d trip
-    same_class trip other is =
-        let by : ℕ → List ℕ → ℕ → ℕ = λ kind route arr. class_for d (Some kind) (Some route) arr in
-        ap₂ by is.type_of_route is.route
+    same_class trip other is = grind arith
 
     run_there : (r : ℕ) → r < length runs → All (λ c. Contains (run_connections more d v others (number r)) (renamed number c)) (run_connections less d w runs r)
     unfolding run_connections
@@ -108,9 +106,7 @@ module _ (less more : Timetable) (part : IsPartOf less more) (d : DelayLists) (s
   places = length less.parts.feed.stop_ids
 
   size : length large.change ≡ length small.change
-  size =
-      ap length are.is.change_of_places ∙ length-list_below (place_seconds more.parts.changes) (length more.parts.feed.stop_ids) ∙ part.all.places
-      ∙ sym (ap length is.is.change_of_places ∙ length-list_below (place_seconds less.parts.changes) places)
+  size = grind (arith, length-list_below)
 
   inside_of : (place : ℕ) → place < length small.change → place < places
   inside_of place h = omega (arith, h, ap length is.is.change_of_places, length-list_below (place_seconds less.parts.changes) places)
@@ -132,30 +128,7 @@ module _ (less more : Timetable) (part : IsPartOf less more) (d : DelayLists) (s
 
   shorter_valid : IsValid shorter
   unfolding connection change_of row_of
-  shorter_valid =
-      let v = is.valid in
-      record {
-        rising = v.rising;
-        onward = v.onward;
-        connections = λ i h.
-            let c = v.connections i h in
-            record {
-              forward = c.forward;
-              early = c.early;
-              from_in = omega (arith, c.from_in, size);
-              to_in = omega (arith, c.to_in, size);
-              class_in = c.class_in;
-              step_in = c.step_in;
-            };
-        runs = v.runs;
-        changes = are.valid.changes;
-        links = subst (λ (n : ℕ). AreLinks n small.links) (sym size) v.links;
-        rows = v.rows;
-        few_connections = v.few_connections;
-        few_places = omega (arith, v.few_places, size);
-        few_classes = v.few_classes;
-        class_0 = v.class_0;
-      }
+  shorter_valid = grind (arith, size)
 
   -- and with the links
   abbrev linked : NetworkModel

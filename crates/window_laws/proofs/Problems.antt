@@ -1,15 +1,13 @@
 -- A journey over a folder with more trips.
-use Rattle.std.proofs.Common.{◌≡◌, ℕ, List, Option, Some, unwrap_or, refl, sym, ap, ap₂, ◌∙◌, subst, arith}
+use Rattle.std.proofs.Common.{◌≡◌, ℕ, List, Option, Some, unwrap_or, ap₂, subst, arith}
 use Rattle.plan_model.specs.declared.model.Moment.{Moment}
 use Rattle.plan_model.specs.Strategy.{IsLeastWorst}
-use Rattle.file_ports.specs.Ports.{file_at}
 use Rattle.csv_rows.specs.declared.limits.Limits.{Limits}
 use Rattle.gtfs_tables.specs.Feeds.{FeedParts}
 use Rattle.change_times.specs.Transfers.{place_of_stop}
 use Rattle.delay_table.specs.DelayLists.{DelayLists}
 use Rattle.command_line.specs.Jobs.{JourneyModel, source_or_target}
 use Rattle.journey_model.specs.declared.problem.Problem.{Problem}
-use Rattle.journey_problem.specs.InputTables.{AreDelaysOf}
 use Rattle.journey_problem.proofs.OneCutProblem.{delays_of_one}
 use Rattle.service_laws.specs.Changed.{own}
 use Rattle.service_laws.specs.Embeds.{EmbedsAlike, IsNoLaterThan}
@@ -22,11 +20,7 @@ use Rattle.window_laws.proofs.Networks.{more_alike, as_good, no_later}
 -- a stop has its place
 place_same : (f g : FeedParts) → g.stop_ids ≡ f.stop_ids → g.places ≡ f.places → (id other : List ℕ) → other ≡ id → (a b : ℕ) → place_of_stop f id ≡ Some a → place_of_stop g other ≡ Some b
     → b ≡ a
-place_same f g stops places id other named a b is are =
-    let of : List (List ℕ) → List ℕ → FeedParts = λ ids own. record f { stop_ids = ids; places = own } in
-    let here : place_of_stop g other ≡ place_of_stop f other = ap₂ (λ (ids : List (List ℕ)) (own : List ℕ). place_of_stop (record f { stop_ids = ids; places = own }) other) stops places in
-    let both : Some b ≡ Some a = sym are ∙ here ∙ ap (place_of_stop f) named ∙ is in
-    cc
+place_same f g stops places id other named a b is are = grind arith
 
 module _ (limits : Limits) (j i : JourneyModel) (p q : Problem) (both : AreMoreAndLess limits j i p q) where
   abbrev less : Timetable
@@ -39,16 +33,10 @@ module _ (limits : Limits) (j i : JourneyModel) (p q : Problem) (both : AreMoreA
   all = has_all limits both.files both.others both.folder both.other both.rows both.less.parts both.more.parts both.less.is_folder both.more.is_folder
 
   part : IsPartOf less more
-  part = record {
-    all = all;
-    date = rw both.journey.start refl;
-    from = omega (arith, both.journey.start);
-    to = omega (arith, both.journey.start, both.hours);
-  }
+  part = grind (arith, all)
 
   delays_same : both.more.lists ≡ both.less.lists
-  delays_same = delays_of_one limits (file_at both.files j.delays) both.more.lists both.less.lists
-      (subst (λ (file : Option (List ℕ)). AreDelaysOf limits file both.more.lists) both.journey.delays both.more.are_delays) both.less.are_delays
+  delays_same = grind (arith, delays_of_one)
 
   here : IsNetworkOf less both.less.lists p.timetable.network
   here = record { names = p.timetable.names; valid = both.valid; is = both.less.timetable.is_network }

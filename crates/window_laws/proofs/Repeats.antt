@@ -56,19 +56,15 @@ below_has : {A : Type 0} (f : ℕ → A) (n k : ℕ) → k < n → Contains (lis
 below_has f n k inside = (k, omega (arith, inside, length-list_below f n), get-list_below f n k (f k) inside)
 
 below_from : {A : Type 0} (f : ℕ → A) (n : ℕ) (x : A) → Contains (list_below f n) x → (k : ℕ) × (k < n) × (f k ≡ x)
-below_from f n x has =
-    let inside : has.0 < n = omega (arith, has.1, length-list_below f n) in
-    (has.0, inside, sym (get-list_below f n has.0 x inside) ∙ has.2)
+below_from f n x has = grind (arith, length-list_below, get-list_below)
 
 -- of two readings that differ in what follows, and in their faults
 both : {A B E : Type 0} (P : Result B E → Result B E → Type 0) → ((e f : E) → P (Err e) (Err f)) → (o : Option A) (e f : E) (n m : A → Result B E)
     → ((a : A) → P (n a) (m a)) → P (require o e n) (require o f m)
-both P base None e f n m each = base e f
-both P base (Some a) e f n m each = each a
+both P base f e is n m each = grind arith
 
 read_on : {A B E : Type 0} (P : Result B E → Type 0) → ((e : E) → P (Err e)) → (o : Option A) (e : E) (n : A → Result B E) → ((a : A) → o ≡ Some a → P (n a)) → P (require o e n)
-read_on P base None e n each = base e
-read_on P base (Some a) e n each = each a refl
+read_on P base o e n each = grind arith
 
 abbrev Read : Type 0
 Read = Result TripFrequency FeedFault
@@ -145,8 +141,7 @@ read_of trips Absent none = λ p inside. absurd (omega (arith, inside))
 read_of trips NoRecord none = λ p inside. absurd (omega (arith, inside))
 
 value_is : (r : Read) → result_err r ≡ None → (x : TripFrequency) → value_or no_frequency r ≡ x → r ≡ Ok x
-value_is (Ok a) none x is = ap (λ (z : TripFrequency). Ok z) is
-value_is (Err e) none x is = absurd (let no : Some e ≡ None = none in cc)
+value_is r none x is = grind arith
 
 module _ (trips others t u : Records) (i j : ℕ) (one : IsSameRow trips others i j) (unique : AreDistinct (trip_ids others)) where
   row_too : (p q : ℕ) → IsSameRow t u p q → IsReadToo i j (frequency_at (trip_ids trips) t p) (frequency_at (trip_ids others) u q)

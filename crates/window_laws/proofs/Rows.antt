@@ -1,5 +1,5 @@
 -- What is read of the same row under two numbers.
-use Rattle.std.proofs.Common.{◌≡◌, ℕ, ◌+◌, ◌-◌, ◌<◌, ◌++◌, inl, inr, length-append, List, [], length, slice_index_or, Option, Some, None, Result, Contains, refl, sym, ap, ◌∙◌, subst, arith}
+use Rattle.std.proofs.Common.{◌≡◌, ℕ, ◌+◌, ◌-◌, ◌<◌, ◌++◌, inl, inr, length-append, List, [], length, slice_index_or, Option, Some, Result, Contains, refl, sym, ap, ◌∙◌, subst, arith}
 use Rattle.std.proofs.lemmas.Option.{slice_get-get_or}
 use Rattle.plan_model.specs.NameLists.{AreDistinct}
 use Rattle.plan_model.specs.Results.{require, value_or}
@@ -18,19 +18,16 @@ use Rattle.window_laws.specs.MoreRows.{IsSameRow, HasRows, AddsRows}
 -- of two readings that differ in what follows, and in their faults
 pub both : {A B E : Type 0} (P : B → B → Type 0) (d : B) → P d d → (o : Option A) (e f : E) (n m : A → Result B E)
     → ((a : A) → P (value_or d (n a)) (value_or d (m a))) → P (value_or d (require o e n)) (value_or d (require o f m))
-both P d base None e f n m each = base
-both P d base (Some a) e f n m each = each a
+both P d base o e f n m each = grind arith
 
 -- of one reading: what follows is read where this part is there
 pub read_on : {A B E : Type 0} (P : B → Type 0) (d : B) → P d → (o : Option A) (e : E) (n : A → Result B E) → ((a : A) → o ≡ Some a → P (value_or d (n a)))
     → P (value_or d (require o e n))
-read_on P d base None e n each = base
-read_on P d base (Some a) e n each = each a refl
+read_on P d base o e n each = grind arith
 
 -- a field of the fields of a row
 pub field_of-at : (t : Records) (o : Option ℕ) (i : ℕ) → field_of (slice_index_or t (i + 1) []) o ≡ field_at t o i
-field_of-at t None i = refl
-field_of-at t (Some k) i = refl
+field_of-at t o i = grind arith
 
 module _ (t u : Records) (i j : ℕ) (same : IsSameRow t u i j) where
   pub same_index : (column : Column) → index_of column u ≡ index_of column t
@@ -59,12 +56,7 @@ turned t u i j same = record { here = same.there; there = same.here; headers = s
 -- rows that are appended
 module _ (t rows : Records) (some : 0 < length t) where
   kept : (i : ℕ) → i < row_count t → IsSameRow t (t ++ rows) i i
-  kept i inside = record {
-    here = inside;
-    there = omega (arith, inside, length-append t rows);
-    headers = get_or_append_left t rows [] 0 some;
-    fields = get_or_append_left t rows [] (i + 1) (omega (arith, inside));
-  }
+  kept i inside = grind (arith, length-append, get_or_append_left)
 
   pub appended : HasRows t (t ++ rows)
   appended i inside = (i, kept i inside)

@@ -1,27 +1,26 @@
 -- The feed of some tables has the trips of that of fewer rows.
-use Rattle.std.proofs.Common.{◌≡◌, ℕ, ◌+◌, ◌<◌, List, [], length, slice_index, slice_index_or, None, refl, sym, ap, ap₂, ◌∙◌, subst, arith}
+use Rattle.std.proofs.Common.{◌≡◌, ℕ, ◌<◌, List, [], length, slice_index, slice_index_or, None, sym, ap, ap₂, ◌∙◌, subst, arith}
 use Rattle.plan_model.specs.NameLists.{AreDistinct}
-use Rattle.csv_rows.specs.Names.{name_in}
-use Rattle.csv_rows.specs.declared.columns.Column.TheVariants.{RouteId, ServiceId, TripId}
+use Rattle.csv_rows.specs.declared.columns.Column.TheVariants.{TripId}
 use Rattle.csv_rows.specs.declared.feed_tables.Table.TheVariants.{Trips}
 use Rattle.csv_rows.specs.First.{first_below}
 use Rattle.csv_rows.specs.RowFaults.{repeated_id}
-use Rattle.csv_rows.specs.Tables.{row_count, number_in, field}
+use Rattle.csv_rows.specs.Tables.{row_count, field}
 use Rattle.csv_rows.proofs.IdLemmas.{ids_differ}
 use Rattle.csv_rows.proofs.FirstLemmas.{none-both}
 use Rattle.csv_rows.proofs.ListLemmas.{length-list_below, get-list_below}
 use Rattle.table_files.specs.Required.{Records}
 use Rattle.table_files.specs.Loading.{loaded_rows}
-use Rattle.feed_lists.specs.Routes.{route_ids, route_types}
+use Rattle.feed_lists.specs.Routes.{route_ids}
 use Rattle.feed_lists.specs.Stops.{stop_ids, stop_places}
-use Rattle.feed_lists.specs.Trips.{Trip, trip_from, trip_or_none, trip_ids}
+use Rattle.feed_lists.specs.Trips.{Trip, trip_or_none, trip_ids}
 unfoldable use Rattle.feed_lists.specs.Trips.{trip_at, trips_fault}
 use Rattle.trip_frequencies.specs.Frequencies.{repeats_of, frequency_rows}
 use Rattle.stop_times.specs.StopTimes.{timed_rows}
 use Rattle.stop_times.specs.Visits.{AreStopTimes}
 use Rattle.gtfs_tables.specs.Feeds.{FeedParts, IsSoundFeed}
 use Rattle.gtfs_tables.specs.Timed.{rows_of}
-use Rattle.service_days.specs.Services.{ServiceParts, runs}
+use Rattle.service_days.specs.Services.{ServiceParts}
 use Rattle.connections.specs.TripRuns.{frequencies_of}
 use Rattle.connections.specs.FeedNetworks.{route_of}
 use Rattle.window_laws.specs.MoreRows.{IsSameRow, AreAmongTables, RunNoLess}
@@ -44,14 +43,7 @@ distinct_trips routes t none i j less inside same =
 -- the same row is read alike
 same_trip : (routes : List (List ℕ)) (t u : Records) (i j : ℕ) → IsSameRow t u i j → trip_or_none (trip_at routes u j) ≡ trip_or_none (trip_at routes t i)
 unfolding trip_at
-same_trip routes t u i j same =
-    let Same : Trip → Trip → Type 0 = λ a b. a ≡ b in
-    let read : (route service id : List ℕ) → trip_or_none (trip_from routes (j + 2) route service id) ≡ trip_or_none (trip_from routes (i + 2) route service id) = λ route service id.
-    both Same (record { route = 0; service = []; id = [] }) refl (name_in route) _ _ _ _ (λ name.
-    both Same (record { route = 0; service = []; id = [] }) refl (number_in name routes) _ _ _ _ (λ number.
-    both Same (record { route = 0; service = []; id = [] }) refl (name_in service) _ _ _ _ (λ text.
-    both Same (record { route = 0; service = []; id = [] }) refl (name_in id) _ _ _ _ (λ own. refl)))) in
-    rw (same_field t u i j same RouteId, same_field t u i j same ServiceId, same_field t u i j same TripId) (read (field t RouteId i) (field t ServiceId i) (field t TripId i))
+same_trip routes t u i j same = grind (arith, both, same_field)
 
 module _ (less more : FeedParts) (a : IsSoundFeed less) (b : IsSoundFeed more) (among : AreAmongTables a.tables b.tables) where
   routes_same : route_ids b.tables.routes ≡ route_ids a.tables.routes
@@ -65,27 +57,16 @@ module _ (less more : FeedParts) (a : IsSoundFeed less) (b : IsSoundFeed more) (
     theirs = trip_or_none (trip_at (route_ids b.tables.routes) b.tables.trips j)
 
     one_trip : theirs ≡ ours
-    one_trip =
-        ap (λ (routes : List (List ℕ)). trip_or_none (trip_at routes b.tables.trips j)) routes_same
-        ∙ same_trip (route_ids a.tables.routes) a.tables.trips b.tables.trips i j same
+    one_trip = grind (arith, routes_same, same_trip)
 
     service_same : slice_index_or more.services j [] ≡ slice_index_or less.services i []
-    service_same =
-        ap (λ (xs : List (List ℕ)). slice_index_or xs j []) b.feed.services_of_trips ∙ get-list_below _ (row_count b.tables.trips) j [] same.there
-        ∙ ap (λ (trip : Trip). trip.service) one_trip
-        ∙ sym (ap (λ (xs : List (List ℕ)). slice_index_or xs i []) a.feed.services_of_trips ∙ get-list_below _ (row_count a.tables.trips) i [] same.here)
+    service_same = grind (arith, get-list_below, one_trip)
 
     type_same : slice_index more.route_types j ≡ slice_index less.route_types i
-    type_same =
-        ap (λ (xs : List ℕ). slice_index xs j) b.feed.types_of_trips ∙ get-list_below _ (row_count b.tables.trips) j 0 same.there
-        ∙ ap₂ (λ (types : List ℕ) (trip : Trip). slice_index types trip.route) (ap route_types among.routes) one_trip
-        ∙ sym (ap (λ (xs : List ℕ). slice_index xs i) a.feed.types_of_trips ∙ get-list_below _ (row_count a.tables.trips) i 0 same.here)
+    type_same = grind (arith, get-list_below, one_trip)
 
     number_same : slice_index more.routes j ≡ slice_index less.routes i
-    number_same =
-        ap (λ (xs : List ℕ). slice_index xs j) b.feed.routes_of_trips ∙ get-list_below _ (row_count b.tables.trips) j 0 same.there
-        ∙ ap (λ (trip : Trip). trip.route) one_trip
-        ∙ sym (ap (λ (xs : List ℕ). slice_index xs i) a.feed.routes_of_trips ∙ get-list_below _ (row_count a.tables.trips) i 0 same.here)
+    number_same = grind (arith, get-list_below, one_trip)
 
     route_same : route_of more j ≡ route_of less i
     route_same = ap₂ (λ (ids : List (List ℕ)) (k : ℕ). slice_index_or ids k []) (b.feed.routes ∙ routes_same ∙ sym a.feed.routes) number_same
@@ -125,17 +106,7 @@ module _ (less more : FeedParts) (a : IsSoundFeed less) (b : IsSoundFeed more) (
 
   pub trips_among : (s t : ServiceParts) → RunNoLess s t → HasTrips less s more t
   trips_among s t days trip inside =
-      let (other, same) = among.trips trip (omega (arith, inside, size_less)) in (
-        other,
-        record {
-          inside = omega (arith, same.there, size_more);
-          rows = rows_same trip other same;
-          repeats = repeats_same trip other same;
-          type_of_route = type_same trip other same;
-          route = route_same trip other same;
-          active = λ day active. ap (λ (service : List ℕ). runs t service day) (service_same trip other same) ∙ days (slice_index_or less.services trip []) day active;
-        },
-      )
+      let (other, same) = among.trips trip (omega (arith, inside, size_less)) in grind (arith, size_more, rows_same, repeats_same, type_same, route_same, service_same)
 
   pub places_same : length more.stop_ids ≡ length less.stop_ids
   places_same = ap length (b.feed.stops ∙ ap stop_ids among.stops ∙ sym a.feed.stops)

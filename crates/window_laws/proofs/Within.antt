@@ -1,6 +1,5 @@
 -- The runs of a window are among those of a larger one.
-use Rattle.std.proofs.Common.{◌≡◌, ℕ, ℤ, pos, ◌-◌, ◌+◌, ◌*◌, ◌/◌, ◌≤◌, true, nat_lt, int_le, List, [], ◌∷◌, length, All, Contains, refl, sym, ap, subst, arith}
-use Rattle.std.proofs.Common.{inl, inr, ltb-true, lt-ltb, ◌∙◌}
+use Rattle.std.proofs.Common.{◌≡◌, ℕ, ℤ, pos, ◌-◌, ◌+◌, ◌*◌, ◌/◌, ◌≤◌, true, int_le, List, [], ◌∷◌, length, All, Contains, refl, sym, ap, subst, arith, inl, inr, ltb-true, lt-ltb, ◌∙◌}
 use Rattle.std.proofs.lemmas.Bool.{and_parts, and_from, cond_both}
 use Rattle.std.proofs.lemmas.List.{get_or_default}
 use Rattle.std.proofs.lemmas.List.Elements.{All-weaker}
@@ -13,7 +12,6 @@ use Rattle.stop_times.specs.declared.rows.StopRow.{StopRow}
 use Rattle.stop_times.specs.StopTimeBounds.{end_of_times}
 use Rattle.trip_frequencies.specs.declared.frequencies.FrequencyRow.{FrequencyRow}
 use Rattle.gtfs_tables.specs.TripRepeats.{repeat_at}
-use Rattle.run_repeat.specs.Runs.{departure}
 use Rattle.connections.specs.Window.{window_of, day_at, holds}
 use Rattle.connections.specs.Origins.{origin_of_day}
 use Rattle.connections.specs.Steps.{departs, steps_of, has_connection}
@@ -84,9 +82,7 @@ module _ (start horizon at longer : ℕ) (within : IsWithin start horizon at lon
 
   module _ (rows : List StopRow) (day : ServiceDay) where
     repeat_too : (row : FrequencyRow) (m : ℕ) → is_repeat w rows day row m ≡ true → is_repeat v rows day row m ≡ true
-    repeat_too row m is =
-        let (sooner, some) = and_parts (nat_lt (departure row m) row.end) (has_connection w rows (origin_at rows day (departure row m))) is in
-        and_from (nat_lt (departure row m) row.end) (has_connection v rows (origin_at rows day (departure row m))) sooner (some_too rows (origin_at rows day (departure row m)) some)
+    repeat_too row m is = grind (arith, and_parts, and_from, some_too)
 
     row_too : (row : FrequencyRow) (line : ℕ) → All (Has SameStart (row_repeats v rows day (on_line line row))) (row_repeats w rows day row)
     unfolding row_repeats
