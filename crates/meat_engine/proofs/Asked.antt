@@ -1,6 +1,6 @@
 -- What a line of `ask_over` promises, said of what is asked.
-use Rattle.meat_engine.proofs.Common.{arith, ◌≡◌, ℕ, Option, None, Some, Result, Ok, Err, sym, subst, ◌≢◌, IfOk, IfErr, FileMap, FilesState, Limits, AskModel, ask_shown, Fault, NoSafe, NoMemory}
-use Rattle.meat_engine.proofs.Common.{Problem, unread_input, parts_of, HasSite, OrNoMemory, Answer, findings_of, HasCauses, own_paths, AnswersAsk, FailsAsk}
+use Rattle.meat_engine.proofs.Common.{arith, ◌≡◌, ℕ, Option, None, Some, Result, sym, subst, ◌≢◌, IfOk, IfErr, FileMap, FilesState, Limits, AskModel, ask_shown, Fault, NoSafe, NoMemory, Problem}
+use Rattle.meat_engine.proofs.Common.{unread_input, parts_of, HasSite, OrNoMemory, Answer, findings_of, HasCauses, own_paths, AnswersAsk, FailsAsk}
 use Rattle.command_line.specs.declared.job.Ask.{Ask}
 use Rattle.meat_engine.proofs.Asking.{unsafe_reported}
 
@@ -23,8 +23,7 @@ module _ (contents : Option FileMap) (limits : Limits) (start : ℕ) (p : Proble
 
   alone : (ask : AskModel) → ((fault : Fault) → FailsAsk contents limits start p ask fault → fault ≡ NoSafe) → (r : Result Answer Fault)
       → IfOk r (λ a. AnswersAsk contents limits start p ask (findings_of a.report) a.text.items) → IfErr r (OrNoMemory (FailsAsk contents limits start p ask)) → IsAnsweredAlone ask r
-  alone ask unsafe (Ok a) answer fails = record { own = record { answer = answer; fault = tt }; has_site = tt; unread = tt }
-  alone ask unsafe (Err fault) answer fails = grind (arith, unsafe_reported)
+  alone ask unsafe r answer fails = grind (arith, unsafe_reported)
 
   pub alone-asked : {ask asked : Ask} (r : Result Answer Fault) → ask ≡ asked
       → ((fault : Fault) → FailsAsk contents limits start p (ask_shown asked) fault → fault ≡ NoSafe)

@@ -3,7 +3,7 @@ pub use Rattle.std.proofs.Common.{Err, IfErr, IfOk, IsSome, List, None, Ok, OnEr
 pub use Rattle.std.proofs.Common.{◌≡◌, ◌≢◌, ◌⊎◌}
 pub use Rattle.std.specs.Io.KnownBytes.{Appends, Keeps}
 pub use Rattle.file_ports.specs.Loading.{AppendsFront}
-pub use Rattle.command_line.specs.Jobs.{Ask, AskModel, Certify, CheckGraph, CheckProof, Departures, Expand, JobModel, JourneyModel, Latest, Plan, Punctual, Reach, Replay, Replay as Replays, Safe, Sample}
+pub use Rattle.command_line.specs.Jobs.{Ask, AskModel, Certify, CheckGraph, CheckProof, Departures, Expand, JobModel, JourneyModel, Latest, Plan, Punctual, Reach, Replay as Replays, Safe, Sample}
 pub use Rattle.command_line.specs.Jobs.{SourceModel, job_of}
 pub use Rattle.command_line.specs.Shown.{ask_shown, journey_shown, wanted_job}
 pub use Rattle.csv_rows.specs.declared.limits.Limits.{Limits}

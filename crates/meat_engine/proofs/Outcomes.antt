@@ -1,37 +1,19 @@
 -- What a run comes to.
-use Rattle.meat_engine.proofs.Common.{arith, ◌≡◌, ℕ, List, Option, Some, None, Ok, inl, inr, refl, sym, subst, ⊎_elim, ◌∙◌, ◌≢◌, ◌⊎◌, Keeps, FileMap, Limits, AskModel, Safe, Expand, Plan, Replays}
-use Rattle.meat_engine.proofs.Common.{Certify, CheckProof, CheckGraph, Punctual, Departures, Latest, Reach, JobModel, Ask, Sample, job_of, Input, Fault, Missing, Limit, Read, Write, NoMemory, line_of}
-use Rattle.meat_engine.proofs.Common.{IsFormatted, NamedParts, Problem, Report, FailsAsk, Findings, findings_of, no_findings}
-use Rattle.meat_engine.proofs.Common.{AnswersJob, Appends, AppendsFront, HasAnswer, FailsJob, IsExplained, IsRefused, IsRefusedWith, IsWritten, IsLineWritten, Outcome}
+use Rattle.meat_engine.proofs.Common.{arith, ◌≡◌, ℕ, List, Option, Some, None, Ok, inl, inr, sym, subst, ⊎_elim, ◌∙◌, ◌≢◌, ◌⊎◌, Keeps, FileMap, Limits, AskModel, JobModel, job_of, Input, Fault}
+use Rattle.meat_engine.proofs.Common.{Missing, Limit, Read, Write, NoMemory, line_of, IsFormatted, NamedParts, Problem, Report, FailsAsk, Findings, findings_of, no_findings, AnswersJob, Appends}
+use Rattle.meat_engine.proofs.Common.{AppendsFront, HasAnswer, FailsJob, IsExplained, IsRefused, IsRefusedWith, IsWritten, IsLineWritten, Outcome}
 use Rattle.std.proofs.lemmas.Option.{same_Some}
 
 pub no_memory_or_not : (fault : Fault) → (fault ≡ NoMemory) ⊎ (fault ≢ NoMemory)
-no_memory_or_not NoMemory = inl refl
-no_memory_or_not _ = inr (λ same. absurd (cc))
+no_memory_or_not fault = grind arith
 
 module _ (contents : Option FileMap) (limits : Limits) (words : List (List ℕ)) where
   -- what is asked does not fail because its answer cannot be written
   ask_write : (start : ℕ) (p : Problem) (ask : AskModel) → FailsAsk contents limits start p ask Write → ⊥
-  ask_write start p (Safe alpha) (is, none) = cc
-  ask_write start p (Expand alpha) (is, none) = cc
-  ask_write start p (Plan alpha) (is, none) = cc
-  ask_write start p (Replays graph late) (inl of) = absurd of.0
-  ask_write start p (Replays graph late) (inr (head, more, file, trip)) = cc trip.fault_is
-  ask_write start p (Certify alpha) (is, none) = cc
-  ask_write start p (CheckProof certificate) (inl of) = absurd of.0
-  ask_write start p (CheckProof certificate) (inr (q, bounds, file, (connection, is, last))) = cc
-  ask_write start p (CheckGraph graph) (inl of) = absurd of.0
-  ask_write start p (CheckGraph graph) (inr (head, more, file, (place, moment, is, unsafe))) = cc
-  ask_write start p (Punctual alpha promise) (is, none) = cc
-  ask_write start p (Departures until last) (is, none) = cc
-  ask_write start p (Latest until) (is, none) = cc
-  ask_write start p (Reach until) fails = absurd fails
+  ask_write start p ask fails = grind arith
 
   pub write_fails : (wanted : JobModel) (known : Option NamedParts) → FailsJob contents limits wanted known Write → ⊥
-  write_fails (Ask j ask) known (inl (p, sound, problem, (is, why))) = ask_write j.start p ask why
-  write_fails (Ask j ask) known (inr early) = early.0
-  write_fails (Sample size) known (read, (files, same, inl (p, sound, problem, (is, why)))) = cc why.0
-  write_fails (Sample size) known (read, (files, same, inr early)) = early.0
+  write_fails wanted known h = grind (arith, ask_write)
 
   -- why a job fails is why there is no answer to its words
   pub job_cause : (wanted : JobModel) (known : Option NamedParts) → job_of words ≡ Ok wanted → (fault : Fault) → (fault ≢ NoMemory → FailsJob contents limits wanted known fault)
@@ -78,20 +60,16 @@ module _ (contents : Option FileMap) (limits : Limits) (words : List (List ℕ))
 
 module _ (before after : Option (List ℕ)) (was now : ℕ) (known : Option NamedParts) where
   pub refused_some : (wanted : Fault) (found : Option Fault) → IsRefusedWith before after was now known wanted found → found ≡ None → ⊥
-  refused_some wanted None refused none = refused
-  refused_some wanted (Some fault) refused none = cc
+  refused_some wanted found refused none = grind arith
 
   -- what was written is the line of the fault, or that there is no memory for it
   pub refused_is : (wanted : Fault) (found : Option Fault) (fault : Fault) → IsRefusedWith before after was now known wanted found → found ≡ Some fault → (fault ≡ wanted)
       ⊎ ((fault ≡ NoMemory) × IsFormatted wanted)
-  refused_is wanted None fault refused is = absurd refused
-  refused_is wanted (Some other) fault refused is = grind (arith, same_Some)
+  refused_is wanted found fault refused is = grind (arith, same_Some)
 
   -- that a file cannot be read is always said
   pub refused_read : (wanted : Fault) (found : Option Fault) (file : Input) → IsRefusedWith before after was now known wanted found → wanted ≡ Read file → found ≡ Some (Read file)
-  refused_read wanted None file refused is = absurd refused
-  refused_read wanted (Some fault) file refused is = grind arith
+  refused_read wanted found file refused is = grind arith
 
 pub keeps_same : (o : Option (List ℕ)) → Keeps o o
-keeps_same None = tt
-keeps_same (Some bytes) = (cc)
+keeps_same o = grind arith

@@ -1,5 +1,5 @@
 -- A run by its steps.
-use Rattle.meat_engine.proofs.Common.{◌≡◌, ◌∙◌, ◌<◌, ℕ, arith, sym, List, Option, Some, None, Ok, ◌≢◌, IsSome, Keeps, Rose, RoseAt, FilesState, Limits, JobModel, job_of, Input, Fault, Read, Write, NoMemory}
+use Rattle.meat_engine.proofs.Common.{◌≡◌, ◌<◌, ℕ, arith, List, Option, Some, None, Ok, ◌≢◌, IsSome, Keeps, Rose, RoseAt, FilesState, Limits, JobModel, job_of, Input, Fault, Read, Write, NoMemory}
 use Rattle.meat_engine.proofs.Common.{status_of, line_of, NamedParts, Report, Findings, findings_of, no_findings, AnswersJob, IsExplained, IsRefusedWith, IsWritten, Outcome, path_in}
 use Rattle.std.proofs.lemmas.Option.{same_Some}
 use Rattle.meat_engine.specs.RunPromises.{SinkState, WritesLine, IsRun}
@@ -49,8 +49,7 @@ module _ (limits : Limits) (words : List (List ℕ)) (report : Report) (before a
 
 -- where a text was written, wholly or not, the fault is at most that it was not
 written_fault : (old new : Option (List ℕ)) (text : List ℕ) (found : Option Fault) (fault : Fault) → IsWritten old new text found → found ≡ Some fault → fault ≡ Write
-written_fault old new text None fault written is = absurd (cc)
-written_fault old new text (Some other) fault written is = sym (same_Some _ _ is) ∙ written.0
+written_fault old new text found fault written is = grind (arith, same_Some)
 
 -- what a run that is answered promises
 module _ (limits : Limits) (words : List (List ℕ)) (answer : Findings) (report : Report) (text : List ℕ) (before after : FilesState) (out out_after err err_after : SinkState)

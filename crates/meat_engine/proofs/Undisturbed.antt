@@ -1,6 +1,7 @@
 -- What an outcome says, where no file failed to be read and the answer was written.
-use Rattle.meat_engine.proofs.Common.{◌≡◌, ℕ, refl, subst, inl, inr, List, Option, Some, None, Ok, ◌≢◌, FileMap, Limits, JobModel, job_of, Report, Fault, Write, NoMemory, NamedParts, findings_of}
-use Rattle.meat_engine.proofs.Common.{AnswersJob, FailsJob, IsExplained, Outcome}
+use Rattle.std.proofs.Common.{arith}
+use Rattle.meat_engine.proofs.Common.{◌≡◌, ℕ, refl, List, Option, Some, None, Ok, ◌≢◌, FileMap, Limits, JobModel, job_of, Report, Fault, Write, NoMemory, NamedParts, findings_of, AnswersJob, FailsJob}
+use Rattle.meat_engine.proofs.Common.{IsExplained, Outcome}
 
 pub one_job : (words : List (List ℕ)) (a b : JobModel) → job_of words ≡ Ok a → job_of words ≡ Ok b → a ≡ b
 one_job words a b h k = cc
@@ -8,15 +9,11 @@ one_job words a b h k = cc
 module _ (contents : Option FileMap) (limits : Limits) (words : List (List ℕ)) (report : Report) (old new : Option (List ℕ)) (Reports : List ℕ → Type 0) where
   caused : (fault : Fault) → fault ≢ NoMemory → (wanted : JobModel) → job_of words ≡ Ok wanted → (known : Option NamedParts)
       → IsExplained contents limits words known fault → FailsJob contents limits wanted known fault
-  caused fault m wanted h known (inl e) = absurd (m e)
-  caused fault m wanted h known (inr (inl (refusal, e, k))) = absurd (cc)
-  caused fault m wanted h known (inr (inr (other, k, why))) = subst (λ (w : JobModel). FailsJob contents limits w known fault) (one_job words other wanted k h) why
+  caused fault m wanted h known is = grind (arith, one_job)
 
   pub fails : (fault : Fault) → Outcome contents limits words report old new Reports (Some fault) → fault ≢ Write → fault ≢ NoMemory
       → (wanted : JobModel) → job_of words ≡ Ok wanted → (known : Option NamedParts) × FailsJob contents limits wanted known fault
   fails fault o n m wanted h = let r = (o.refused fault refl n).1.1 in (r.0, caused fault m wanted h r.0 r.1)
 
   pub answered : Outcome contents limits words report old new Reports None → (wanted : JobModel) → job_of words ≡ Ok wanted → (text : List ℕ) × AnswersJob contents limits wanted (findings_of report) text
-  answered o wanted h =
-      let (text, (other, k, answers), written) = o.whole refl in
-      (text, subst (λ (w : JobModel). AnswersJob contents limits w (findings_of report) text) (one_job words other wanted k h) answers)
+  answered o wanted h = grind (arith, one_job)

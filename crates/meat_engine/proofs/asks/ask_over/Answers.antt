@@ -1,3 +1,4 @@
+use Rattle.std.proofs.Common.{arith}
 use Rattle.journey_problem.proofs.Causes.{causes-none}
 use Rattle.meat_engine.proofs.Asked.{alone-asked, answered-asked, causes-asked}
 use Rattle.meat_engine.proofs.asks.ask_over.Goals as goal
@@ -56,6 +57,4 @@ returns-in-Latest g c =
     record { answer = h.own.answer; fault = h.own.fault; has_site = h.has_site; causes = causes-none c.latest_over.result h.unread }
 
 pub returns-in-Reach : goal.returns-in-Reach
-returns-in-Reach g c =
-    let h = alone-asked _ _ _ _ c.reach_over.result c.in-Reach.is (λ fault why. absurd why) c.reach_over.ensures.answer c.reach_over.ensures.fault in
-    record { answer = h.own.answer; fault = h.own.fault; has_site = h.has_site; causes = causes-none c.reach_over.result h.unread }
+returns-in-Reach g c = grind (arith, alone-asked, causes-none)

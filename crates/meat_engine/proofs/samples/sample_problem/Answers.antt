@@ -12,8 +12,7 @@ all_read (Ok a) quiet still causes = tt
 all_read (Err f) quiet still causes = never_unread f (λ input is. let rose = causes.read input (cc) in absurd (omega (arith, quiet, still, rose)))
 
 both_ok : {A E : Type 0} (r : Result A E) (P Q : A → Type 0) → IfOk r P → IfOk r Q → IfOk r (λ a. P a × Q a)
-both_ok (Ok a) P Q p q = (p, q)
-both_ok (Err e) P Q p q = tt
+both_ok r P Q p q = grind arith
 
 pub returns-clause-problem : goal.returns-clause-problem
 returns-clause-problem c =
