@@ -38,7 +38,7 @@ pub enum WindowFault {
     NoMemory,
 }
 
-/// A window with the count of its connections, which a network can have.
+/// A window with the count of its connections, no more than a network may have.
 #[derive(Clone, Copy)]
 struct CountedWindow<'a> {
     trips: &'a FeedWindow<'a>,

@@ -109,7 +109,8 @@ impl<'a> FeedWindow<'a> {
         }
     }
 
-    /// A service day whose trips may depart in the window, the first of which is 14 days before the date of the start.
+    /// The service day at an index, counted from the 14th day before the date of the start. The trips of those below
+    /// `DAYS` may depart in the window.
     pub(crate) fn day(&self, d: u8) -> ServiceDay
         ensures { result ≡ day_at self.now.window d }
     {

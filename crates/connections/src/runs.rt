@@ -103,7 +103,7 @@ fn add_own(runs: &mut Vec<Run>, trip: &TripWindow<'_>, number: u32) -> Result<()
     Ok(())
 }
 
-/// Adds the runs of a trip that repeats which depart in the window.
+/// Adds those runs of a repeating trip that depart in the window.
 fn add_repeats(
     alloc: Global,
     runs: &mut Vec<Run>,

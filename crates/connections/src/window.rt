@@ -5,7 +5,7 @@ ghost use Rattle.connections.specs.Window.{window_of, holds, most_hours};
 
 use plan_model::SECONDS_PER_HOUR;
 
-/// How many hours a window has, and its start, at which a journey may start.
+/// A number of hours from a start on, at which a journey may start.
 #[derive(Clone, Copy)]
 pub(crate) struct Horizon {
     /// The start, in seconds since 1970-01-01.

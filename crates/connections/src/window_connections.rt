@@ -92,7 +92,8 @@ fn class_in_hour(run: &NumberedRun<'_>, arrival: u64, known: Option<HourClass>) 
 }
 
 impl<'a> RunStep<'a> {
-    /// When its connection arrives, where that departs in a window, whose moments are not before 1970.
+    /// When its connection arrives, in seconds since 1970-01-01, if it departs in a window; otherwise the number means
+    /// nothing.
     fn arrival(&self) -> u64
         ensures { result ≡ unsigned_abs (arrives self.now.run.now.rows.now self.now.run.now.origin self.now.row) }
     {

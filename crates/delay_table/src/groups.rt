@@ -24,7 +24,7 @@ impl<'a> LineGroup<'a> {
         self.route.is_none() && self.hour.is_none()
     }
 
-    /// The route type of a group of a route type alone.
+    /// Its route type, if it names a route type alone; `None` otherwise.
     pub(crate) fn plain_type(&self) -> Option<u16>
         ensures { result ≡ plain_type (line_group self.now) }
     {

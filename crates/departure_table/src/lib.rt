@@ -63,6 +63,7 @@ pub fn table(
     let mut rows = List::new(alloc);
     let mut next = first.0;
     while next <= last.0 {
+        // Who is at the source a second before `next` can set out at `next`.
         let Some((value, leg)) = scanned.choice(query.source, Moment(next - 1)) else {
             return Ok(rows);
         };

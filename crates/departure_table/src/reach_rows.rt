@@ -68,6 +68,7 @@ pub fn reach(
             source: PlaceId(network.places() + place),
             ..*query
         };
+        // Who is at the gate a second before the start can set out from the place at the start.
         let Some((value, _)) = scanned.choice(at_gate.source, Moment(query.start.0 - 1)) else {
             continue;
         };

@@ -571,7 +571,7 @@ impl<'b, 'a> InTable<'b, 'a> {
         }
     }
 
-    /// With one more row; the table is complete with its last one.
+    /// What is read after one more row of the table, which is complete with its last one.
     fn with_row(self, alloc: Global, row: GraphRow) -> Result<Reading, NoMemory>
         ensures now { IfOk result (λ now. after_leg_row (with_rows self.entry.done self.entry.place self.entry.rows
             self.entry.by self.entry.remaining) (Ok row) ≡ Ok now) }
@@ -605,7 +605,7 @@ impl<'b, 'a> InTable<'b, 'a> {
         })
     }
 
-    /// After a leg row.
+    /// What is read after a leg row of the table.
     fn read_leg(self, alloc: Global, printed: &Record<'_>) -> Result<Reading, TextFault>
         ensures reported { IsUnlessNoMemory result (after_leg_row (with_rows self.entry.done self.entry.place
             self.entry.rows self.entry.by self.entry.remaining)

@@ -16,8 +16,8 @@ use lower_proof::{LowerBounds, Verdict, check, least};
 use plan_model::{NoMemory, Query};
 use std::alloc::Global;
 
-/// A certificate of a problem that was read: it has a value for each connection, its query is between the ends of the
-/// problem, and the moments of that have texts.
+/// A certificate that was read for a problem. It has a value for each connection, its query is between the ends of the
+/// problem, and the moments of the query have texts.
 #[derive(Drop)]
 pub struct ReadCertificate<'a> {
     /// The problem.

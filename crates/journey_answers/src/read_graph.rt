@@ -9,8 +9,8 @@ use graph_text::Head;
 use journey_model::Problem;
 use plan_graph::PlanGraph;
 
-/// A graph that was read and fits the network of a problem, with its head: its query is between the ends of the
-/// problem, and the moments of that have texts.
+/// A graph that was read for a problem, with its head. It fits the problem's network, its query is between the ends of
+/// the problem, and the moments of the query have texts.
 #[derive(Drop)]
 pub struct ReadGraph<'a> {
     /// The problem.

@@ -62,7 +62,7 @@ unread_input (Unsafe place moment) = None
 unread_input Write = None
 unread_input NoMemory = None
 
--- the number of an input, its own
+-- a number for each input, no two of them the same
 abbrev pub input_number : Input → ℕ
 input_number input.Cut = 0
 input_number input.Delays = 1

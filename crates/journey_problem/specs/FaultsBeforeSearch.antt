@@ -41,7 +41,7 @@ IsLimitOf timetable Entries = IsOfFeed timetable
 
 -- it comes before the files of a command and after the words: it is a fault of the timetable, of its delays, of the stops of a
 -- journey or of the window; or there was no memory. A fault of a feed, of a cut file or of the delays is about what they contain:
--- that they cannot be read, are too long or have too many rows, and want of memory, are faults of the run by themselves
+-- that they cannot be read, are too long or have too many rows, and lack of memory, are faults of the run by themselves
 abbrev pub IsBeforeSearch : SourceModel → Fault → Type 0
 IsBeforeSearch timetable (Words fault) = ⊥
 IsBeforeSearch timetable (Feed fault) = IsOfFeed timetable × ((limits : Limits) → feed_as limits fault ≡ Feed fault)

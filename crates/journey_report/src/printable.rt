@@ -1,4 +1,4 @@
-//! What can be printed: moments that have texts, and queries and trips that have names beside.
+//! What can be printed: moments that have texts, queries whose places have names too, and trips.
 ghost use Rattle.std.specs.Prelude.{◌≡◌, ◌≤◌, ◌<◌, All, length};
 ghost use Rattle.printed_rows.specs.Writers.{place_name};
 ghost use Rattle.journey_model.specs.Sites.{last_printable};
@@ -17,7 +17,7 @@ pub struct Printable {
     pub ghost early: { moment.0 ≤ last_printable },
 }
 
-/// A query over a timetable, whose places have names and whose moments have texts.
+/// A query over a timetable. Its places have names there, and its moments have texts.
 #[derive(Clone, Copy)]
 pub struct NamedQuery<'a> {
     /// The timetable.

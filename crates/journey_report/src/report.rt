@@ -17,7 +17,7 @@ use trip_replay::Trace;
 pub struct Status(pub u8);
 
 /// What a run came to. At status 0 and at status 8 the fields of the command are present, and else
-/// only the fault.
+/// only the fault. It takes itself apart, so a field is read where it is and cannot be moved out alone.
 pub struct Report {
     /// The number that the process ends with.
     pub status: Status,

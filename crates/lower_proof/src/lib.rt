@@ -59,7 +59,7 @@ struct Scope {
     last: Moment,
 }
 
-/// A connection of the network, for a question.
+/// A connection at which a walk is, with its network and its question.
 #[derive(Clone, Copy)]
 struct Site<'a> {
     network: &'a Network,
@@ -68,7 +68,7 @@ struct Site<'a> {
     ghost there: { id.0 < count network.now },
 }
 
-/// The value of a connection; `None` if it has none.
+/// The value of a connection; `None` if it has none, or if the list has no entry for it.
 fn value_of(values: &[Option<u64>], id: ConnectionId) -> Option<u64>
     ensures { result ≡ bound_of values.now id.0 }
 {
@@ -112,7 +112,7 @@ fn arrived(deadline: Moment, moment: Moment) -> Option<u64>
     }
 }
 
-/// Whether one who sets out at a place at a moment can board a connection.
+/// Whether a connection leaves a place at a moment or later.
 fn starts(connection: &Connection, place: PlaceId, moment: Moment) -> bool
     ensures { IsTrue result ↔ (connection.now.from.0 ≡ place.0) × (moment.0 ≤ connection.now.dep.0) }
 {
@@ -199,7 +199,7 @@ fn offer(
     best
 }
 
-/// Whether a connection cannot be boarded, or its value is at most the best one.
+/// Whether a connection of value `own` cannot be boarded, or `own` is at most the best one.
 fn is_kept(connection: &Connection, own: Option<u64>, best: Option<u64>) -> bool
     ensures kept { IsTrue result → IsTrue connection.now.can_board → KeepsTo own best }
     ensures fails { result ≡ false → IsTrue connection.now.can_board × (KeepsTo own best → ⊥) }
