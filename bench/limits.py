@@ -140,8 +140,8 @@ def calendars(count: int) -> Made:
 LINES: list[tuple[str, list[Made]]] = [
     ("cut file of 2^30 bytes, blank lines at its end", [cut(partial(filled, f"{HEADER}\n{RIDE}", "\n", 2**30 + more)) for more in (0, 1)]),
     ("cut file of 2^23 rows", [rides(2**23 + more) for more in (0, 1)]),
-    ("cut file, 2^28 surplus columns in its header", [cut(partial(filled, HEADER, ",", 2**28 + len(HEADER)), lambda: [f"\n{RIDE}\n"])]),
-    ("cut file of 2^30 bytes, a row of surplus fields", [cut(partial(filled, f"{HEADER}\n{RIDE}", ",", 2**30))]),
+    ("cut file, 2^26 surplus columns in its header", [cut(partial(filled, HEADER, ",", 2**26 + len(HEADER)), lambda: [f"\n{RIDE}\n"])]),
+    ("cut file of 2^28 bytes, a row of surplus fields", [cut(partial(filled, f"{HEADER}\n{RIDE}", ",", 2**28))]),
     ("2^20 stops", [feed(stops=rows("s%d\n", 2**20 - 2 + more)) for more in (0, 1)]),
     ("2^16 routes", [feed(routes=rows("r%d,3\n", 2**16 - 1 + more)) for more in (0, 1)]),
     ("2^22 trips", [feed(trips=rows("R,D,x%d\n", 2**22 - 1 + more)) for more in (0, 1)]),
