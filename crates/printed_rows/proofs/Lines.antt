@@ -1,5 +1,5 @@
 -- The fields of printed rows, and texts one after another.
-use Rattle.printed_rows.proofs.Common.{◌≡◌, ℕ, ◌+◌, ◌<◌, List, [], ◌∷◌, ◌++◌, length, drop, Some, Result, sym, ◌∙◌, ap, refl, subst, append_assoc, slice_get, slice_index_or, IfOk, Vec, Global}
+use Rattle.printed_rows.proofs.Common.{◌≡◌, ℕ, ◌+◌, ◌<◌, List, [], ◌∷◌, ◌++◌, length, drop, Some, sym, ◌∙◌, ap, append_assoc, slice_get, slice_index_or}
 use Rattle.std.proofs.lemmas.List.{drop_more}
 use Rattle.std.proofs.lemmas.Option.{get_or_from_slice_get}
 
@@ -18,11 +18,6 @@ seven_fields a b c d e f g a' b' c' d' e' f' g' = λ one two three four five six
 -- after one text more
 pub text_step : (new old a rest all : List ℕ) → new ≡ old ++ a → old ++ (a ++ rest) ≡ all → new ++ rest ≡ all
 text_step new old a rest all is before = ap (λ (list : List ℕ). list ++ rest) is ∙ append_assoc old a rest ∙ before
-
-pub append_ok : {E : Type 0} (r : Result (Vec ℕ Global) E) (mid old a b : List ℕ) → mid ≡ old ++ a → IfOk r (λ whole. whole.items ≡ mid ++ b)
-    → IfOk r (λ whole. whole.items ≡ old ++ (a ++ b))
-append_ok r mid old a b is ok =
-    subst (λ (list : List ℕ). IfOk r (λ whole. whole.items ≡ list)) (ap (λ (list : List ℕ). list ++ b) is ∙ append_assoc old a b) ok
 
 -- after one element more
 pub split_at : {X : Type 0} (xs : List X) (i : ℕ) (d : X) → i < length xs → drop i xs ≡ slice_index_or xs i d ∷ drop (i + 1) xs

@@ -6,10 +6,6 @@ use Rattle.std.proofs.Common.{ne_eqb}
 use Rattle.plan_graph.proofs.Searches.{same_leg}
 use Rattle.plan_graph.proofs.Places.{safe_child}
 
-abbrev first_tree : Tree → Kids → Tree
-first_tree else Nil = else
-first_tree else (Kid weight tree others) = tree
-
 abbrev other_children : Kids → Kids
 other_children Nil = Nil
 other_children (Kid weight tree others) = others

@@ -1,12 +1,9 @@
 -- The answers about a certificate, and about a certificate file, follow from the problem and the files.
-use Rattle.run_laws.proofs.Common.{arith, ℕ, List, Option, Some, FileMap, Limits, Moment, Query, LowerBounds, IsLeast-unique, Problem, Findings, IsHeld, InCertificateFile, InQuery, AnswersCertify}
+use Rattle.run_laws.proofs.Common.{arith, ℕ, List, Some, FileMap, Limits, Moment, Query, LowerBounds, IsLeast-unique, Problem, Findings, IsHeld, InCertificateFile, InQuery, AnswersCertify}
 use Rattle.run_laws.proofs.Common.{IsOneAnswer}
 use Rattle.run_laws.proofs.Queries.{in_one_query}
 use Rattle.run_laws.proofs.OneFile.{in_certificate}
 use Rattle.run_laws.proofs.Tight.{one_tight}
-
-abbrev bounds_with : List (Option ℕ) → LowerBounds
-bounds_with values = record { values = values }
 
 module _ (p : Problem) (found others : Findings) (text other : List ℕ) where
   abbrev One : Type 0
