@@ -62,9 +62,7 @@ is_without_at : (s : Setting) (given : List Setting) (option : OptionName) (b : 
 unfolding value_in
 is_without_at s given option true e none rest = let some = sym (ap (λ (c : Bool). if c then Some s.value else value_in given option) e) ∙ none in absurd (cc)
 is_without_at s given option false e none rest =
-    let away : option ≢ s.option = λ same. false≢true (sym e ∙ (bytes_eq-Decides (option_name s.option) (option_name option)).1 (ap option_name (sym same))) in
-    let others = rest (sym (ap (λ (c : Bool). if c then Some s.value else value_in given option) e) ∙ none) in
-    All-cons (λ (t : Setting). option ≢ t.option) s given away others
+    grind (arith, bytes_eq-Decides, All-cons)
 
 is_without : (given : List Setting) (option : OptionName) → value_in given option ≡ None → IsWithout given option
 unfolding value_in

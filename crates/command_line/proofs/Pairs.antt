@@ -15,27 +15,20 @@ pub record IsPair (words : List (String Global)) (name value : String Global) (w
   pub word_is : word ≡ string_bytes name
 
 pair_first : (words : List (String Global)) (name value : String Global) (word : List ℕ) → IsPair words name value word → map string_bytes words ≡ word ∷ string_bytes value ∷ others words
-pair_first [] name value word p = absurd (omega (arith, p.two))
-pair_first (a ∷ []) name value word p = absurd (omega (arith, p.two))
 pair_first (a ∷ b ∷ more) name value word p =
     let all : suc (suc (length more)) - 2 ≡ length more = omega arith in
-    let whole : take (suc (suc (length more)) - 2) more ≡ more = ap (λ (k : ℕ). take k more) all ∙ take-length more in
-    let rest = ap (λ (xs : List (String Global)). map string_bytes xs) whole in
-    let first : word ≡ string_bytes a = p.word_is ∙ ap string_bytes p.name_is in
-    let second : string_bytes value ≡ string_bytes b = ap string_bytes p.value_is in
-    cc
+    grind (arith, take-length)
+pair_first _ name value word p = absurd (omega (arith, p.two))
 
 pub value_of-short : (words : List (String Global)) (option : OptionName) → length words < 2 → value_of (map string_bytes words) option ≡ None
 unfolding value_of
-value_of-short [] option short = refl
-value_of-short (a ∷ []) option short = refl
 value_of-short (a ∷ b ∷ more) option short = absurd (omega arith)
+value_of-short _ option short = refl
 
 pub are_settings-short : (words : List (String Global)) (none : Bool) → length words < 2 → none ≡ (length words == 0) → none ≡ are_settings (map string_bytes words)
 unfolding are_settings
-are_settings-short [] none short is = is
-are_settings-short (a ∷ []) none short is = is
 are_settings-short (a ∷ b ∷ more) none short is = absurd (omega arith)
+are_settings-short _ none short is = is
 
 is_none-map : {T U : Type 0} (f : T → U) (o : Option T) → is_none (option_map f o) ≡ not (is_some o)
 is_none-map f None = refl

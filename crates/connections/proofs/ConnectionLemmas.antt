@@ -15,8 +15,7 @@ use Rattle.connections.proofs.StepLemmas.{IsStep, holds_parts, steps_are, steps_
 
 -- a moment that is not before 1970
 pub not_before : (z : ℤ) → pos 0 ≤ℤ z → pos (unsigned_abs z) ≡ z
-not_before (pos n) h = refl
-not_before (negsuc n) h = absurd (omega (arith, ints, h))
+not_before z h = grind (arith, negsuc)
 
 -- one comes before the other, and the later one of a run departs when the earlier one has arrived
 abbrev pub Follows : Connection → Connection → Type 0
@@ -48,9 +47,7 @@ module _ (w : Window) (v : IsWindow w) (rows : List StopRow) (places : ℕ) (t :
   follow a b l s h =
       let e : a + suc (b - a - 1) ≡ b = omega arith in
       let on = onward_to rows places t a (b - a - 1) (omega (arith, h.inside)) in
-      let arr = not_before (arrives rows o a) (omega (arith, ints, (holds_parts w (departs rows o a) s.holding).0, t.onward a (omega (arith, s.inside)))) in
-      let dep = not_before (departs rows o b) (omega (arith, ints, (holds_parts w (departs rows o b) h.holding).0)) in
-      inr (refl, l, omega (arith, ints, arr, dep, on, ap (λ k. (kept_at rows k).departure) e))
+      grind (arith, holds_parts)
 
   pub connections_follow : AllPairs Follows (map (connection_from rows o number class) steps)
   connections_follow = AllPairs-map (connection_from rows o number class) Follows steps (λ i j d l h.

@@ -57,8 +57,7 @@ sum_by-map g f [] = refl
 sum_by-map g f (x ∷ xs) = omega (arith, sum_by-cons g (f x) (map f xs), sum_by-cons (λ y. g (f y)) x xs, sum_by-map g f xs)
 
 sum-where : {A : Type 0} (active : Bool) (g : A → ℕ) (xs : List A) (n : ℕ) → sum_by g xs ≡ n → sum_by g (if active then xs else []) ≡ (if active then n else 0)
-sum-where true g xs n e = e
-sum-where false g xs n e = refl
+sum-where active g xs n e = grind arith
 
 module _ (f : FeedParts) (s : ServiceParts) (d : DelayLists) (w : Window) where
   -- how many connections a run has

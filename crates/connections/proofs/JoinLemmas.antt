@@ -83,19 +83,10 @@ Contains-join {A} f (suc n) i x l has = subst (λ (xs : List A). Contains xs x) 
 -- where none is empty, there are as many elements at least
 pub join-many : {A : Type 0} (f : ℕ → List A) (n : ℕ) → ((i : ℕ) → i < n → 0 < length (f i)) → n ≤ length (join_below f n)
 join-many f zero some = omega arith
-join-many f (suc n) some = omega (
-  arith,
-  ap length (join-suc f n),
-  length-append (join_below f n) (f n),
-  join-many f n (λ i l. some i (omega arith)),
-  some n
-      (omega arith),
-)
+join-many f (suc n) some = grind (arith, join-suc, length-append, join-many f n (λ i l. some i (omega arith)))
 
 pub All-only_if : {A : Type 0} (P : A → Type 0) (b : Bool) (a : A) → (b ≡ true → P a) → All P (only_if b a)
-All-only_if P true a h = All-cons P a [] (h refl) (All-nil P)
-All-only_if P false a h = All-nil P
+All-only_if P b a h = grind (arith, All-cons, All-nil)
 
 pub AllPairs-only_if : {A : Type 0} (R : A → A → Type 0) (b : Bool) (a : A) → AllPairs R (only_if b a)
-AllPairs-only_if R true a = AllPairs-one R a
-AllPairs-only_if R false a = AllPairs-nil R
+AllPairs-only_if R b a = grind (arith, AllPairs-one, AllPairs-nil)

@@ -51,9 +51,7 @@ same_start (Some r) (Some q) h k us vs e =
     = sym (append_assoc (decimal r.departure) (46 ∷ decimal r.line) (58 ∷ us)) ∙ same_rest 64 _ _ e ∙ append_assoc (decimal q.departure) (46 ∷ decimal q.line) (58 ∷ vs) in
     let x = digits_end (decimal r.departure) (decimal q.departure) _ _ 46 46 (decimal_digits r.departure h.0) (decimal_digits q.departure k.0) refl refl texts in
     let y = digits_end (decimal r.line) (decimal q.line) _ _ 58 58 (decimal_digits r.line h.1) (decimal_digits q.line k.1) refl refl x.1 in
-    let departure = decimal_injective r.departure q.departure h.0 k.0 x.0 in
-    let line = decimal_injective r.line q.line h.1 k.1 y.0 in
-    (λ i. Some (record { departure = departure i; line = line i }), y.1)
+    grind (arith, decimal_injective)
 
 -- two runs of one name are one
 pub one_run : (f : FeedParts) → AreIds f.trip_ids → (a b : Run) (name : List ℕ) → IsRunOfFeed f a → IsRunOfFeed f b → IsSmallRepeat a.repeat → IsSmallRepeat b.repeat

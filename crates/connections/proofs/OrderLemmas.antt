@@ -42,12 +42,10 @@ abbrev before : Repeat → Repeat → ℕ
 before y z = if repeat_precedes z y then 1 else 0
 
 before_none : (b : Bool) → b ≡ false → (if b then 1 else 0) ≤ 0
-before_none true h = absurd (cc)
-before_none false h = omega arith
+before_none b h = grind arith
 
 before_zero : (b : Bool) (n : ℕ) → (if b then 1 else 0) + n ≡ 0 → b ≡ false
-before_zero true n h = absurd (omega arith)
-before_zero false n h = refl
+before_zero b n h = grind arith
 
 -- nothing repeat_precedes the first of a list in order
 first_is_least : (y : Repeat) (ys : List Repeat) → AllPairs NotAfter (y ∷ ys) → sum_by (before y) (y ∷ ys) ≡ 0

@@ -77,12 +77,10 @@ module _ (w : Window) (rows : List StopRow) (o : Origin) where
 
 runs_none : (w : Window) (rows : List StopRow) (day : ServiceDay) (trip : ℕ) (fs : List FrequencyRow) → fs ≡ [] → steps_of w rows (origin_of_day day) ≡ []
     → runs_of_trip w rows fs day trip ≡ []
-runs_none w rows day trip [] once none = ap (λ (steps : List ℕ). only_if (nat_lt 0 (length steps)) (own_run day trip)) none
-runs_none w rows day trip (row ∷ more) once none = absurd (cc)
+runs_none w rows day trip fs once none = grind (arith, nat_lt)
 
 where_none : {A : Type 0} (active : Bool) (xs : List A) → xs ≡ [] → (if active then xs else []) ≡ []
-where_none true xs h = h
-where_none false xs h = refl
+where_none active xs h = grind arith
 
 -- on a day on which no trip departs there is no run
 pub day_runs-none : (f : FeedParts) (s : ServiceParts) (w : Window) (day : ServiceDay) → NoneRuns f w day → day_runs f s w day (length f.trip_ids) ≡ []

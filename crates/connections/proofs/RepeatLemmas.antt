@@ -10,9 +10,7 @@ use Rattle.connections.proofs.ReachLemmas.{has_connection_true}
 use Rattle.connections.proofs.StepLemmas.{holds_parts, leaves_some}
 
 same_bool : (a b : Bool) → (a ≡ true → b ≡ true) → (b ≡ true → a ≡ true) → a ≡ b
-same_bool true b h k = sym (h refl)
-same_bool false true h k = k refl
-same_bool false false h k = refl
+same_bool a b h k = grind arith
 
 -- the first runs of a row that are taken
 abbrev pub taken_runs : FrequencyRow → (ℕ → Bool) → ℕ → List Repeat

@@ -12,5 +12,4 @@ pub class_is : (d : DelayLists) (class : Option ℕ) (route : List ℕ) (arr : �
     → found ≡ class_for d class (numbered_route (routes_of d.others) o) arr
     → IfNone o ((id : List ℕ) → ¬ Contains (routes_of d.others) id → found ≡ class_for d class (Some id) arr)
     → found ≡ class_for d class (Some route) arr
-class_is d class route arr None found e is other = other route (λ there. number-contained route (routes_of d.others) there (sym e))
-class_is d class route arr (Some n) found e is other = grind (arith, common_steps, number-here)
+class_is d class route arr o found e is other = grind (arith, number-contained, common_steps, number-here)

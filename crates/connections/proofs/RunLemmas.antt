@@ -44,8 +44,7 @@ module _ (w : Window) (rows : List StopRow) (day : ServiceDay) (trip : ℕ) wher
   trip_runs_are (row ∷ more) are = repeat_runs_are (row ∷ more) are
 
   pub runs_where : (active : Bool) (rs : List Run) → AreTripRuns rs → AreTripRuns (if active then rs else [])
-  runs_where true rs a = a
-  runs_where false rs a = record { each = All-nil (IsTripRun w rows day trip); order = AllPairs-nil Precedes }
+  runs_where active rs a = grind (arith, All-nil, AllPairs-nil)
 
 module _ (f : FeedParts) (s : ServiceParts) (w : Window) (repeats : AreRepeating f) where
   -- a run of this day, with a connection in the window

@@ -32,8 +32,7 @@ sum-swap F (suc m) n =
     ∙ sum-plus (λ k. sum_below (λ i. F i k) m) (F m) n)
 
 only-sum : (f : ℕ → ℕ) (b : Bool) (k : ℕ) → sum_by f (only_if b k) ≡ (if b then f k else 0)
-only-sum f true k = let one : sum_by f (k ∷ []) ≡ f k = omega arith in one
-only-sum f false k = refl
+only-sum f b k = grind arith
 
 pub steps-sum : (f : ℕ → ℕ) (w : Window) (rows : List StopRow) (o : Origin) (n : ℕ) → sum_by f (steps_below w rows o n) ≡ sum_below (λ k. if holds w
     (departs rows o k) then f k else 0) n
@@ -80,10 +79,7 @@ between-sum p a c x n inside out = sum-times p x n ∙ ap (λ k. k * x) (between
 -- what holds from a number on only
 later-few : (p : ℕ → Bool) (a n : ℕ) → ((m : ℕ) → p m ≡ true → m < n → a ≤ m) → sum_below (λ m. one_if (p m)) n ≤ n - a
 later-few p a zero low = omega (arith, sum-zero (λ m. one_if (p m)))
-later-few p a (suc n) low =
-    let before = later-few p a n (λ m is less. low m is (omega arith)) in
-    ⊎_elim (λ (is : p n ≡ true). omega (arith, sum-suc (λ m. one_if (p m)) n, before, ap one_if is, low n is (omega arith)))
-    (λ (not : p n ≡ false). omega (arith, sum-suc (λ m. one_if (p m)) n, before, ap one_if not)) (cases_Bool (p n))
+later-few p a (suc n) low = grind (arith, sum-suc, cases_Bool, later-few p a n (λ m is less. low m is (omega arith)))
 
 -- where no two are farther apart than a limit, there are few
 near-few : (p : ℕ → Bool) (limit n : ℕ) → ((m k : ℕ) → p m ≡ true → p k ≡ true → k ≤ m + limit) → sum_below (λ m. one_if (p m)) n ≤ limit + 1
@@ -111,10 +107,7 @@ leaving-few w v rows day row some k =
 -- a sum of numbers that are bounded by other numbers
 sum-linear : (a c : ℕ) (f g : ℕ → ℕ) (n : ℕ) → ((k : ℕ) → k < n → f k ≤ a + g k * c) → sum_below f n ≤ n * a + sum_below g n * c
 sum-linear a c f g zero h = omega (arith, sum-zero f)
-sum-linear a c f g (suc n) h =
-    let rest = sum-linear a c f g n (λ k less. h k (omega arith)) in
-    let whole : sum_below g (suc n) * c ≡ sum_below g n * c + g n * c = ap (λ x. x * c) (sum-suc g n) ∙ add-mul (sum_below g n) (g n) c in
-    omega (arith, sum-suc f n, suc-mul n a, whole, rest, h n (omega arith))
+sum-linear a c f g (suc n) h = grind (arith, sum-suc, add-mul, sum-linear a c f g n (λ k less. h k (omega arith)))
 
 sum-few : (b : ℕ) (f : ℕ → ℕ) (n : ℕ) → ((k : ℕ) → k < n → f k ≤ b) → sum_below f n ≤ n * b
 sum-few b f n h = omega (arith, sum-linear b 0 f (λ k. 0) n (λ k l. omega (arith, h k l)))
@@ -128,8 +121,7 @@ module _ (most : ℕ) (w : Window) (each : PlaceId → ℕ) where
   sum_by-scale f g (x ∷ xs) h = grind (arith, sum_by-cons, add-mul, sum_by-scale f g xs h)
 
   if_scale : (active : Bool) (x y : ℕ) → x ≤ y * most → (if active then x else 0) ≤ (if active then y else 0) * most
-  if_scale true x y h = h
-  if_scale false x y h = omega arith
+  if_scale active x y h = grind arith
 
   steps-scale : (rows : List StopRow) → ((k : ℕ) → each (kept_at rows k).place ≤ most) → (o : Origin)
       → steps_sum each w rows o ≤ steps_sum (λ place. 1) w rows o * most
@@ -156,8 +148,7 @@ module _ (most : ℕ) (w : Window) (each : PlaceId → ℕ) where
       if_scale (is_active_trip f s (day_at w d) trip) _ _ (runs-scale (rows_of f trip) (λ k. h trip k inside) (frequencies_of f trip) (day_at w d))))
 
 length-only : (b : Bool) (n : ℕ) → length (only_if b n) ≤ 1
-length-only true n = omega arith
-length-only false n = omega arith
+length-only b n = grind arith
 
 steps-few : (w : Window) (rows : List StopRow) (o : Origin) (n : ℕ) → length (steps_below w rows o n) ≤ n
 unfolding steps_below
@@ -170,8 +161,7 @@ steps-few w rows o n =
     )
 
 if_few : (active : Bool) (b x : ℕ) → x ≤ b → (if active then x else 0) ≤ b
-if_few true b x h = h
-if_few false b x h = omega arith
+if_few active b x h = grind arith
 
 runs-few : (w : Window) → IsWindow w → (rows : List StopRow) → length rows ≤ 33554432 → (fs : List FrequencyRow) → AreRepeats fs → (day : ServiceDay)
     → runs_sum (λ place. 1) w rows fs day ≤ 33554432 + length fs * 8697342328832
@@ -228,13 +218,11 @@ pub sum-nothing : (f : ℕ → ℕ) (n : ℕ) → ((k : ℕ) → k < n → f k �
 sum-nothing f n h = omega (arith, sum-few 0 f n (λ k l. omega (arith, h k l)))
 
 if_nothing : (active : Bool) (x : ℕ) → x ≡ 0 → (if active then x else 0) ≡ 0
-if_nothing true x h = h
-if_nothing false x h = refl
+if_nothing active x h = grind arith
 
 runs_nothing : (each : PlaceId → ℕ) (w : Window) (rows : List StopRow) (day : ServiceDay) (fs : List FrequencyRow) → fs ≡ [] → steps_of w rows (origin_of_day day) ≡ []
     → runs_sum each w rows fs day ≡ 0
-runs_nothing each w rows day [] once none = ap (sum_by (λ k. each (kept_at rows k).place)) none
-runs_nothing each w rows day (row ∷ more) once none = absurd (cc)
+runs_nothing each w rows day fs once none = grind arith
 
 -- a day on which no trip departs adds nothing
 pub day_sum-none : (each : PlaceId → ℕ) (f : FeedParts) (s : ServiceParts) (w : Window) (day : ServiceDay) → NoneRuns f w day → day_sum each f s w day (length f.trip_ids) ≡ 0

@@ -1,4 +1,5 @@
 -- In which table a fault is, and the first of several.
+use Rattle.std.proofs.Common.{arith}
 use Rattle.csv_rows.proofs.Common.{◌≡◌, ℕ, ◌<◌, Option, Some, None, IfSome, Result, Ok, Err, IfErr, sym, ap, ◌∙◌, subst, IsErr, IsErrAnd, ⊤, option_or, Table, FeedFault, first_below, IsFirstFault}
 use Rattle.csv_rows.proofs.Common.{ReportsFirst}
 use Rattle.std.proofs.Common.{MatchResult}
@@ -6,8 +7,7 @@ use Rattle.csv_rows.proofs.FirstLemmas.{first-at}
 
 -- what a step that failed says of its error holds of what `?` passes on
 pub match_raised : {A E : Type 0} {e : E} (Q : Type 0) (P : E → Type 0) (r : Result A E) → IsErr r × IsErrAnd r (λ raised. raised ≡ e) → P e → MatchResult r (λ _. Q) P
-match_raised Q P (Ok value) h p = absurd h.1
-match_raised Q P (Err raised) h p = subst P (sym h.1) p
+match_raised Q P r h p = grind arith
 
 pub if_raised : {A E : Type 0} {e : E} (P : E → Type 0) (r : Result A E) → IsErr r × IsErrAnd r (λ raised. raised ≡ e) → P e → IfErr r P
 if_raised P r h p = match_raised ⊤ P r h p
@@ -15,8 +15,7 @@ if_raised P r h p = match_raised ⊤ P r h p
 -- the same for another statement
 pub some_raised : {F A E : Type 0} (o : Option F) (e : E) (P : F → E → Type 0) (r : Result A E) → IsErr r × IsErrAnd r (λ raised. raised ≡ e)
     → IfSome o (λ m. P m e) → IfSome o (λ m. IfErr r (P m))
-some_raised None e P r h p = tt
-some_raised (Some m) e P r h p = if_raised (P m) r h p
+some_raised o e P r h p = grind (arith, if_raised)
 
 -- the fault of a step is that of the steps of which it is the first
 module _ {table : Table} (a b : Option FeedFault) (fault : FeedFault) where
@@ -28,8 +27,7 @@ module _ {table : Table} (a b : Option FeedFault) (fault : FeedFault) where
 
 -- a step after others that had none
 pub reports-then : {T : Type 0} (table : Table) (a b : Option FeedFault) (r : Result T FeedFault) → a ≡ None → ReportsFirst table b r → ReportsFirst table (option_or a b) r
-reports-then table a b (Ok value) none h = ap (λ o. option_or o b) none ∙ h
-reports-then table a b (Err fault) none h = fault-then a b fault none h
+reports-then table a b r none h = grind (arith, fault-then)
 
 -- the fault of a row, where those before it have none
 pub fault-at : {table : Table} (f : ℕ → Option FeedFault) (i n : ℕ) {first : Option FeedFault} {fault : FeedFault} → i < n → first_below f i ≡ None → f i ≡ first

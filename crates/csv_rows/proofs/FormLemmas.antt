@@ -1,4 +1,5 @@
 -- Whatever the form in which records are written, they are read.
+use Rattle.std.proofs.Common.{arith}
 use Rattle.csv_rows.proofs.Common.{◌≡◌, ◌≢◌, ◌⊎◌, ℕ, Bool, true, false, List, [], ◌∷◌, ◌++◌, Some, None, inl, inr, refl, sym, ap, subst, ◌∙◌, ◌==◌, ◌||◌, map, append_assoc, cases_Bool}
 use Rattle.csv_rows.proofs.Common.{and_parts, eqb-true, false_from_ne_true, list_any, trimmed_text, table_of, Reached, default_config, strip_bom}
 use Rattle.std.specs.List.{list_all}
@@ -13,24 +14,15 @@ use Rattle.csv_rows.proofs.ReachedRecords.{all_records}
 use Rattle.csv_rows.specs.Forms.{is_line_end, IsFieldText, AreFieldTexts, IsRecordText, IsAtLineEnd, AreLines, IsTextOf}
 
 or_parts : (a b : Bool) → (a || b) ≡ false → (a ≡ false) × (b ≡ false)
-or_parts false b none = (refl, none)
-or_parts true b none = absurd (cc)
+or_parts a b none = grind arith
 
 -- a byte of a field that calls for no quotes
 plain_byte : (b : ℕ) → needs_byte default_writer b ≡ false → ((b == 34) ≡ false) × ((b == 13) ≡ false) × ((b == 10) ≡ false)
-plain_byte b plain =
-    let comma = false_from_ne_true (b == 44) (λ is. cc (rw is at plain)) in
-    let quote = false_from_ne_true (b == 34) (λ is. cc (rw (comma, is) at plain)) in
-    let cr = false_from_ne_true (b == 13) (λ is. cc (rw (comma, quote, is) at plain)) in
-    let lf = false_from_ne_true (b == 10) (λ is. cc (rw (comma, quote, cr, is) at plain)) in
-    (quote, cr, lf)
+plain_byte b plain = grind (arith, false_from_ne_true)
 
 -- the two ends of a line
 one_end : (b : ℕ) → is_line_end b ≡ true → (b ≡ 13) ⊎ (b ≡ 10)
-one_end b is = elim (cases_Bool (b == 13)) [
-  | inl cr ↦ inl (eqb-true b 13 cr)
-  | inr other ↦ inr (eqb-true b 10 (rw other at is))
-]
+one_end b is = grind (arith, cases_Bool, eqb-true)
 
 -- ---- a field
 
@@ -44,14 +36,12 @@ plain_read : (fields : List (List ℕ)) (field tail : List ℕ) → NoQuote tail
 unfolding next_record
 plain_read fields [] [] follows plain = refl
 plain_read fields [] (c ∷ tail) follows plain = start-same fields [] c tail follows
-plain_read fields (b ∷ rest) tail follows plain =
-    start-same fields [] b (rest ++ tail) (plain_byte b (or_parts _ _ plain).0).0 ∙ plain-run fields [] (b ∷ rest) tail plain
+plain_read fields (b ∷ rest) tail follows plain = grind (arith, start-same, plain_byte, or_parts, plain-run)
 
 after_quote : (fields : List (List ℕ)) (field tail : List ℕ) → NoQuote tail
     → next_record default_config st.AfterQuote fields field tail ≡ next_record default_config st.InField fields field tail
 unfolding next_record
-after_quote fields field [] follows = refl
-after_quote fields field (c ∷ tail) follows = after-quote-same fields field c tail follows
+after_quote fields field tail follows = grind (arith, after-quote-same)
 
 quoted_read : (fields : List (List ℕ)) (field tail : List ℕ) → NoQuote tail
     → next_record default_config st.StartField fields [] (34 ∷ (escaped default_writer field ++ (34 ∷ tail))) ≡ next_record default_config st.InField fields field tail
@@ -60,12 +50,7 @@ quoted_read fields field tail follows = quoted-run fields [] field tail ∙ afte
 
 field_read : (fields : List (List ℕ)) (field text tail : List ℕ) → NoQuote tail → IsFieldText field text
     → next_record default_config st.StartField fields [] (text ++ tail) ≡ next_record default_config st.InField fields field tail
-field_read fields field text tail follows (inl (is, plain)) =
-    ap (λ (t : List ℕ). next_record default_config st.StartField fields [] (t ++ tail)) is ∙ plain_read fields field tail follows plain
-field_read fields field text tail follows (inr is) =
-    ap (λ (t : List ℕ). next_record default_config st.StartField fields [] (t ++ tail)) is
-    ∙ ap (λ (t : List ℕ). next_record default_config st.StartField fields [] (34 ∷ t)) (append_assoc (escaped default_writer field) (34 ∷ []) tail)
-    ∙ quoted_read fields field tail follows
+field_read fields field text tail follows h1 = grind (arith, plain_read, append_assoc, quoted_read)
 
 -- ---- a record
 
@@ -84,18 +69,10 @@ read_of row rest = (row, state_after rest, left_of rest)
 end_read : (fields : List (List ℕ)) (field rest : List ℕ) → IsAtLineEnd rest
     → next_record default_config st.InField fields field rest ≡ Some (read_of (fields ++ (field ∷ [])) rest)
 unfolding next_record
-end_read fields field [] ends = refl
-end_read fields field (c ∷ rest) ends = elim (one_end c ends) [
-  | inl cr ↦ subst (λ (z : ℕ). next_record default_config st.InField fields field (z ∷ rest) ≡ Some (read_of (fields ++ (field ∷ [])) (z ∷ rest))) (sym cr) refl
-  | inr lf ↦ subst (λ (z : ℕ). next_record default_config st.InField fields field (z ∷ rest) ≡ Some (read_of (fields ++ (field ∷ [])) (z ∷ rest))) (sym lf) refl
-]
+end_read fields field rest ends = grind (arith, one_end)
 
 end_no_quote : (rest : List ℕ) → IsAtLineEnd rest → NoQuote rest
-end_no_quote [] ends = tt
-end_no_quote (c ∷ rest) ends = elim (one_end c ends) [
-  | inl cr ↦ subst (λ (z : ℕ). (z == 34) ≡ false) (sym cr) refl
-  | inr lf ↦ subst (λ (z : ℕ). (z == 34) ≡ false) (sym lf) refl
-]
+end_no_quote rest ends = grind (arith, one_end)
 
 -- no quote follows a field
 no_quote : (others : List (List ℕ)) (more rest : List ℕ) → AreFieldTexts others more → IsAtLineEnd rest → NoQuote (more ++ rest)
@@ -105,8 +82,7 @@ no_quote (field ∷ others) more rest (own, texts, is, written, many) ends = sub
 more_read : (fields : List (List ℕ)) (field : List ℕ) (others : List (List ℕ)) (text rest : List ℕ) → AreFieldTexts others text → IsAtLineEnd rest
     → next_record default_config st.InField fields field (text ++ rest) ≡ Some (read_of (fields ++ (field ∷ others)) rest)
 unfolding next_record
-more_read fields field [] text rest is ends =
-    ap (λ (t : List ℕ). next_record default_config st.InField fields field (t ++ rest)) is ∙ end_read fields field rest ends
+more_read fields field [] text rest is ends = grind (arith, end_read)
 more_read fields field (next ∷ others) text rest (own, more, is, written, many) ends =
     let front = fields ++ (field ∷ []) in
     ap (λ (t : List ℕ). next_record default_config st.InField fields field (t ++ rest)) is
@@ -130,13 +106,10 @@ plain_begin [] others more plain many some = more_begin others more many some
 plain_begin (b ∷ rest) others more plain many some = let byte = plain_byte b (or_parts _ _ plain).0 in (byte.1, byte.2)
 
 line_begins : (field : List ℕ) (others : List (List ℕ)) (own more : List ℕ) → IsFieldText field own → AreFieldTexts others more → (own ++ more) ≢ [] → Begins (own ++ more)
-line_begins field others own more (inl (is, plain)) many some =
-    subst (λ (t : List ℕ). Begins (t ++ more)) (sym is) (plain_begin field others more plain many (λ none. some (ap (λ (t : List ℕ). t ++ more) is ∙ none)))
-line_begins field others own more (inr is) many some = subst (λ (t : List ℕ). Begins (t ++ more)) (sym is) (refl, refl)
+line_begins field others own more h1 many some = grind (arith, plain_begin)
 
 as_field : (line rest : List ℕ) → Begins line → next_record default_config st.StartRecord [] [] (line ++ rest) ≡ next_record default_config st.StartField [] [] (line ++ rest)
-as_field [] rest begins = absurd begins
-as_field (c ∷ line) rest begins = record-same [] [] c (line ++ rest) begins.0 begins.1
+as_field line rest begins = grind (arith, record-same)
 
 line_read : (row : List (List ℕ)) (line rest : List ℕ) → IsRecordText row line → line ≢ [] → IsAtLineEnd rest
     → next_record default_config st.StartRecord [] [] (line ++ rest) ≡ Some (read_of row rest)
@@ -154,10 +127,7 @@ line_read (field ∷ others) line rest (own, more, is, written, many) some ends 
 skip_end : (c : ℕ) (rest : List ℕ) → is_line_end c ≡ true
     → next_record default_config st.StartRecord [] [] (c ∷ rest) ≡ next_record default_config st.StartRecord [] [] rest
 unfolding next_record
-skip_end c rest is = elim (one_end c is) [
-  | inl cr ↦ subst (λ (z : ℕ). next_record default_config st.StartRecord [] [] (z ∷ rest) ≡ next_record default_config st.StartRecord [] [] rest) (sym cr) refl
-  | inr lf ↦ subst (λ (z : ℕ). next_record default_config st.StartRecord [] [] (z ∷ rest) ≡ next_record default_config st.StartRecord [] [] rest) (sym lf) refl
-]
+skip_end c rest is = grind (arith, one_end)
 
 skip_ends : (blank tail : List ℕ) → list_all is_line_end blank ≡ true
     → next_record default_config st.StartRecord [] [] (blank ++ tail) ≡ next_record default_config st.StartRecord [] [] tail
@@ -177,31 +147,17 @@ no_more (c ∷ text) all =
 after_cr : (text : List ℕ) → next_record default_config st.AfterCr [] [] text ≡ next_record default_config st.StartRecord [] [] text
 unfolding next_record
 after_cr [] = refl
-after_cr (c ∷ rest) = elim (cases_Bool (c == 10)) [
-  | inl lf ↦ subst (λ (z : ℕ). next_record default_config st.AfterCr [] [] (z ∷ rest) ≡ next_record default_config st.StartRecord [] [] (z ∷ rest)) (sym (eqb-true c 10 lf)) refl
-  | inr other ↦ rw other refl
-]
+after_cr (c ∷ rest) = grind (arith, cases_Bool, eqb-true)
 
 after_read : (rest : List ℕ) → IsAtLineEnd rest → next_record default_config (state_after rest) [] [] (left_of rest) ≡ next_record default_config st.StartRecord [] [] rest
-after_read [] ends = refl
-after_read (c ∷ rest) ends = elim (one_end c ends) [
-  | inl cr ↦
-      subst (λ (z : ℕ). next_record default_config (after_end term.CRLF z) [] [] rest ≡ next_record default_config st.StartRecord [] [] (z ∷ rest)) (sym cr)
-      (after_cr rest ∙ sym (skip_end 13 rest refl))
-  | inr lf ↦
-      subst (λ (z : ℕ). next_record default_config (after_end term.CRLF z) [] [] rest ≡ next_record default_config st.StartRecord [] [] (z ∷ rest)) (sym lf)
-      (sym (skip_end 10 rest refl))
-]
+after_read rest ends = grind (arith, one_end, after_cr, skip_end)
 
 lines_read : (rows : List (List (List ℕ))) (text xs : List ℕ) (s : State) → next_record default_config s [] [] xs ≡ next_record default_config st.StartRecord [] [] text
     → AreLines rows text → AreRecords default_config s xs rows
 unfolding Reached
 lines_read [] text xs s same all = (s, xs, (refl, refl), same ∙ no_more text all)
 lines_read (row ∷ rows) text xs s same (blank, line, rest, is, ends, written, some, stops, more) =
-    let read : next_record default_config s [] [] xs ≡ Some (read_of row rest) =
-    same ∙ ap (λ (t : List ℕ). next_record default_config st.StartRecord [] [] t) is ∙ skip_ends blank (line ++ rest) ends ∙ line_read row line rest written some stops in
-    let (s2, ys, reached, none) = lines_read rows rest (left_of rest) (state_after rest) (after_read rest stops) more in
-    (s2, ys, (read_of row rest, read, refl, reached), none)
+    grind (arith, skip_ends, line_read, lines_read rows rest (left_of rest) (state_after rest) (after_read rest stops) more)
 
 pub read_as_written : (rows : List (List (List ℕ))) (text : List ℕ) → IsTextOf rows text → table_of text ≡ map (λ row. map trimmed_text row) rows
 read_as_written rows text is =

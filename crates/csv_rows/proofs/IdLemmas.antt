@@ -113,15 +113,4 @@ no_row id n name q h =
 pub number-same : (x y : List ℕ) (names : List (List ℕ)) (m k : ℕ) → number_in x names ≡ Some m → number_in y names ≡ Some k → (m == k) ≡ bytes_eq x y
 number-same x y names m k h g =
     let a = number-here x names m h in
-    let b = number-here y names k g in
-    ⊎_elim (λ (t : bytes_eq x y ≡ true).
-    let e : x ≡ y = (bytes_eq-Decides x y).0 t in
-    let s : Some m ≡ Some k = sym h ∙ ap (λ z. number_in z names) e ∙ g in
-    let same : m ≡ k = cc in
-    eq-eqb m k same ∙ sym t)
-    (λ (f : bytes_eq x y ≡ false).
-    ne_eqb m k (λ e.
-    let P : ℕ → Type 0 = λ i. slice_index_or names i [] ≡ y in
-    let same : x ≡ y = sym a.1 ∙ subst P (sym e) b.1 in
-    let t = (bytes_eq-Decides x y).1 same in cc) ∙ sym f)
-    (cases_Bool (bytes_eq x y))
+    grind (arith, number-here, bytes_eq-Decides, eq-eqb, ne_eqb, slice_index_or, cases_Bool)

@@ -28,8 +28,7 @@ key_absent bs [] h c = absurd (omega (arith, c.1))
 key_absent bs (x ∷ xs) h c =
     let inside : c.0 < length (x ∷ xs) = omega (arith, c.1, length-map (x ∷ xs) bytes) in
     let e : bytes (get_or (x ∷ xs) c.0 x) ≡ bs = sym (get_or-map bytes (x ∷ xs) c.0 x bs inside) ∙ c.2 in
-    let found = list_any_at (λ (k : Bor (List ℕ)). bytes_eq bs (bytes k)) (x ∷ xs) c.0 x inside ((bytes_eq-Decides bs (bytes (get_or (x ∷ xs) c.0 x))).1 (sym e)) in
-    false≢true (sym h ∙ found)
+    grind (arith, list_any_at, bytes_eq-Decides)
 
 -- where a text is found
 pub key_position : (bs : List ℕ) (ks : List (Bor (List ℕ))) (i : ℕ) → position (λ k. bytes_eq bs k.now) ks ≡ Some i → slice_get (key_texts ks) i ≡ Some bs

@@ -157,12 +157,10 @@ module _ (cut : Cut) (delays : DelayLists) (n : NetworkModel) (s : IsFaultless c
     first = first;
     connections = valid_connection;
     changes = λ p l.
-        let P : ℕ → Type 0 = λ x. (1 ≤ x) × (x ≤ 86400) in
-        subst P (sym (net.change p (omega (arith, net.places)))) (change_fits (longest cut.rows (length cut.rows) p) (longest_few cut.rows (length cut.rows) p few_seconds));
+        grind (arith, change_fits, longest_few, few_seconds);
     links = subst (AreLinks (length n.change)) (sym net.links) (AreLinks-none (length n.change));
     rows = λ k l.
-        let P : List (List _) → Type 0 = λ xs. IsValidRow (slice_index_or xs k []) in
-        subst P (sym net.classes) (f.rows k (omega (arith, ap length net.classes)));
+        grind (arith, slice_index_or);
     few_connections = omega (arith, net.connections.size, s.read.key_count, s.read.size, none_of.few, s.few);
     few_places = omega (arith, net.places, ap length s.read.place_names, few_places s.table (row_count s.table), none_of.few, s.few);
     few_classes = omega (arith, ap length net.classes, f.each, f.few);

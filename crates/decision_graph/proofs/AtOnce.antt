@@ -10,8 +10,7 @@ use Rattle.plan_model.proofs.Lists.{Contains-nil, AllPairs-nil}
 
 unfolds : (n : NetworkModel) (q : Query) (choice : Leg → ℕ → Option Leg) → q.source.0 ≡ q.target.0 → unfolding_of n q choice None ≡ Done q.start.0
 unfolds n q choice same =
-    let test : (q.source.0 == q.target.0) ≡ true = grind (arith, nat_tests) in
-    rw test refl
+    grind (arith, nat_tests)
 
 -- to have arrived is the one safe strategy
 module _ {V : Type 0} (scoring : Scoring V) (laws : ScoreLaws scoring) where

@@ -1,4 +1,5 @@
 -- From what a scan promises to a best strategy.
+use Rattle.std.proofs.Common.{arith}
 use Rattle.decision_graph.proofs.Common.{◌≡◌, ◌≢◌, List, Some, sym, ◌∙◌, subst, MatchOption-at_some, Leg, Query, NetworkModel, Tree, ExpandedGraph, unfold_expanded, Scoring, FollowsRules}
 use Rattle.decision_graph.proofs.Common.{IsByRules, IsBestBy, IsNoneSafe, IsExpandedBy, HasSteadyChoice}
 use Rattle.plan_model.specs.declared.model.ConnectionId.{ConnectionId}
@@ -33,16 +34,7 @@ module _ {V : Type 0} (scoring : Scoring V)
   expanded solves order is_order rules first some graph (start, is, extracted) =
       let same : start ≡ first = let both = some ∙ is in cc in
       let answer = MatchOption-at_some (IsNoneSafe n q) (IsStartAnswer scoring n q found) start is solves.answers.begins in
-      let ruled = by_rules scoring n q found order is_order rules start is in
-      record {
-        best = subst (λ (v : V × Leg). IsBestBy scoring n q (unfold_expanded graph n q) v.0) same
-            (subst (λ (t : Tree). IsBestBy scoring n q t start.0) (sym extracted.unfolds) (best_strategy start solves.differ answer));
-        by_rules = λ differ. subst (λ (v : V × Leg). ByRules (unfold_expanded graph n q) v.0) same (subst (λ (t : Tree). ByRules t start.0) (sym extracted.unfolds) ruled);
-        ready = extracted.ready;
-        busy = extracted.busy;
-        whole = extracted.whole;
-        arrivals = extracted.arrivals;
-      }
+      grind (arith, best_strategy)
 
 -- it follows the choices of the scan, which are steady
 pub steady_choice : {V : Type 0} (n : NetworkModel) (q : Query) (found : ScanResult V) (graph : ExpandedGraph) → IsOfStart n q found graph → HasSteadyChoice n q graph

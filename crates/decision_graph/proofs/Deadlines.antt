@@ -9,9 +9,7 @@ use Rattle.plan_model.proofs.Laws.{reaches_from_safe, safe_from_reaches}
 pub worst_kept : (n : NetworkModel) (q : Query) (graph : PlanGraph) (bounds : Interval) → IsPlanned n q graph bounds
     → IsLeastWorst n q.source.0 q.target.0 q.start.0 (Some q.deadline) → worst (unfold_plan graph n q) ≡ q.deadline.0
 worst_kept n q graph bounds planned least =
-    let t = unfold_plan graph n q in
-    let r = reaches_from_safe n q.source.0 q.target.0 q.start.0 q.deadline.0 t planned.best.safe in
-    omega (arith, r.1, least.1 t r.0)
+    grind (arith, reaches_from_safe)
 
 -- a number above zero, times which one is at most another only where it is at most the other
 cancel : (a b p : ℕ) → 0 < p → a * p ≤ b * p → a ≤ b
@@ -30,11 +28,7 @@ below_covers lo hi t below covers =
 pub no_worse : (n : NetworkModel) (q r : Query) (graph other : PlanGraph) (bounds later : Interval) → IsPlanned n q graph bounds → IsPlanned n r other later
     → r.source.0 ≡ q.source.0 → r.target.0 ≡ q.target.0 → r.start.0 ≡ q.start.0 → q.deadline.0 ≤ r.deadline.0 → later.hi ≤ bounds.hi
 no_worse n q r graph other bounds later one two source target start less =
-    let t = unfold_plan graph n q in
-    let reached = reaches_from_safe n q.source.0 q.target.0 q.start.0 q.deadline.0 t one.best.safe in
-    let safe = safe_from_reaches n q.source.0 q.target.0 q.start.0 r.deadline.0 t reached.0 (omega (arith, reached.1, less)) in
-    let own : IsSafeFor n r t = rw (source, target, start) safe in
-    omega (arith, two.best.least_up t own, one.best.rounded)
+    grind (arith, reaches_from_safe, safe_from_reaches)
 
 -- the least mean rounded up is one
 pub one_upper : (n : NetworkModel) (q : Query) (t u : Tree) (bounds others : Interval) → IsBest n q t bounds → IsBest n q u others → bounds.hi ≡ others.hi

@@ -10,20 +10,4 @@ none_late promise start by = let test : nat_le start promise ≡ true = grind (a
 pub least_chance : (n : NetworkModel) (q : Query) (graph : PlanGraph) (chance : Interval)
     → IsPlannedBy chance_scoring n q graph chance → IsLeastChance n q graph chance
 least_chance n q graph chance by =
-    let own = by.best.below_safe (unfold_plan graph n q) by.best.safe in
-    record {
-      punctual = record {
-        tidy = by.tidy;
-        safe = by.best.safe;
-        below_own = own.0;
-        covers_own = by.best.covers_own.0;
-        rounded = by.best.covers_own.1;
-        below_safe = λ tree safe. (by.best.below_safe tree safe).0;
-        least = λ tree safe. (by.best.below_safe tree safe).1;
-        least_up = λ tree safe. (by.best.below_safe tree safe).2;
-        gap = by.best.gap_within;
-        at_once = λ same early. by.best.at_once same ∙ none_late promised q.start.0 early;
-      };
-      by_rules = by.by_rules;
-      at_once = by.best.at_once;
-    }
+    grind (arith, none_late)

@@ -1,4 +1,5 @@
 -- From the graph ride by ride to the one with one table for each place.
+use Rattle.std.proofs.Common.{arith}
 use Rattle.decision_graph.proofs.Common.{◌≡◌, sym, ◌∙◌, subst, Query, NetworkModel, Tree, ExpandedGraph, PlanGraph, unfold_expanded, unfold_plan, Scoring, IsByRules, IsBestBy, IsExpandedBy}
 use Rattle.decision_graph.proofs.Common.{IsPlannedBy}
 use Rattle.plan_graph.specs.Tidy.{IsTidy}
@@ -9,9 +10,4 @@ pub planned : {V : Type 0} (scoring : Scoring V)
     → unfold_expanded pruned n q ≡ unfold_expanded graph n q → unfold_plan plan n q ≡ unfold_expanded pruned n q → IsTidy n q plan
     → IsPlannedBy scoring n q plan value
 planned scoring n q graph pruned plan value expanded prunes compacts tidy =
-    let same = sym (compacts ∙ prunes) in
-    record {
-      best = subst (λ (t : Tree). IsBestBy scoring n q t value) same expanded.best;
-      by_rules = λ differ. subst (λ (t : Tree). IsByRules scoring n q t value) same (expanded.by_rules differ);
-      tidy = tidy;
-    }
+    grind arith

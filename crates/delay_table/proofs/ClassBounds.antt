@@ -12,8 +12,7 @@ module _ (n : ℕ) where
   either a b h k = grind arith
 
   pub chosen : (o : Option ℕ) → 0 < n → Is o → unwrap_or o 0 < n
-  chosen None some h = some
-  chosen (Some x) some h = h
+  chosen o some h = grind arith
 
 type-inside : (types : List ℕ) (route k : ℕ) → type_index types route ≡ Some k → k < length types
 unfolding type_index

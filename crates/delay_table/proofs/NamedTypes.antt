@@ -41,8 +41,7 @@ module _ (rows : Group → List Outcome) where
 
   -- one type more, if it has outcomes
   more-are : (n : ℕ) (types : List ℕ) (r : List Outcome) → r ≡ type_rows rows n → AreNamed n types → AreNamed (suc n) (types ++ if_some r n)
-  more-are n types [] e s = grind (arith, append-nil)
-  more-are n types (o ∷ os) e s = grind (arith, common_steps, All-push, all_pairs_push)
+  more-are n types r e s = grind (arith, append-nil, common_steps, All-push, all_pairs_push)
 
   pub route_types_below-are : (n : ℕ) → AreNamed n (route_types_below rows n)
   unfolding route_types_below
@@ -67,6 +66,4 @@ module _ (rows : Group → List Outcome) where
   pub are-route_types_below : (n : ℕ) (types : List ℕ) → AreNamed n types → HasNamed n types → types ≡ route_types_below rows n
   are-route_types_below n types s has =
       let t = route_types_below-are n in
-      same-rising types (route_types_below rows n) s.rising t.rising
-      (λ r c. route_types_below-has n r (All-contains (λ x. x < n) types r s.below c) (All-contains (λ x. 0 < length (type_rows rows x)) types r s.some c))
-      (λ r c. has r (All-contains (λ x. x < n) (route_types_below rows n) r t.below c) (All-contains (λ x. 0 < length (type_rows rows x)) (route_types_below rows n) r t.some c))
+      grind (arith, same-rising, route_types_below-has, All-contains)

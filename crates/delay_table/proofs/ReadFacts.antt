@@ -93,19 +93,7 @@ module _ (t : List (List (List ℕ))) (i : ℕ) (line : Line) (here : Some line 
     known_next : (k : ℕ) → group_index line.group groups ≡ Some k → IsPushed rows new k line.outcome → IsReadTo t (i + 1) groups new
     known_next k e p =
         let w = group-here line.group groups k e in
-        let own : group_outcomes t i line.group ≡ (group_rows_at rows k).outcomes = sym (r.each k w.0 ∙ ap (group_outcomes t i) w.1) in
-        let same : firsts t (i + 1) ≡ firsts t i = firsts-same (omega (arith, ap length own, r.some k w.0)) in
-        let pushed : (group_rows_at new k).outcomes ≡ group_outcomes t (i + 1) (group_in groups k) = grind (arith, next-own) in
-        let other : (j : ℕ) → j < length groups → (j ≡ k → ⊥) → (group_rows_at new j).outcomes ≡ group_outcomes t (i + 1) (group_in groups j) = grind (arith, next-other, apart-ne) in
-        record {
-          are = r.are ∙ ap (groups_at t) (sym same);
-          size = p.size ∙ r.size;
-          apart = r.apart;
-          lines = λ j l. p.lines j ∙ r.lines j l ∙ ap (λ xs. slice_index xs j + 2) (sym same);
-          each = λ j l. grind (arith, cases_eq);
-          some = λ j l. grind (arith, length_push, cases_eq);
-          absent = λ group h. next-other group (λ z. nowhere group groups h k w.0 (w.1 ∙ z)) ∙ r.absent group h;
-        }
+        grind (arith, firsts-same, next-own, next-other, apart-ne, cases_eq, length_push)
 
     -- the first row of a group
     fresh_next : (more : List Group) → group_index line.group groups ≡ None → more ≡ groups ++ line.group ∷ []

@@ -73,10 +73,7 @@ module _ (groups : List Group) (read : List GroupRows) (is : AreGroupsRead group
   others_valid : All IsValidRow (map own (others groups (length groups)))
   others_valid = All-map IsValidRow own (others groups (length groups)) (λ k d l.
       let w = others-from groups (length groups) k d l in
-      let e = w.is in
-      let valid = valid_row (own (group_in groups w.index)) (is.starts (group_in groups w.index)) (is.some w.index w.inside)
-      (group_right w.index w.inside (subst (λ (g : Group). is_plain g ≡ false) e w.other)) in
-      subst (λ (g : Group). IsValidRow (own g)) (sym e) valid)
+      grind (arith, valid_row, group_right))
 
   default_there : 0 < length (class_rows own None)
   default_there = default_some (class_rows own None) parts.4
@@ -136,14 +133,7 @@ pub groups-same : (t : List (List (List ℕ))) (n : ℕ) (groups : List Group) (
 unfolding first_line
 groups-same t n groups rows r =
     let same : read_outcomes groups rows ≡ group_outcomes t n = fun_ext (rows-are t n groups rows r) in
-    let lines : first_below (group_sum_at (group_outcomes t n) groups (line_at rows)) (length groups) ≡ first_below (group_sum_at (group_outcomes t n) groups (first_line t n)) (length groups) =
-    first-same (group_sum_at (group_outcomes t n) groups (line_at rows)) (group_sum_at (group_outcomes t n) groups (first_line t n)) (length groups)
-    (λ k l. ap (λ m. group_sum (group_in groups k) m (group_outcomes t n (group_in groups k))) (r.lines k l)) in
-    ap (λ rs. groups_fault rs groups (line_at rows)) same
-    ∙ ap (λ o. option_or (too_many_classes (length groups)) (option_or (class_sum (group_outcomes t n) None)
-    (option_or (first_below (type_sum_at (group_outcomes t n) (route_types_below (group_outcomes t n) end_of_types)) (length (route_types_below (group_outcomes t n) end_of_types)))
-    (option_or o (no_default_of (class_rows (group_outcomes t n) None)))))) lines
-    ∙ ap (λ gs. groups_fault (group_outcomes t n) gs (first_line t n)) r.are
+    grind (arith, first-same)
 
 groups-of : (t : List (List (List ℕ))) → groups_at t (firsts t (row_count t)) ≡ groups_of t
 unfolding groups_of

@@ -14,14 +14,7 @@ never_falls types h i j l inside = grind (arith, eq-or-lt_of_le)
 pub greatest_last : (r : List Outcome) (last : Outcome) → IsValidRow r → All (λ o. o.delay ≤ (slice_index_or r (length r - 1) last).delay) r
 greatest_last r last v k d l =
     let e = get_or_default r (length r - 1) d last (omega arith) in
-    let P : Outcome → Type 0 = λ o. (slice_index_or r k d).delay ≤ o.delay in
-    subst P e
-    (⊎_elim (λ (before : k < length r - 1). omega (arith, v.rising k (length r - 1) d before (omega arith)))
-    (λ (end : length r - 1 ≤ k).
-    let same : k ≡ length r - 1 = omega arith in
-    let Q : ℕ → Type 0 = λ i. (slice_index_or r k d).delay ≤ (slice_index_or r i d).delay in
-    subst Q same (omega arith))
-    (cases_lt k (length r - 1)))
+    grind (arith, slice_index_or, cases_lt)
 
 no_index : (types : List ℕ) (route : ℕ) → ¬ Contains types route → type_index types route ≡ None
 unfolding type_index

@@ -9,15 +9,13 @@ row_past : (moment : ℕ) (rows : List DepartureRow) → All (λ r. r.by.0 < mom
 row_past moment [] few = refl
 row_past moment (r ∷ rows) few =
     let less = few zero r (omega arith) in
-    let test : nat_le moment r.by.0 ≡ false = grind (arith, nat_tests) in
-    rw test (row_past moment rows (λ k d l. few (suc k) d (omega arith)))
+    grind (arith, nat_le, nat_tests, row_past moment rows (λ k d l. few (suc k) d (omega arith)))
 
 row_last : (moment : ℕ) (rows : List DepartureRow) (row : DepartureRow) → All (λ r. r.by.0 < moment) rows → moment ≤ row.by.0 → first_row_by moment (rows ++ row ∷ []) ≡ Some row
 row_last moment [] row few within = let test : nat_le moment row.by.0 ≡ true = grind (arith, nat_tests) in rw test refl
 row_last moment (r ∷ rows) row few within =
     let less = few zero r (omega arith) in
-    let test : nat_le moment r.by.0 ≡ false = grind (arith, nat_tests) in
-    rw test (row_last moment rows row (λ k d l. few (suc k) d (omega arith)) within)
+    grind (arith, nat_le, nat_tests, row_last moment rows row (λ k d l. few (suc k) d (omega arith)) within)
 
 row_kept : (moment : ℕ) (rows : List DepartureRow) (row found : DepartureRow) → first_row_by moment rows ≡ Some found → first_row_by moment (rows ++ row ∷ []) ≡ Some found
 row_kept moment [] row found is = absurd (cc)

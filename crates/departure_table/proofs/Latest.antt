@@ -52,10 +52,7 @@ module _ (m : NetworkModel) (source : ℕ) (q : Query) where
         let best : IsBestFrom m (SafeFrom m source q) moment f.row = grind arith in
         let departure : IsDepartureRow m f.row = subst (IsDepartureRow m) (f.here f.row) (table.departures f.k f.row f.within) in
         let own = safe_by_row moment f.row departure best in
-        elim (cases_lt g.0 f.row.by.0) [
-          | inl later ↦ absurd (greatest.2 f.row.by.0 later own.0 own.1)
-          | inr up_to ↦ up_to
-        ]
+        grind (arith, cases_lt)
 
     -- nor is any row
     up_to_greatest : All (λ row. row.by.0 ≤ g.0) rows

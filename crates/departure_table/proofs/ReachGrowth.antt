@@ -35,15 +35,13 @@ last_row : (p : ℕ) (rows : List ReachRow) (row : ReachRow) → All (λ r. r.pl
 last_row p [] row before here = let test : (row.place.0 == p) ≡ true = grind (arith, nat_tests) in rw test refl
 last_row p (r ∷ rows) row before here =
     let less = before zero r (omega arith) in
-    let test : (r.place.0 == p) ≡ false = grind (arith, nat_tests) in
-    rw test (last_row p rows row (λ k d within. before (suc k) d (omega (arith, within))) here)
+    grind (arith, nat_tests, last_row p rows row (λ k d within. before (suc k) d (omega (arith, within))) here)
 
 no_row : (p : ℕ) (rows : List ReachRow) → All (λ r. r.place.0 < p) rows → row_of_place p rows ≡ None
 no_row p [] before = refl
 no_row p (r ∷ rows) before =
     let less = before zero r (omega arith) in
-    let test : (r.place.0 == p) ≡ false = grind (arith, nat_tests) in
-    rw test (no_row p rows (λ k d within. before (suc k) d (omega (arith, within))))
+    grind (arith, nat_tests, no_row p rows (λ k d within. before (suc k) d (omega (arith, within))))
 
 module _ (m : NetworkModel) (q : Query) (start : ℕ) where
   abbrev Answer : ℕ → List ReachRow → Type 0

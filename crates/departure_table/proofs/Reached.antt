@@ -30,8 +30,7 @@ module _ (n m : NetworkModel) (q : Query) (gate : ℕ) (place : PlaceId) (g : Is
   module _ (found : ScanResult MeanSpan) (solves : SolvesArrivals found n q) where
     solves_each : (p x : ℕ) (choice : Option (MeanSpan × Leg)) → MatchOption choice ((tree : Tree) → IsSafeAt n q p x tree → ⊥) (SolvesEach mean_scoring n q found p x)
         → MatchOption choice ((tree : Tree) → IsSafeAt n q p x tree → ⊥) (SolvesEach mean_scoring n (asked_at q gate) found p x)
-    solves_each p x None none = none
-    solves_each p x (Some choice) s = record { safe = s.safe; covers_chosen = s.covers_chosen; below_safe = s.below_safe; gap_within = s.gap_within; kept = s.kept }
+    solves_each p x choice none = grind arith
 
     solves_there : SolvesArrivals found n (asked_at q gate)
     solves_there p x elsewhere = solves_each p x (choice_of found p x) (solves p x elsewhere)

@@ -30,8 +30,7 @@ values_alike {V} arrived target deadline a b place moment (o ∷ row) same = gri
 
 -- of the exits only that of one run counts
 exits_alike : {V : Type 0} (s : Scoring V) (id : ConnectionId) (run other : ℕ) (o : Option V) (a b : ℕ → Option (Exit V)) → a other ≡ b other → exits_with s id run o a other ≡ exits_with s id run o b other
-exits_alike s id run other None a b same = same
-exits_alike {V} s id run other (Some value) a b same = ap (λ (e : Option (Exit V)). if other == run then Some (exit_after_offer s (value, id) e) else e) same
+exits_alike s id run other o a b same = grind arith
 
 module _ (m : NetworkModel) (v : IsValid m) (xs ys : List PlaceId) (there : All (λ source. source.0 < length m.change) xs) (there_too : All (λ source. source.0 < length m.change) ys)
     (few : length m.change + length xs < 4294967296) (few_too : length m.change + length ys < 4294967296) (q : Query) (x y : ℕ) where
@@ -74,8 +73,7 @@ module _ (m : NetworkModel) (v : IsValid m) (xs ys : List PlaceId) (there : All 
   found_alike k j first second same inside order is_order a b rules others next =
       let each = has_each_id A order is_order in
       let kept = (kept_alike mean_scoring order each.within).rows (length m.change + k) (length m.change + j) (alike_gates k j first second same inside) in
-      let rows : found_rows a (length m.change + k) ≡ found_rows b (length m.change + j) = rules.rows (length m.change + k) ∙ kept ∙ sym (others.rows (length m.change + j)) in
-      ap (λ (r : List (Row MeanSpan)). option_map (row_of_choice m) (option_map (λ (row : Row MeanSpan). (row.value, row.leg)) (row_in_time (next - 1) r))) rows
+      grind arith
 
 -- the first row of the departures from a place has the bounds of its row of a reach
 pub first_departure : (m : NetworkModel) → IsValid m → (q : Query) (place : PlaceId) (x y last : ℕ) → FitGates m (places_of m) → FitGates m (place ∷ []) → q.target.0 < length m.change → q.start.0 ≤ last → FirstAlike m q place x y last

@@ -12,9 +12,7 @@ module _ (m : NetworkModel) (Safe : ℕ → Tree → Type 0) (first last : ℕ) 
   empty_exactly (row ∷ rows) t =
       let by = t.from_first zero row (omega arith) in
       let test : nat_le first row.by.0 ≡ true = grind (arith, nat_tests) in
-      let found : first_row_by first (row ∷ rows) ≡ Some row = rw test refl in
-      let best = subst (λ (o : Option DepartureRow). MatchOption o (IsNoneSafeFrom Safe first) (IsBestFrom m Safe first)) found (t.answers first (omega arith) order) in
-      ((λ same. absurd (cc)), (λ none. absurd (none best.covers_one.0 best.covers_one.1)))
+      grind arith
 
 -- answers for one kind of safety are answers for the same kind in other words
 module _ (n m : NetworkModel) (S T : ℕ → Tree → Type 0) (many : count n ≡ count m)

@@ -1,4 +1,5 @@
 -- A file put in front of the others.
+use Rattle.std.proofs.Common.{arith}
 use Rattle.feed_maker.proofs.Common.{◌≡◌, ℕ, List, [], ◌∷◌, ◌++◌, Bool, true, false, refl, ap, sym, ◌∙◌, codes, Option, None, Some, if◌then◌else◌, bytes_eq, bytes_eq-Decides, FileMap, file_at}
 use Rattle.feed_maker.proofs.Common.{PutsFile, stops_text, routes_text, trips_text, stop_times_text, calendar_text, delays_text, made, other_files, SameFolder}
 
@@ -39,9 +40,7 @@ file_at-without (f ∷ fs) after path bytes other apart =
 moved_at : (before after : FileMap) (path bytes p : List ℕ) (b : Bool) → bytes_eq path p ≡ b → file_at before path ≡ None
     → (if b then Some bytes else file_at (before ++ after) p) ≡ file_at (before ++ (path, bytes) ∷ after) p
 moved_at before after path bytes p true is none =
-    let same : path ≡ p = (bytes_eq-Decides path p).0 is in
-    sym (file_at-behind before ((path, bytes) ∷ after) p (ap (λ (x : List ℕ). file_at before x) (sym same) ∙ none)
-    ∙ ap (λ (b : Bool). if b then Some bytes else file_at after p) is)
+    grind (arith, bytes_eq-Decides, file_at-behind)
 moved_at before after path bytes p false is none = file_at-without before after path bytes p is
 
 -- a file whose path no file before it has may as well come first

@@ -1,4 +1,5 @@
 -- A file that comes after another one.
+use Rattle.std.proofs.Common.{arith}
 use Rattle.feed_maker.proofs.Common.{◌≡◌, ℕ, List, ◌∷◌, Bool, true, false, refl, ap, sym, ◌∙◌, Option, Some, Result, Ok, Err, if◌then◌else◌, bytes_eq, bytes_eq-Decides, FileMap, file_at, Opens}
 use Rattle.file_ports.specs.declared.ports.Presence.{Presence}
 use Rattle.file_ports.specs.declared.ports.Presence.TheVariants.{Present, Absent}
@@ -6,8 +7,7 @@ use Rattle.file_ports.specs.declared.ports.Presence.TheVariants.{Present, Absent
 pub other_path : (x y : List ℕ) (b : Bool) → bytes_eq y x ≡ b → bytes_eq x y ≡ false → b ≡ false
 other_path x y false h n = refl
 other_path x y true h n =
-    let same : bytes_eq x y ≡ true = (bytes_eq-Decides x y).1 (sym ((bytes_eq-Decides y x).0 h)) in
-    absurd (let k : true ≡ false = sym same ∙ n in cc)
+    grind (arith, bytes_eq-Decides)
 
 -- it is opened like the only one
 pub opens_behind : {E : Type 0} (path first text : List ℕ) (others : FileMap) (result : Result Presence E) (remaining : Option (List ℕ)) → bytes_eq path first ≡ false

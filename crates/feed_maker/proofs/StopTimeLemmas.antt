@@ -13,18 +13,13 @@ pub remaining_first : (lines : ℕ) (made : List ℕ) → made ≡ codes "trip_i
     → drop 0 made ++ rows_from 0 (lines - 0) ≡ stop_times_text lines
 unfolding stop_times_text joined
 remaining_first lines made is =
-    let none : lines - 0 ≡ lines = omega arith in
-    ap (λ (text : List ℕ). text ++ rows_from 0 (lines - 0)) is
-    ∙ ap (λ n. codes "trip_id,arrival_time,departure_time,stop_id,stop_sequence\n" ++ rows_from 0 n) none
+    grind arith
 
 -- the rows of one line more, where those before are read
 pub remaining_next : (text made : List ℕ) (offset line lines : ℕ) → length text ≤ offset → line < lines → made ≡ line_rows line
     → drop 0 made ++ rows_from (line + 1) (lines - (line + 1)) ≡ drop offset text ++ rows_from line (lines - line)
 remaining_next text made offset line lines read more is =
-    let empty : drop offset text ≡ [] = grind (arith, common_steps) in
-    let first = rows_from-first line (lines - line) (lines - (line + 1)) (omega arith) in
-    ap (λ (rows : List ℕ). rows ++ rows_from (line + 1) (lines - (line + 1))) is ∙ sym first
-    ∙ ap (λ (rows : List ℕ). rows ++ rows_from line (lines - line)) (sym empty)
+    grind (arith, common_steps, rows_from-first)
 
 -- a read moves a front of it
 pub remaining_after : (text lent buffer rows : List ℕ) (offset count : ℕ) → lent ≡ text

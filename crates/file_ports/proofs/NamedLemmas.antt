@@ -92,9 +92,7 @@ found es q i e s = (position_gives es q i e s.position_is).1 ∙ ap (λ (x : Nam
 
 pub path_is : {T : Type 0} (es : List (Named T)) (q : List ℕ) (i : ℕ) (e : Named T) → IsEntryAt es q i e → string_bytes e.path ≡ q
 path_is es q i e s =
-    let t : at_path q (get_or es i e) ≡ true = (position-Some (at_path q) es i e s.position_is).1 in
-    let t' : at_path q e ≡ true = ap (at_path q) s.item ∙ t in
-    (bytes_eq-Decides (string_bytes e.path) q).0 t'
+    grind (arith, position-Some, bytes_eq-Decides)
 
 -- a value put in the place of the one at this path
 pub put_over : {T : Type 0} (es : List (Named T)) (q p : List ℕ) (i : ℕ) (v : T) (e : Named T) → IsEntryAt es q i e
@@ -105,5 +103,4 @@ put_over es q p i v e s = set_gives es q p i (record { path = e.path; value = v 
 pub put_last : {T : Type 0} (es lent new : List (Named T)) (q p : List ℕ) (w : Named T) (r : Option ℕ) → r ≡ position (at_path q) lent → lent ≡ es → r ≡ None
     → string_bytes w.path ≡ q → new ≡ es ++ w ∷ [] → value_at new p ≡ if◌then◌else◌ (bytes_eq q p) (Some w.value) (value_at es p)
 put_last es lent new q p w r a b k path n =
-    let none : position (at_path (string_bytes w.path)) es ≡ None = ap (λ z. position (at_path z) es) path ∙ searched es lent q r None a b k in
-    ap (λ z. value_at z p) n ∙ push_gives es p w none ∙ ap (λ z. if◌then◌else◌ (bytes_eq z p) (Some w.value) (value_at es p)) path
+    grind (arith, searched, push_gives)

@@ -50,16 +50,13 @@ pub opened_remaining : {T : Type 0} (bytes : T → List ℕ) (es : List (Named T
     × IsSome (option_and_then (λ k. option_map (λ (e : Named T). drop 0 (bytes e.value)) (slice_get es k)) current)
 opened_remaining {T} bytes es q current i p h =
     let x = entry es q i (p ∙ h) in
-    let L : Option ℕ → Option (List ℕ) = λ o. option_and_then (λ k. option_map (λ (e : Named T). drop 0 (bytes e.value)) (slice_get es k)) o in
-    let remaining : L current ≡ Some (bytes x.0.value) = ap L h ∙ ap (λ o. option_map (λ (e : Named T). drop 0 (bytes e.value)) o) x.1.here in
-    (remaining ∙ sym (file_of bytes es q ∙ ap (λ o. option_map bytes o) x.1.value), rw remaining refl)
+    grind (arith, file_of)
 
 pub opened_path : {T : Type 0} (reported : Type 0) (es : List (Named T)) (q : List ℕ) (current : Option ℕ) (i : ℕ) → position (at_path q) es ≡ current → current ≡ Some i
     → IsSome (open_in es current) × (reported → open_in es current ≡ Some q)
 opened_path {T} reported es q current i p h =
     let x = entry es q i (p ∙ h) in
-    let all : open_in es current ≡ Some q = ap (open_in es) h ∙ ap (λ o. option_map (λ (e : Named T). string_bytes e.path) o) x.1.here ∙ ap Some x.1.path in
-    (rw all refl, λ _. all)
+    grind arith
 
 -- `open_file` answers Absent
 pub absent : {T : Type 0} (bytes : T → List ℕ) (es : List (Named T)) (q : List ℕ) (current : Option ℕ) → position (at_path q) es ≡ current → current ≡ None
@@ -85,8 +82,7 @@ range_cases : {T : Type 0} (es : List (Named T)) (i : ℕ) (o : Option (Named T)
     → IsSome (option_map (λ (e : Named T). string_bytes e.path) o) → i < length es
 range_cases es i o (inl f) s = f.1
 range_cases {T} es i o (inr f) s =
-    let gone : is_some (option_map (λ (e : Named T). string_bytes e.path) o) ≡ false = ap (λ z. is_some (option_map (λ (e : Named T). string_bytes e.path) z)) f.1 in
-    absurd (let t : false ≡ true = sym gone ∙ s in cc)
+    grind arith
 
 current_in_range : {T : Type 0} (es : List (Named T)) (current : Option ℕ) (i : ℕ) → current ≡ Some i → IsSome (open_in es current) → i < length es
 current_in_range es current i h s = range_cases es i (slice_get es i) (slice_get_cases es i).1 (ap (λ o. is_some (open_in es o)) (sym h) ∙ s)
@@ -100,8 +96,7 @@ if_some_at o x P e p = subst (λ (z : Option _). IfSome z P) (sym e) p
 -- the rest that a slice from this offset on lends, of the list that was lent
 rest_is : (xs ys : List ℕ) (offset from k : ℕ) → ys ≡ xs → from ≡ min offset k → k ≡ length ys → take (length ys - from) (drop from ys) ≡ drop offset xs
 rest_is xs ys offset from k e f l =
-    let top : from ≡ min offset (length ys) = f ∙ ap (λ z. min offset z) l in
-    take_rest ys from ∙ ap (λ z. drop z ys) top ∙ drop_min offset ys ∙ ap (λ zs. drop offset zs) e
+    grind (arith, take_rest, drop_min)
 
 -- a read gives as much as it may
 pub read_count : (xs ys : List ℕ) (offset from k n piece room : ℕ) → ys ≡ xs → from ≡ min offset k → k ≡ length ys
@@ -123,9 +118,7 @@ moved xs ys buf offset from k n e f l t =
 pub at_end : (xs ys : List ℕ) (offset from k n piece room : ℕ) → ys ≡ xs → from ≡ min offset k → k ≡ length ys
     → n ≡ min (min piece room) (length (take (length ys - from) (drop from ys))) → 0 < piece → 0 < room → n ≡ 0 → drop (from + n) xs ≡ []
 at_end xs ys offset from k n piece room e f l h p r z =
-    let m : n ≡ min (min piece room) (length (drop offset xs)) = read_count xs ys offset from k n piece room e f l h in
-    let empty : drop offset xs ≡ [] = grind (arith, common_steps) in
-    sym (after xs ys offset from k n e f l) ∙ ap (λ zs. drop n zs) empty ∙ ap (λ i. drop i []) z
+    grind (arith, read_count, common_steps)
 
 pub consumes_known : (a b : Option (List ℕ)) (xs ys bs : List ℕ) → a ≡ Some xs → b ≡ Some ys → xs ≡ bs ++ ys → Consumes a b bs
 consumes_known a b xs ys bs p q h = rw (p, q) h

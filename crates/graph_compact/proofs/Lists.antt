@@ -12,12 +12,10 @@ use Rattle.std.proofs.lemmas.Map.Views.{All-insert_key}
 use Rattle.plan_graph.proofs.Sets.{Contains-insert_key, Contains-inserted_key, IsStrictlySortedBy-insert_key}
 
 pub with_rows : (place : ℕ) (rows : List GraphRow) (more : List PlaceTable) → 0 < length rows → with_table place rows more ≡ record { place = record { 0 = place }; rows = rows } ∷ more
-with_rows place [] more some = absurd (omega (arith, some))
-with_rows place (row ∷ rows) more some = refl
+with_rows place rows more h1 = grind arith
 
 pub without_rows : (place : ℕ) (rows : List GraphRow) (more : List PlaceTable) → length rows ≡ 0 → with_table place rows more ≡ more
-without_rows place [] more none = refl
-without_rows place (row ∷ rows) more none = absurd (omega (arith, none))
+without_rows place rows more h1 = grind arith
 
 row_cmp-total : IsTotalOrder row_cmp
 row_cmp-total = then_total (on_total (λ (row : GraphRow). row.by.0) nat_cmp_total) (on_total (λ (row : GraphRow). row.leg) leg_cmp-total)

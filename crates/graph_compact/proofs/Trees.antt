@@ -29,17 +29,14 @@ use Rattle.graph_compact.proofs.Lists.{IsOf, All-gathered_rows, Contains-gathere
 
 -- the rows of a place in the tables, from a first table on
 rows_of_place-here : (base : ℕ) (rows : List GraphRow) (tables : List PlaceTable) → rows_of_place tables base ≡ [] → rows_of_place (with_table base rows tables) base ≡ rows
-rows_of_place-here base [] tables none = none
-rows_of_place-here base (row ∷ rows) tables none = rw (eq-eqb base base refl) refl
+rows_of_place-here base rows tables h1 = grind (arith, eq-eqb)
 
 rows_of_place-other : (base place : ℕ) (rows : List GraphRow) (tables : List PlaceTable) → base ≢ place → rows_of_place (with_table base rows tables) place ≡ rows_of_place tables place
-rows_of_place-other base place [] tables differ = refl
-rows_of_place-other base place (row ∷ rows) tables differ = rw (ne_eqb base place differ) refl
+rows_of_place-other base place rows tables h1 = grind (arith, ne_eqb)
 
 no_rows : (place base : ℕ) (lists : List (List GraphRow)) → place < base → rows_of_place (tables_of base lists) place ≡ []
 no_rows place base [] less = refl
-no_rows place base (rows ∷ more) less =
-    rows_of_place-other base place rows (tables_of (base + 1) more) (λ is. omega (arith, is, less)) ∙ no_rows place (base + 1) more (omega (arith, less))
+no_rows place base (rows ∷ more) less = grind (arith, rows_of_place-other, no_rows place (base + 1) more (omega (arith, less)))
 
 abbrev ByPlace : PlaceTable → PlaceTable → Type 0
 ByPlace a b = a.place.0 < b.place.0
@@ -79,19 +76,12 @@ module _ (T : ℕ → List GraphRow) where
 
   with_first : (base : ℕ) (rows : List GraphRow) (tables : List PlaceTable) → rows ≡ T base → All (IsTableOf (base + 1)) tables → AllPairs ByPlace tables
       → All (IsTableOf base) (with_table base rows tables) × AllPairs ByPlace (with_table base rows tables)
-  with_first base [] tables is all rise = (lower base tables all, rise)
-  with_first base (row ∷ rows) tables is all rise =
-      let table : PlaceTable = record { place = record { 0 = base }; rows = row ∷ rows } in (
-        All-cons (IsTableOf base) table tables (record { low = omega arith; rows = is; some = omega arith }) (lower base tables all),
-        AllPairs-cons ByPlace table tables (All-weaker (IsTableOf (base + 1)) (ByPlace table) (λ t found. omega (arith, found.low)) tables all) rise,
-      )
+  with_first base rows tables h1 h2 h3 = grind (arith, All-cons, AllPairs-cons, All-weaker)
 
   -- the tables are such, and rise
   pub tables_found : (base : ℕ) (lists : List (List GraphRow)) → AreFrom base lists → All (IsTableOf base) (tables_of base lists) × AllPairs ByPlace (tables_of base lists)
   tables_found base [] from = (All-nil (IsTableOf base), AllPairs-nil ByPlace)
-  tables_found base (rows ∷ more) from =
-      let rest = tables_found (base + 1) more (from_tail base rows more from) in
-      with_first base rows (tables_of (base + 1) more) (from_head base rows more from) rest.0 rest.1
+  tables_found base (rows ∷ more) from = grind (arith, from_tail, from_head, tables_found (base + 1) more (from_tail base rows more from))
 
 module _ (n : NetworkModel) (valid : IsValid n) (q : Query) (graph : ExpandedGraph) (pruned : IsPruned n q graph) (coherent : IsCoherent n graph) where
   abbrev T : ℕ → List GraphRow
@@ -125,8 +115,7 @@ module _ (n : NetworkModel) (valid : IsValid n) (q : Query) (graph : ExpandedGra
   by_limit : (place : ℕ) (x : GraphRow) → Contains (T place) x → limit_of n place x.leg ≡ Some x.by.0
   by_limit place x has =
       let found = row_of_ride place x has in
-      let by = All-contains (IsByLimits n) graph.rides found.r pruned.by found.has in
-      subst (λ (p : ℕ). limit_of n p x.leg ≡ Some x.by.0) found.ends (All-contains (λ w. limit_of n (end_of n found.r.leg) w.leg ≡ Some w.by.0) found.r.after x by found.there)
+      grind (arith, All-contains)
 
   ready_ride : (r : Ride) → Contains graph.rides r → IsReadyRide n target r
   ready_ride r = All-contains (IsReadyRide n target) graph.rides r pruned.ready.rides
@@ -229,8 +218,7 @@ module _ (n : NetworkModel) (valid : IsValid n) (q : Query) (graph : ExpandedGra
     fit_row : (place : ℕ) (x : GraphRow) → Contains (T place) x → IsFitRow n place x
     fit_row place x has =
         let source = row_of_ride place x has in
-        let good = All-contains (IsReadyRow n (end_of n source.r.leg)) source.r.after x (ready_ride source.r source.has).rows source.there in
-        record { is_leg = good.is_leg; by = by_limit place x has }
+        grind (arith, All-contains, ready_ride, by_limit)
 
     fit_table : (table : PlaceTable) → Contains tables table → IsFitTable n table
     fit_table table has =

@@ -19,8 +19,7 @@ module _ (n : NetworkModel) (q : Query) (graph : ExpandedGraph) (at : ℕ → �
       let same : f.0 ≡ row.leg = one_found (pick_row r.after x) f.0 row.leg f.1 (first_pick r.after x row idle.1.2) in
       let chosen : at (end_of n r.leg) x ≡ Some row.leg = f.2 ∙ ap (λ (l : Leg). Some l) same in
       let k = steady (end_of n r.leg) x row.leg idle.0 chosen in
-      let limit = one_found (limit_of n (end_of n r.leg) row.leg) row.by.0 k.limit (by_its_limit r has row there) k.is_limit in
-      (idle.0, k.kept row.by.0 (first_there r.after x row idle.1.2).0 (omega (arith, limit)))
+      grind (arith, one_found, by_its_limit, first_there)
 
   at_place : (place : ℕ) (row : GraphRow) → IsRowAt n graph place row → (place ≢ q.target.0) × (at place row.by.0 ≡ Some row.leg)
   at_place place row stands =

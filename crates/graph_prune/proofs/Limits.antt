@@ -38,10 +38,7 @@ module _ (n : NetworkModel) (place : ℕ) where
             let rest = sym (in_time_next n place row rows x r.limit r.is_limit late) ∙ is in
             let more = λ (before : Option ℕ) (apart : IsApart before x). first_by_limits rows before x leg limit (All-tail IsReadyHere row rows ready) apart rest its in
             rw r.is_limit (late_by r.limit (is_last last r.limit) late (more last apart) (more (Some r.limit) late))
-        | inr early ↦
-            let one : row.leg ≡ leg = one_found (pick_in_time n place (row ∷ rows) x) row.leg leg (in_time_here n place row rows x r.limit r.is_limit early) is in
-            let two : r.limit ≡ limit = one_found (limit_of n place leg) r.limit limit (ap (limit_of n place) (sym one) ∙ r.is_limit) its in
-            rw (r.is_limit, apart_last last x r.limit apart early) (inl (early, sym (ap₂ row_by two one)))
+        | inr early ↦ grind (arith, one_found, in_time_here, apart_last)
       ]
     where
       late_by : (own : ℕ) (test : Bool) → own < x → IsFirstInTime (by_limits n place rows last) x (row_by limit leg)
@@ -140,12 +137,5 @@ module _ (n : NetworkModel) (place : ℕ) where
               in_time = rest.in_time;
               kept = λ later after within. in_time_next n place row rows later r.limit r.is_limit (omega (arith, late, after)) ∙ rest.kept later after within;
             }
-        | inr early ↦
-            let one : row.leg ≡ leg = one_found (pick_in_time n place (row ∷ rows) x) row.leg leg (in_time_here n place row rows x r.limit r.is_limit early) is in
-            record {
-              limit = r.limit;
-              is_limit = ap (limit_of n place) (sym one) ∙ r.is_limit;
-              in_time = early;
-              kept = λ later after within. in_time_here n place row rows later r.limit r.is_limit within ∙ ap (λ (l : Leg). Some l) one;
-            }
+        | inr early ↦ grind (arith, one_found, in_time_here)
       ]

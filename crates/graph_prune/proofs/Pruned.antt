@@ -81,13 +81,7 @@ module _ (n : NetworkModel) (valid : IsValid n) (q : Query) (source : ExpandedGr
     own_row : (y : GraphRow) → Contains own.after y → IsReadyRow n place y
     own_row y there =
         let m = limit_member n place r.after _ y its.rows there in
-        let here : IsReadyRow n place (row_by m.limit m.row.leg) = record {
-          is_leg = (All-contains (IsReadyRow n place) r.after m.row its.rows m.has).is_leg;
-          limit = m.limit;
-          is_limit = m.is_limit;
-          in_time = omega arith;
-        } in
-        subst (λ (w : GraphRow). IsReadyRow n place w) (sym m.is) here
+        grind (arith, All-contains)
 
     -- rows by limits are in an order that is allowed, where their moments rise
     may_precede : (y z : GraphRow) → limit_of n place y.leg ≡ Some y.by.0 → limit_of n place z.leg ≡ Some z.by.0 → y.by.0 < z.by.0 → MayPrecede n place y z

@@ -1,4 +1,5 @@
 -- What a ready graph picks.
+use Rattle.std.proofs.Common.{arith}
 use Rattle.graph_prune.proofs.Common.{◌≡◌, ◌≢◌, ℕ, List, Option, Some, Contains, All, sym, subst, ◌∙◌, ap, MatchOption, All-contains, Leg, Outcome, Query, NetworkModel, end_of, arrival_of}
 use Rattle.graph_prune.proofs.Common.{outcomes_of, GraphRow, Ride, ExpandedGraph, pick_row, pick_after, HasRisingRides, IsReady, IsReadyRide, IsReadyRow, IsLegOf, pick_in_time, ride_there}
 use Rattle.graph_prune.proofs.Common.{IsKeptAfter}
@@ -25,17 +26,7 @@ module _ (n : NetworkModel) (q : Query) (graph : ExpandedGraph) (ready : IsReady
       → pick_row r.found.after (arrival_of n l u.delay) ≡ pick_in_time n (end_of n l) r.found.after (arrival_of n l u.delay)) r.same_leg good.picks in
       let rows : All (IsReadyRow n (end_of n leg)) r.found.after = subst (λ (l : Leg). All (IsReadyRow n (end_of n l)) r.found.after) r.same_leg good.rows in
       let first = in_time_kept n (end_of n leg) r.found.after x next rows (sym (picks away o has) ∙ ap (λ (list : List GraphRow). pick_row list x) (sym r.same_rows) ∙ is) in
-      record {
-        next = next;
-        is_chosen = is;
-        limit = first.limit;
-        is_limit = first.is_limit;
-        in_time = first.in_time;
-        kept = λ u there after within.
-            ap (λ (list : List GraphRow). pick_row list (arrival_of n leg u.delay)) r.same_rows
-            ∙ picks away u there
-            ∙ first.kept (arrival_of n leg u.delay) after within;
-      }
+      grind arith
 
   pub start_can : (start : Leg) → graph.start ≡ Some start → (q.source.0 ≢ q.target.0) × IsLegOf n start
   start_can start starts = subst (λ (s : Option Leg). MatchOption s (q.source.0 ≡ q.target.0) (λ leg. (q.source.0 ≢ q.target.0) × IsLegOf n leg)) starts ready.starts

@@ -40,10 +40,7 @@ later_taken order rest taken next e rising split has less =
           let first = ap (λ (x : Departure). x.dep.0) here in
           let second = ap (λ (x : Departure). x.dep.0) there in
           absurd (omega (arith, up, first, second, less))
-      | inr back ↦ elim (Contains-cons_cases next taken e back) [
-        | inl is ↦ let level = ap (λ (x : Departure). x.dep.0) is in absurd (omega (arith, level, less))
-        | inr found ↦ found
-      ]
+      | inr back ↦ grind (arith, Contains-cons_cases)
     ]
 
 -- ---- how many depart later

@@ -42,9 +42,7 @@ module _ (n : NetworkModel) (valid : IsValid n) (q : Query) (tables : List Place
         → (leg : Leg) (rides x : ℕ) → leg.exit ≡ exit.id → later n exit.id.0 ≤ rides → arr_of n exit.id.0 ≤ x
         → IsOutlook n q (outlook_at tables q outlooks (end_of n leg) x) (next_after n q tables fit rides leg x)
     arrival_reported outlooks rest taken exit split is there right leg rides x of_exit enough late = elim (cases_eq (end_of n leg) q.target.0) [
-      | inl here ↦
-          let e : (end_of n leg == q.target.0) ≡ true = grind (arith, nat_tests) in
-          rw e (subst (IsOutlook n q (arrived_outlook q.deadline.0 (end_of n leg) x)) (sym (after-there n q tables fit rides leg x here)) (arrived_reported n q (end_of n leg) x here))
+      | inl here ↦ grind (arith, nat_tests, after-there, arrived_reported)
       | inr away ↦
           let e : (end_of n leg == q.target.0) ≡ false = grind (arith, nat_tests) in
           rw e (by_next rides enough away (pick_at tables (end_of n leg) x) refl)
@@ -53,13 +51,7 @@ module _ (n : NetworkModel) (valid : IsValid n) (q : Query) (tables : List Place
         onward_in : (next : Leg) → IsLegOf n next → dep_of n next.enter.0 ≤ dep_of n next.exit.0
         onward_in next is_leg = elim (cases_lt next.enter.0 next.exit.0) [
           | inl less ↦ omega (arith, valid.onward next.enter.0 next.exit.0 less is_leg.exit is_leg.one_run, (valid.connections next.enter.0 is_leg.enter).forward)
-          | inr more ↦ elim (cases_eq next.enter.0 next.exit.0) [
-            | inl same ↦ let e = ap (dep_of n) same in omega (arith, e)
-            | inr other ↦ elim (valid.rising next.exit.0 next.enter.0 (omega (arith, more, other)) is_leg.enter) [
-              | inl run ↦ absurd (omega (arith, run, is_leg.one_run))
-              | inr step ↦ absurd (omega (arith, step.1, is_leg.onward))
-            ]
-          ]
+          | inr more ↦ grind (arith, cases_eq)
         ]
 
         -- the next leg departs later, and ends with an exit that was looked at
@@ -106,10 +98,7 @@ module _ (n : NetworkModel) (valid : IsValid n) (q : Query) (tables : List Place
           ap (λ j. slice_index_or (set outlooks exit.id.0 (outlook_of n tables q outlooks exit.id.0)) j no_outlook) same
           ∙ get_or-set_same outlooks exit.id.0 (outlook_of n tables q outlooks exit.id.0) no_outlook (omega (arith, there, many)) in
           subst (λ o. IsOutlook n q o (ride_by_rows n q tables rides leg)) (sym at) own
-      | inr other ↦
-          subst (λ o. IsOutlook n q o (ride_by_rows n q tables rides leg))
-          (sym (get_or-set_other outlooks exit.id.0 leg.exit.0 (outlook_of n tables q outlooks exit.id.0) no_outlook other))
-          (right leg rides (before other) enough)
+      | inr other ↦ grind (arith, get_or-set_other)
     ]
       where
         before : leg.exit.0 ≢ exit.id.0 → Contains taken (departure_of n leg.exit)

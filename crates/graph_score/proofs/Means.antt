@@ -45,13 +45,7 @@ module _ (n : NetworkModel) (valid : IsValid n) (target : ℕ) (by : Option ℕ)
     children_spanned Nil [] p scheduled most low safe = (tt, tt, refl, All-nil (λ (s : Interval). s.hi - s.lo ≤ most))
     children_spanned (Kid w tree kids) (o ∷ row) p scheduled most low safe =
         let (within, gap) = spanned tree p (scheduled + o.delay) safe.1 in
-        let (below, covers, same, gaps) = children_spanned kids row p scheduled most (omega (arith, low)) safe.2 in (
-          (safe.0, within.0, below),
-          (safe.0, within.1, covers),
-          ap suc same,
-          All-cons (λ (s : Interval). s.hi - s.lo ≤ most) (span_of n tree)
-              (spans_of n kids) (omega (arith, gap, low)) gaps,
-        )
+        grind (arith, All-cons, spans_of, children_spanned kids row p scheduled most (omega (arith, low)) safe.2)
     children_spanned _ _ p scheduled most low safe = absurd safe
 
   pub ride_spanned : (i j : ℕ) (kids : Kids) → j < count n → AreSafe n target by kids (outcomes n j) (to_of n j) (arr_of n j) → IsSpanned (Ride i j kids)

@@ -27,9 +27,7 @@ pub taken_row : (n : NetworkModel) (tables : List PlaceTable) → AreFitRows n t
 taken_row n tables fit p x leg is =
     let (row, fits, soon, same) = row_of_pick (IsFitRow n p) (rows_of_place tables p) x leg
     (rows_of_place-by (λ p rows. All (IsFitRow n p) rows) tables p (λ k d within. absurd (omega (arith, within))) fit) is in
-    let some = limit_of-some n p row.leg row.by.0 fits.by in
-    let boards : IsBoardable n p x row.leg.enter.0 = record { seconds = some.0; way = some.1; in_time = omega (arith, soon, some.2) } in
-    (subst (IsLegOf n) same fits.is_leg, subst (λ (l : Leg). IsBoardable n p x l.enter.0) same boards)
+    grind (arith, limit_of-some)
 
 module _ (n : NetworkModel) (q : Query) (tables : List PlaceTable) (fit : AreFitRows n tables) where
   -- what is done after a leg

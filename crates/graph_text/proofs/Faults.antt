@@ -84,14 +84,7 @@ module _ (n : NetworkModel) (names : NameLists) (version : Version) (line : ℕ)
       let row = if_cases (is_kind kind (width_of version) r)
       (leg_numbers (moment_at (field r 1)) (whole_at (field r 3)) (moment_at (field r 4)) (whole_at (field r 5)) (moment_at (field r 7))) x is in
       let fields = numbers_reported _ _ _ _ _ x row.1 in
-      record {
-        is_of_kind = row.0;
-        by = fields.0;
-        enter = some_is _ _ fields.1;
-        departure = some_is _ _ fields.2;
-        exit = some_is _ _ fields.3;
-        arrival = some_is _ _ fields.4;
-      }
+      grind (arith, some_is)
 
   form_read : (kind : List ℕ) (moment : ℕ) → HasLegForm version kind moment r → (x : LegRow) × (leg_row_in version kind r ≡ Some x)
   form_read kind moment form =
@@ -140,8 +133,7 @@ module _ (n : NetworkModel) (names : NameLists) (version : Version) (line : ℕ)
       where
         not_later : (moment : ℕ) → moment_at (field r 1) ≡ Some moment → rises last moment ≡ false → ¬ HasLaterMoment last r
         not_later moment by falls later =
-            let same = some_same _ moment later.0 by later.1 in
-            false≢true (sym falls ∙ ap (rises last) same ∙ later.2)
+            grind (arith, some_same)
 
         no_row : (fault : TextFault) → row_in n names version line place last r ≡ Err fault → (moment : ℕ) → moment_at (field r 1) ≡ Some moment → rises last moment ≡ true
             → (row : GraphRow) → ¬ IsRowOf n names version place row r
@@ -193,8 +185,7 @@ module _ (n : NetworkModel) (names : NameLists) (version : Version) (line : ℕ)
         × ((leg : Leg) × IsStartOf n names version source start leg r) × Unit {0}
     start_keeps leg is =
         let reported = start_of leg is in
-        let parts = leg_form (codes "start") source (dep_of n leg.enter.0) leg reported.fields in
-        ((differ, (dep_of n leg.enter.0, parts.0)), parts.1, tt, (leg, reported), tt)
+        grind (arith, leg_form)
 
     start_back : (fault : TextFault) → BreaksAtStart n names version source target start r fault → start_in n names version 2 source start r ≡ Err fault
     start_back = broken_back 2 _ _ _ _ _ (start_in n names version 2 source start r) start_keeps start_fails
@@ -218,34 +209,17 @@ module _ (n : NetworkModel) (names : NameLists) (version : Version) (line : ℕ)
         let Here = BreaksAtPlace n names version line last r in
         elim (require_err (place_row_in version r) (f.Row line) _ fault is) [
           | inl none ↦ subst Here none.1 (refl, λ form. let x = some_value (place_row_in version r) (place_form_read form) in none_some _ x.0 none.0 x.1)
-          | inr x ↦
-              let form = place_form_reported x.0 x.1 in
-              elim (require_err (number_of names.places (field r 1)) (f.UnknownName line) _ fault x.2) [
-                | inl none ↦ subst Here none.1 (refl, form, λ known. let k = some_value (number_of names.places (field r 1)) known in none_some _ k.0 none.0 k.1)
-                | inr place ↦
-                    let named = some_is _ _ place.1 in
-                    elim (if_err (rises last place.0) _ (f.NotRising line) fault place.2) [
-                      | inl falls ↦ subst Here falls.1 (refl, form, named, λ later. not_later place.0 place.1 falls.0 later)
-                      | inr up ↦ elim (if_err (x.0.change == change_of n place.0) _ (f.NoLeg line) fault up.1) [
-                        | inl other ↦ subst Here other.1 (refl, form, named, (place.0, place.1, up.0), λ reported. no_table fault is place.0 place.1 up.0 form reported.0 reported.1 reported.2)
-                        | inr same ↦ absurd (let wrong = same.1 in cc)
-                      ]
-                    ]
-              ]
+          | inr x ↦ grind (arith, place_form_reported, require_err, some_value, none_some, some_is, if_err)
         ]
       where
         not_later : (place : ℕ) → number_of names.places (field r 1) ≡ Some place → rises last place ≡ false → ¬ HasLaterPlace names last r
         not_later place by falls later =
-            let same = some_same _ place later.0 by later.1 in
-            false≢true (sym falls ∙ ap (rises last) same ∙ later.2)
+            grind (arith, some_same)
 
         no_table : (fault : TextFault) → table_in n names version line last r ≡ Err fault → (place : ℕ) → number_of names.places (field r 1) ≡ Some place → rises last place ≡ true
             → HasPlaceForm version r → (own many : ℕ) → ¬ IsPlaceRow n names version own many r
         no_table fault is place name up form own many reported =
-            let same = some_same _ place own name reported.name in
-            let rows = some_same _ many (suc form.rows.0) reported.rows form.rows.1 in
-            let t : TableStart = record { place = record { 0 = own }; count = many } in
-            ok_err _ t fault (table_read n names version line r last t (sym (ap (rises last) same) ∙ up) reported (omega (arith, rows))) is
+            grind (arith, some_same, ok_err, table_read)
 
     table_keeps : (t : TableStart) → table_in n names version line last r ≡ Ok t
         → HasPlaceForm version r × IsSome (number_of names.places (field r 1)) × HasLaterPlace names last r
@@ -431,8 +405,7 @@ module _ (n : NetworkModel) (names : NameLists) (version : Version) (valid : IsV
   rows_back [] line s (PlaceNext last) fault next first = absurd first
   rows_back [] line s (LegNext place more last) fault next first = grind (arith, ne_eqb)
   rows_back (r ∷ rs) line s (PlaceNext last) fault next first = elim first [
-    | inl here ↦ ap (λ r. and_then r (place_tables_from n names version rs (line + 1)))
-        (place_step line r s last next ∙ ap (after_place_row s) (table_back n names version line r last fault here))
+    | inl here ↦ grind (arith, table_back)
     | inr later ↦
         let (place, more, row, up, rest) = later in
         let t : TableStart = record { place = record { 0 = place }; count = suc more } in
@@ -480,8 +453,7 @@ module _ (n : NetworkModel) (names : NameLists) (version : Version) (valid : IsV
     after_head_back (r ∷ rs) fault first = elim (cases_eq source target) [
       | inl same ↦ rw (eq-eqb source target same) (elim first [ inl here ↦ start_same r same fault here | inr later ↦ absurd (later.2 same) ])
       | inr differ ↦ rw (ne_eqb source target differ) (elim first [
-        | inl here ↦ ap (λ r. and_then r (λ leg. and_then (place_tables_from n names version rs 3 no_tables) (λ tables. Ok (record { start = Some leg; tables = tables }))))
-            (start_back n names version 2 r valid source target start differ fault here)
+        | inl here ↦ grind (arith, start_back)
         | inr later ↦
             let (leg, reported, away, rest) = later in
             ap (λ r. and_then r (λ leg. and_then (place_tables_from n names version rs 3 no_tables) (λ tables. Ok (record { start = Some leg; tables = tables }))))

@@ -147,11 +147,7 @@ module _ (n : NetworkModel) (names : NameLists) (version : Version) (line : ℕ)
       let place = require-ok (number_of names.places (field r 1)) _ _ t x.2 in
       let up = if-value (rises last place.0) _ _ t place.2 in
       let change = if-value (x.0.change == change_of n place.0) _ _ t up.1 in
-      let same : record { place = record { 0 = place.0 }; count = x.0.count } ≡ t = (cc) in
-      let row = if_cases (is_place version r) (place_numbers (whole_at (field r 2)) (whole_at (field r 3))) x.0 x.1 in
-      let numbers = place_numbers_reported _ _ x.0 row.1 in
-      subst (λ (u : TableStart). (rises last u.place.0 ≡ true) × IsPlaceRow n names version u.place.0 u.count r × (1 ≤ u.count)) same
-      (up.0, record { is_of_kind = row.0; name = place.1; change = numbers.0 ∙ ap Some (eqb-true _ _ change.0); rows = numbers.1 }, numbers.2)
+      grind (arith, if_cases, place_numbers_reported, eqb-true)
 
   pub table_read : (last : Option ℕ) (t : TableStart) → rises last t.place.0 ≡ true → IsPlaceRow n names version t.place.0 t.count r → 1 ≤ t.count → table_in n names version line last r ≡ Ok t
   table_read last t later reported some = grind (arith, le-leb, eq-eqb)

@@ -26,8 +26,7 @@ table_step n names version line r s place some is =
 -- what is read where a step failed is so of what `?` raises again
 pub read_raised : {A : Type 0} (fault : TextFault) (r reported : Result A TextFault) → IsErr r × IsErrAnd r (λ raised. raised ≡ fault)
     → IsUnlessNoMemory (Err fault) reported → IsUnlessNoMemory r reported
-read_raised fault (Ok a) reported raised is = absurd raised.1
-read_raised {A} fault (Err again) reported raised is = subst (λ (f : TextFault). IsUnlessNoMemory {A = A} (Err f) reported) (sym raised.1) is
+read_raised fault r reported raised is = grind arith
 
 pub fault_on : {A B : Type 0} (fault : TextFault) (reported : Result A TextFault) (next : A → Result B TextFault) → IsUnlessNoMemory {A = A} (Err fault) reported
     → IsUnlessNoMemory {A = B} (Err fault) (and_then reported next)

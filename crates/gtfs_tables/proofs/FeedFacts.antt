@@ -5,13 +5,10 @@ use Rattle.csv_rows.proofs.RowLemmas.{number_inside}
 use Rattle.stop_times.proofs.NoFault.{AreInOrder, kept_in_order}
 
 place_if : (b : Bool) (o : Option ℕ) (i n : ℕ) → i < n → IfSome o (λ k. k < n) → (if b then i else unwrap_or o 0) < n
-place_if true o i n h k = h
-place_if false None i n h k = omega arith
-place_if false (Some j) i n h k = k
+place_if b o i n h k = grind arith
 
 place_few : (name : List ℕ) (names : List (List ℕ)) (o : Option ℕ) → o ≡ number_in name names → IfSome o (λ k. k < length names)
-place_few name names None e = tt
-place_few name names (Some k) e = number_inside name names k (sym e)
+place_few name names o e = grind (arith, number_inside)
 
 -- the place of a stop is a stop
 place_is_stop : (t : List (List (List ℕ))) (i : ℕ) → i < row_count t → slice_index (stop_places t) i < row_count t

@@ -46,21 +46,15 @@ record AreRead (l : FeedLists) (tables : Result Tables FeedFault) (times : Resul
 -- a table that has a fault, where those before it were read
 module _ (t : TripsBy) (x : TimesBy) (q : FrequenciesBy) where
   routes_stop : (s r : Result Records FeedFault) (stops : StopLists) (f : FeedFault) → HasStops s stops → r ≡ Err f → tables_by s r t x q ≡ Err f
-  routes_stop (Ok s) r stops f a h = ap (λ z. tables_by (Ok s) z t x q) h
-  routes_stop (Err e) r stops f a h = absurd a
+  routes_stop s r stops f a h = grind arith
 
   trips_stop : (s r : Result Records FeedFault) (stops : StopLists) (routes : RouteLists) (f : FeedFault) → HasStops s stops → HasRoutes r routes → t routes.ids ≡ Err f
       → tables_by s r t x q ≡ Err f
-  trips_stop (Ok s) (Ok r) stops routes f a b h = ap (λ z. tables_by (Ok s) (Ok r) (λ _. z) x q) (ap t (sym b.0) ∙ h)
-  trips_stop (Ok s) (Err e) stops routes f a b h = absurd b
-  trips_stop (Err e) r stops routes f a b h = absurd a
+  trips_stop s r stops routes f a b h = grind arith
 
   are_read : (s r d : Result Records FeedFault) (l : FeedLists) → HasStops s l.stops → HasRoutes r l.routes → t l.routes.ids ≡ d → HasTrips l.routes d l.trips
       → AreRead l (tables_by s r t x q) (x l.trips.ids l.stops.ids l.stops.places.items) (q l.trips.ids)
-  are_read (Ok s) (Ok r) (Ok d) l a b e c = grind arith
-  are_read (Ok s) (Ok r) (Err f) l a b e c = absurd c
-  are_read (Ok s) (Err f) d l a b e c = absurd b
-  are_read (Err f) r d l a b e c = absurd a
+  are_read s r d l a b e c = grind arith
 
 module _ (l : FeedLists) (tables : Result Tables FeedFault) where
   repeats_stop : (x : Result Records FeedFault) (q : Result Loaded FeedFault) (visits : List (List StopRow)) (f : FeedFault) → AreRead l tables x q
@@ -136,8 +130,7 @@ sound_feed l t a v =
       stops = s.1;
       routes = r.1;
       trips = ap (λ z. trips_fault z d.0) (sym r.2.0) ∙ d.1;
-      stop_times =
-          sym (ap₂ (λ u w. stop_times_fault u w l.stops.places.items x.0) d.2.0 s.2.0 ∙ ap (λ w. stop_times_fault (trip_ids d.0) (stop_ids s.0) w x.0) s.2.1) ∙ x.1;
+      stop_times = grind arith;
       frequencies = ap (λ z. fault_of_frequencies z q.0) (sym d.2.0) ∙ q.1;
       feed = is_feed l t s.0 r.0 d.0 x.0 q.0 s.2 r.2 d.2 x.2 q.2;
     }

@@ -27,12 +27,10 @@ record IsFormed (line : ℕ) (r : TripFrequency) : Type 0 where
   line_is : r.row.line ≡ line
 
 not_zero : (m n : ℕ) (b : Bool) → (m == 0) ≡ b → (if b then None else Some m) ≡ Some n → (m ≡ n) × (1 ≤ n)
-not_zero m n true e h = absurd (cc)
-not_zero m n false e h = grind (arith, eq-eqb, cases_lt)
+not_zero m n b e h = grind (arith, eq-eqb, cases_lt)
 
 headway_some : (o : Option ℕ) (n : ℕ) → option_and_then (λ seconds. if seconds == 0 then None else Some seconds) o ≡ Some n → (o ≡ Some n) × (1 ≤ n)
-headway_some None n h = absurd (cc)
-headway_some (Some m) n h = let w = not_zero m n (m == 0) refl h in (ap Some w.0, w.1)
+headway_some o n h = grind arith
 
 -- a row that has no fault by itself
 from_formed : (trips : List (List ℕ)) (line : ℕ) (trip start end headway exact : List ℕ) (r : TripFrequency) → frequency_from trips line trip start end headway exact ≡ Ok r → IsFormed line r
@@ -53,8 +51,7 @@ from_formed trips line trip start end headway exact r h =
     })
 
 ok_formed : (line : ℕ) (o : Result TripFrequency FeedFault) → result_err o ≡ None → ((r : TripFrequency) → o ≡ Ok r → IsFormed line r) → IsFormed line (value_or no_frequency o)
-ok_formed line (Ok r) none k = k r refl
-ok_formed line (Err fault) none k = absurd (cc)
+ok_formed line o none k = grind arith
 
 row_formed : (trips : List (List ℕ)) (t : List (List (List ℕ))) (i : ℕ) → result_err (frequency_at trips t i) ≡ None → IsFormed (i + 2) (value_or no_frequency (frequency_at trips t i))
 unfolding frequency_at
@@ -66,9 +63,7 @@ row_formed trips t i none =
 -- a table with no fault has no field that is not of its form
 fields_none : (trips : List (List ℕ)) (l : Loaded) → fault_of_frequencies trips l ≡ None → first_below (bad_frequency trips (loaded_rows l)) (row_count (loaded_rows l)) ≡ None
 unfolding frequencies_fault
-fields_none trips Absent h = first-zero (bad_frequency trips (loaded_rows Absent))
-fields_none trips NoRecord h = first-zero (bad_frequency trips (loaded_rows NoRecord))
-fields_none trips (Found t) h = (none-both _ _ (none-both _ _ h).1).0
+fields_none trips l h = grind (arith, first-zero, none-both)
 
 AreFormed : List TripFrequency → Type 0
 AreFormed rows = (i : ℕ) (d : TripFrequency) → i < length rows → IsFormed (i + 2) (slice_index_or rows i d)

@@ -16,8 +16,7 @@ total-suc : (trips : List ℕ) (rows : List FrequencyRow) (n : ℕ) → total tr
 total-suc trips rows n =
     let f = repeats_in trips rows in
     let e : suc n ≡ n + 1 = omega arith in
-    let all = list_below f n in
-    ap (λ k. total trips rows k) e ∙ ap (λ (xs : List (List FrequencyRow)). sum_by length xs) (sym (list_below-next f n all (all ++ f n ∷ []) (f n) refl refl refl)) ∙ sum_by_push length all (f n)
+    grind (arith, list_below-next, sum_by_push)
 
 -- where no row is
 total-none : (rows : List FrequencyRow) (n : ℕ) → total [] rows n ≡ 0
@@ -29,16 +28,14 @@ total-nothing t trips zero = total-zero (t ∷ trips) []
 total-nothing t trips (suc n) = omega (arith, total-suc (t ∷ trips) [] n, total-nothing t trips n)
 
 here : (same : Bool) (row : FrequencyRow) (rest : List FrequencyRow) → length (if same then row ∷ rest else rest) ≡ length rest + (if same then 1 else 0)
-here true row rest = omega arith
-here false row rest = omega arith
+here same row rest = grind arith
 
 -- one row more is of one trip at most, which is or is not among the first n
 abbrev once : ℕ → ℕ → ℕ
 once t n = if t == n then 1 else 0
 
 once_is : (t n : ℕ) (b : Bool) → b ≡ (t == n) → ((if b then 1 else 0) ≤ 1) × (n < t → (if b then 1 else 0) ≤ 0) × (t < n → (if b then 1 else 0) ≤ 0)
-once_is t n true e = let same : t ≡ n = grind (arith, nat_tests, e) in (omega arith, λ h. omega (arith, same, h), λ h. omega (arith, same, h))
-once_is t n false e = (omega arith, λ h. omega arith, λ h. omega arith)
+once_is t n b e = grind (arith, nat_tests)
 
 one_more : (t n a b c d e f : ℕ) → a ≡ b + c → d ≡ e + f → c ≡ f + once t n → b ≤ e + 1 → (n ≤ t → b ≤ e) → (a ≤ d + 1) × (suc n ≤ t → a ≤ d)
 one_more t n a b c d e f h k l m p = grind (arith, once_is, cases_lt)
@@ -48,10 +45,7 @@ total-more : (t : ℕ) (trips : List ℕ) (row : FrequencyRow) (rows : List Freq
 total-more t trips row rows zero = (omega (arith, total-zero (t ∷ trips) (row ∷ rows)), λ h. omega (arith, total-zero (t ∷ trips) (row ∷ rows)))
 total-more t trips row rows (suc n) =
     let more = total-suc (t ∷ trips) (row ∷ rows) n in
-    let less = total-suc trips rows n in
-    let one = here (t == n) row (repeats_in trips rows n) in
-    let before = total-more t trips row rows n in
-    one_more t n _ _ _ _ _ _ more less one before.0 before.1
+    grind (arith, total-suc, total-more t trips row rows n)
 
 pub total_few : (trips : List ℕ) (rows : List FrequencyRow) (n : ℕ) → total trips rows n ≤ length rows
 total_few [] rows n = omega (arith, total-none rows n)

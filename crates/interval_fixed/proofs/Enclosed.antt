@@ -12,8 +12,7 @@ sums_enclosed : (row : List Outcome) (spans : List Interval) (xs : List ℕ) →
 sums_enclosed [] spans xs within = (omega arith, omega arith)
 sums_enclosed (o ∷ row) [] [] within = (omega arith, omega arith)
 sums_enclosed (o ∷ row) (span ∷ spans) (x ∷ xs) within =
-    let rest = sums_enclosed row spans xs within.2 in
-    (omega (arith, mul-le-mul_left o.weight within.0, rest.0), omega (arith, mul-le-mul_left o.weight within.1, rest.1))
+    grind (arith, mul-le-mul_left, sums_enclosed row spans xs within.2)
 sums_enclosed _ _ _ within = absurd within
 
 pub mean_encloses : (row : List Outcome) (spans : List Interval) (xs : List ℕ) → AreEnclosed spans xs → EnclosesMean (mean_of row spans) row xs
@@ -23,9 +22,7 @@ mean_encloses row spans xs within =
 
 widened : (w lo hi most l u s : ℕ) → hi - lo ≤ most → u ≤ l + most * s → w * hi + u ≤ (w * lo + l) + most * (w + s)
 widened w lo hi most l u s here rest =
-    let here' : hi ≤ lo + most = omega arith in
-    let scaled = mul-le-mul_left w here' in
-    omega (arith, scaled, mul-add w lo most, mul-add most w s, mul_comm w most)
+    grind (arith, mul-le-mul_left, mul-add)
 
 -- the sums are as far apart as the gap times the weights
 gap_sum : (row : List Outcome) (spans : List Interval) (most : ℕ) → length row ≡ length spans → All (λ span. span.hi - span.lo ≤ most) spans

@@ -28,22 +28,14 @@ module _ (n : NetworkModel) (target : ℕ) (by : Option ℕ) where
 
     child_spans : (kids : Kids) (row : List Outcome) (p scheduled : ℕ) → AreSafe n target by kids row p scheduled → AreSums row kids
     child_spans Nil [] p scheduled safe = (refl, refl)
-    child_spans Nil (o ∷ row) p scheduled safe = absurd safe
-    child_spans (Kid w tree kids) [] p scheduled safe = absurd safe
     child_spans (Kid w tree kids) (o ∷ row) p scheduled safe =
         let (hi, lo) = spans tree p (scheduled + o.delay) safe.1 in
-        let (his, los) = child_spans kids row p scheduled safe.2 in
-        (rw (safe.0, hi, his) refl, rw (safe.0, lo, los) refl)
+        grind (arith, child_spans kids row p scheduled safe.2)
+    child_spans _ _ p scheduled safe = absurd safe
 
 safe_spans : (n : NetworkModel) (q : Query) (tree : Tree) → IsSafeFor n q tree
     → ((span_of n tree).hi ≡ rounded_up nanos_per_second arrival tree) × ((span_of n tree).lo ≡ rounded_down nanos_per_second arrival tree)
-safe_spans n q (Done a) safe = (refl, refl)
-safe_spans n q (Ride i j kids) safe =
-    ride n q.target.0 (Some q.deadline.0) i j kids (child_spans n q.target.0 (Some q.deadline.0) kids (outcomes n j) (to_of n j) (arr_of n j) safe.3)
-safe_spans n q (Stuck p x) safe = absurd safe
+safe_spans n q tree safe = grind (arith, ride, child_spans)
 
 pub bounds_of_graph : (n : NetworkModel) (q : Query) (tree : Tree) (bounds : Interval) → IsBest n q tree bounds → (bounds.hi ≡ (span_of n tree).hi) × (bounds.lo ≤ (span_of n tree).lo)
-bounds_of_graph n q tree bounds best =
-    let (hi, lo) = safe_spans n q tree best.safe in
-    let low = best.least tree best.safe in
-    (best.rounded ∙ sym hi, omega (arith, lo, low))
+bounds_of_graph n q tree bounds best = grind (arith, safe_spans)

@@ -9,9 +9,7 @@ use Rattle.journey_answers.specs.Departures.{SafeOf, AreDepartures, HasSafeFor}
 module _ (n : NetworkModel) (source target deadline : ℕ) where
   -- a traveller who is at the target has arrived
   pub arrived : source ≡ target → (tree : Tree) (moment : ℕ) → IsSafeFromStart n target (Some deadline) tree source moment → moment ≤ deadline
-  arrived same (Done a) moment (is, there, early) = early
-  arrived same (Ride i j kids) moment safe = absurd (safe.0 same)
-  arrived same (Stuck place x) moment safe = absurd safe
+  arrived same tree moment safe = grind arith
 
 module _ (p : Problem) (q : Query) where
   -- at the target one is safe up to the deadline
@@ -20,8 +18,7 @@ module _ (p : Problem) (q : Query) where
     where
       too_late : (moment : ℕ) → q.deadline.0 < moment → (tree : Tree) → SafeOf p q moment tree → ⊥
       too_late moment later tree safe =
-          let by = arrived p.timetable.network q.source.0 q.target.0 q.deadline.0 same tree moment safe in
-          omega (arith, later, by)
+          grind arith
 
   -- and the way to do it is to be there
   pub safe_at_once : q.source.0 ≡ q.target.0 → q.start.0 ≤ q.deadline.0 → HasSafeFor p q
@@ -38,22 +35,15 @@ module _ (p : Problem) (q : Query) where
   some_leaves last (row ∷ rows) early is some =
       let by = is.from_first zero row (omega arith) in
       let test : nat_le q.start.0 row.by.0 ≡ true = grind (arith, nat_tests) in
-      let found : first_row_by q.start.0 (row ∷ rows) ≡ Some row = rw test refl in
-      let best = subst (λ (o : Option DepartureRow). MatchOption o (IsNoneSafeFrom (SafeOf p q) q.start.0) (IsBestFrom p.timetable.network (SafeOf p q) q.start.0))
-      found (is.answers q.start.0 (omega arith) early) in
-      (best.covers_one.0, best.covers_one.1)
+      grind arith
 
   module _ (own : Query) (target : own.target ≡ q.target) (deadline : own.deadline ≡ q.deadline) where
     -- what is said of a query with this target and this deadline is said of the query
     pub same_table : (first last : ℕ) (rows : List DepartureRow) → IsTable p.timetable.network (SafeFrom p.timetable.network q.source.0 own) first last rows → IsTable p.timetable.network (SafeOf p q) first last rows
-    same_table first last rows is =
-        subst (λ (t : PlaceId). IsTable p.timetable.network (λ moment tree. IsSafeFromStart p.timetable.network t.0 (Some q.deadline.0) tree q.source.0 moment) first last rows) target
-        (subst (λ (d : Moment). IsTable p.timetable.network (λ moment tree. IsSafeFromStart p.timetable.network own.target.0 (Some d.0) tree q.source.0 moment) first last rows) deadline is)
+    same_table first last rows is = grind arith
 
     pub same_greatest : (first : ℕ) (result : Option Moment) → IsGreatestMoment (SafeFrom p.timetable.network q.source.0 own) first result → IsGreatestMoment (SafeOf p q) first result
-    same_greatest first result is =
-        subst (λ (t : PlaceId). IsGreatestMoment (λ moment tree. IsSafeFromStart p.timetable.network t.0 (Some q.deadline.0) tree q.source.0 moment) first result) target
-        (subst (λ (d : Moment). IsGreatestMoment (λ moment tree. IsSafeFromStart p.timetable.network own.target.0 (Some d.0) tree q.source.0 moment) first result) deadline is)
+    same_greatest first result is = grind arith
 
   -- departures between two places
   pub departures_away : (last : ℕ) (rows : List DepartureRow) → q.source.0 ≢ q.target.0 → IsTable p.timetable.network (SafeOf p q) q.start.0 last rows

@@ -12,14 +12,7 @@ use Rattle.departure_table.proofs.ReachGrowth.{are_below, count_up_to}
 pub by_rules : (p : Problem) (q : Query) (last : ℕ) (rows : List DepartureRow) (n : NetworkModel) (asked : Query) (found : ScanResult MeanSpan)
     → n ≡ extended_by p.timetable.network (q.source ∷ []) → asked ≡ added_query p.timetable.network q → IsRuled n asked found
     → AreLooked (row_found n asked found) last q.start.0 rows → AreByRules p q last rows
-by_rules p q last rows n asked found network query ruled looked =
-    let more = extended_by p.timetable.network (q.source ∷ []) in
-    record {
-      found = found;
-      ruled = subst (λ (r : Query). IsRuled more r found) query (subst (λ (m : NetworkModel). IsRuled m asked found) network ruled);
-      looked = subst (λ (r : Query). AreLooked (row_found more r found) last q.start.0 rows) query
-          (subst (λ (m : NetworkModel). AreLooked (row_found m asked found) last q.start.0 rows) network looked);
-    }
+by_rules p q last rows n asked found network query ruled looked = grind arith
 
 pub by_gates : (m : NetworkModel) (q : Query) (rows : List ReachRow) (n : NetworkModel) (x : ℕ) (found : ScanResult MeanSpan) → n ≡ extended_by m (places_of m) → x ≡ length m.change
     → IsRuled n (asked_at q x) found → All (IsFoundAtGate n m q found) rows → length m.change * 2 < 4294967296 → IsReachByRules m q rows

@@ -12,15 +12,10 @@ module _ (m : NetworkModel) (q : Query) (x start : ℕ) where
   same_row row is = record { latest = is.latest; bounds = is.bounds }
 
   same_answer : (Nobody : Type 0) (o : Option ReachRow) → MatchOption o Nobody (IsReachRow m (asked_at q x) start) → MatchOption o Nobody (IsReachRow m q start)
-  same_answer Nobody None is = is
-  same_answer Nobody (Some row) is = same_row row is
+  same_answer Nobody o is = grind (arith, same_row)
 
   pub same_reach : (rows : List ReachRow) → IsReach m (asked_at q x) start rows → IsReach m q start rows
-  same_reach rows is = record {
-    answers = λ place inside away. same_answer _ (row_of_place place rows) (is.answers place inside away);
-    places = is.places;
-    rising = is.rising;
-  }
+  same_reach rows is = grind (arith, same_answer)
 
 -- the rows of a reach can be printed
 pub printable : (m : NetworkModel) (names : NameLists) → IsValid m → NamesFit names m → (q : Query) (rows : List ReachRow) → IsReach m q q.start.0 rows → All (IsPrintable names) rows

@@ -1,4 +1,5 @@
 -- A search that has a least worst arrival has a safe strategy.
+use Rattle.std.proofs.Common.{arith}
 use Rattle.journey_answers.proofs.Common.{◌≡◌, Option, Some, None, ◌≤◌, ℕ, MatchOption, subst, Moment, Query, NetworkModel, IsNoneSafe, Problem, IsWorst, IsQueryOf, InQuery}
 use Rattle.std.proofs.Math.Logic.{∥∥₁_elim}
 use Rattle.plan_model.proofs.Laws.{safe_exists}
@@ -11,8 +12,7 @@ none_is_safe n q worst least late none =
     none safe.0 safe.1)
 
 pub match_none : {A : Type 0} (o : Option A) (N : Type 0) (P : A → Type 0) → o ≡ None → MatchOption o N P → N
-match_none None N P is n = n
-match_none (Some a) N P is p = absurd (cc)
+match_none o N P is n = grind arith
 
 -- what holds of the query of a journey and of its least worst arrival
 pub in_query : {known p : Problem} {start alpha : ℕ} {query : Query} {worst : Moment} (P : Problem → Query → Moment → Type 0) → known ≡ p

@@ -16,34 +16,21 @@ stuck_has_site p q source early (replay.Stuck place moment) (rides, all, at, sin
       subst (λ (k : ℕ). place.0 < k) (sym p.timetable.fit.places) inside,
       subst (λ (k : ℕ). k ≤ last_printable) (sym since) (arrivals p.timetable.network p.timetable.valid q.start.0 rides few all),
     )
-stuck_has_site p q source early (replay.NotADelay number) stuck = tt
-stuck_has_site p q source early (replay.TooFew ridden) stuck = tt
-stuck_has_site p q source early (replay.TooMany ridden) stuck = tt
-stuck_has_site p q source early replay.NoMemory stuck = tt
+stuck_has_site p q source early _ stuck = tt
 
 answer_is : (fault : ReplayFault) (trip : Result Trace ReplayFault) → fault ≢ replay.NoMemory → IsAnswer (Err fault) trip → trip ≡ Err fault
-answer_is replay.NoMemory trip other is = absurd (other refl)
-answer_is _ trip other is = is
+answer_is fault trip other is = grind arith
 
 module _ (p : Problem) (head : Head) (graph : PlanGraph) (late : List ℕ) where
   trip_stop : (fault : ReplayFault) → fault ≢ replay.NoMemory → IsAnswer (Err fault) (trip_by p head graph late) → IsSafeTrip p head graph (Err fault)
       → IsTripFault p late (Replay fault) head graph
-  trip_stop fault other is safe =
-      record { stop = fault; fault_is = refl; trip = answer_is fault (trip_by p head graph late) other is; safe = safe }
+  trip_stop fault other is safe = grind (arith, answer_is)
 
   -- the fault of a trip
   pub trip_fault : (fault : ReplayFault) → IsAnswer (Err fault) (trip_by p head graph late) → IsSafeTrip p head graph (Err fault)
       → replay_as fault ≢ NoMemory → IsTripFault p late (replay_as fault) head graph
-  trip_fault replay.NoMemory is safe other = absurd (other refl)
-  trip_fault (replay.NotADelay number) is safe other = trip_stop (replay.NotADelay number) (λ same. absurd (cc)) is safe
-  trip_fault (replay.TooFew ridden) is safe other = trip_stop (replay.TooFew ridden) (λ same. absurd (cc)) is safe
-  trip_fault (replay.TooMany ridden) is safe other = trip_stop (replay.TooMany ridden) (λ same. absurd (cc)) is safe
-  trip_fault (replay.Stuck place moment) is safe other = trip_stop (replay.Stuck place moment) (λ same. absurd (cc)) is safe
+  trip_fault fault is safe other = grind (arith, trip_stop)
 
 -- a fault of a trip is not that a file cannot be read
 pub replay_unread : (fault : ReplayFault) → unread_input (replay_as fault) ≡ None
-replay_unread replay.NoMemory = refl
-replay_unread (replay.NotADelay number) = refl
-replay_unread (replay.TooFew ridden) = refl
-replay_unread (replay.TooMany ridden) = refl
-replay_unread (replay.Stuck place moment) = refl
+replay_unread fault = grind arith

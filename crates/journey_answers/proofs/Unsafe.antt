@@ -26,8 +26,7 @@ module _ (n : NetworkModel) (valid : IsValid n) (q : Query) (target_in : q.targe
   done_printed moment early p x (at, since, late) = (subst (λ (k : ℕ). k < length n.change) (sym at) target_in, subst (λ (k : ℕ). k ≤ last_printable) (sym since) early)
 
   by_test : (b : Bool) (moment : ℕ) (other : Tree) → moment ≤ last_printable → FailsPrinted other → FailsPrinted (if b then Done moment else other)
-  by_test true moment other early printed = done_printed moment early
-  by_test false moment other early printed = printed
+  by_test b moment other early printed = grind (arith, done_printed)
 
   children_printed : (next : ℕ → Tree) → ((x : ℕ) → x ≤ last_printable → FailsPrinted (next x)) → (scheduled : ℕ) → scheduled + seconds_per_day ≤ last_printable
       → (row : List Outcome) → All (λ o. o.delay ≤ seconds_per_day) row
@@ -41,29 +40,22 @@ module _ (n : NetworkModel) (valid : IsValid n) (q : Query) (target_in : q.targe
 
   ride_printed : (next : Leg → ℕ → Tree) (leg : Leg) → leg.exit.0 < count n → ((x : ℕ) → x ≤ last_printable → FailsPrinted (next leg x))
       → (p x : ℕ) → FailsIn q (kids_after (next leg) (arr_of n leg.exit.0) (outcomes_of n leg)) p x → IsPrinted p x
-  ride_printed next leg within goes =
-      let c = valid.connections leg.exit.0 within in
-      let row = valid.rows (connection n leg.exit.0).class.0 c.class_in in
-      children_printed (next leg) goes (arr_of n leg.exit.0) (omega (arith, c.early)) (outcomes_of n leg) row.delays
+  ride_printed next leg within goes = grind (arith, children_printed)
 
   or_stuck : (next : Leg → ℕ → Tree) (first : Option Leg) (p x : ℕ) → ((leg : Leg) → first ≡ Some leg → leg.exit.0 < count n)
       → ((leg : Leg) → leg.exit.0 < count n → (y : ℕ) → y ≤ last_printable → FailsPrinted (next leg y))
       → IsPrinted p x → FailsPrinted (ride_or_stuck n next first p x)
-  or_stuck next None p x within goes is = stuck_printed p x is
-  or_stuck next (Some leg) p x within goes is = ride_printed next leg (within leg refl) (goes leg (within leg refl))
+  or_stuck next first p x within goes is = grind (arith, stuck_printed, ride_printed)
 
   after_printed : (rides : ℕ) (leg : Leg) → leg.exit.0 < count n → (x : ℕ) → x ≤ last_printable → FailsPrinted (unfold_after n q.target.0 choice rides leg x)
-  after_printed zero leg within x early =
-      by_test (end_of n leg == q.target.0) x (Stuck (end_of n leg) x) early (stuck_printed (end_of n leg) x ((valid.connections leg.exit.0 within).to_in, early))
+  after_printed zero leg within x early = grind (arith, by_test, stuck_printed)
   after_printed (suc rides) leg within x early =
       by_test (end_of n leg == q.target.0) x (ride_or_stuck n (unfold_after n q.target.0 choice rides) (choice leg x) (end_of n leg) x) early
       (or_stuck (unfold_after n q.target.0 choice rides) (choice leg x) (end_of n leg) x (there leg x) (after_printed rides) ((valid.connections leg.exit.0 within).to_in, early))
 
   -- by a start leg and the choices
   pub from_printed : (first : Option Leg) → ((leg : Leg) → first ≡ Some leg → leg.exit.0 < count n) → (p x : ℕ) → IsPrinted p x → FailsPrinted (unfold_from n q.target.0 choice first p x)
-  from_printed first within p x is =
-      by_test (p == q.target.0) x (ride_or_stuck n (unfold_after n q.target.0 choice (count n - 1)) first p x) is.1
-      (or_stuck (unfold_after n q.target.0 choice (count n - 1)) first p x within (after_printed (count n - 1)) is)
+  from_printed first within p x is = grind (arith, by_test, or_stuck, after_printed)
 
 -- the place where one may fail first has a name, and the moment a text
 pub unsafe_has_site : (p : Problem) (q : Query) (graph : PlanGraph) → IsFit p.timetable.network q graph

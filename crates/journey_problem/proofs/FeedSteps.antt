@@ -5,9 +5,7 @@ use Rattle.journey_problem.proofs.Common.{IsSoundFolder, IsWindowFault, IsFaultA
 
 -- what holds of a known folder before and after a step that leaves it the same
 pub if_some_both : {A : Type 0} (o later : Option A) {P Q R : A → Type 0} → later ≡ o → IfSome o P → IfSome later Q → ((a : A) → P a → Q a → R a) → IfSome o R
-if_some_both None later same p q f = tt
-if_some_both (Some a) None same p q f = absurd (cc)
-if_some_both (Some a) (Some b) {Q = Q} same p q f = let one : b ≡ a = (cc) in f a p (subst Q one q)
+if_some_both o later same p q f = grind arith
 
 -- a window of a feed is that of some feed
 pub feed_timetable : (horizon : ℕ) (j : JourneyModel) (h : GtfsFolder) (lists : DelayLists) (r : Result Problem Fault)

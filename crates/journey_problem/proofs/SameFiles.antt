@@ -63,12 +63,7 @@ module _ (limits : Limits) where
 
   records_alike : (kind : Input) (headless : Fault) (unread : Option Input) (file other : Option (List ℕ)) → HaveSameRecords limits.bytes file other
       → records_of limits.bytes kind headless unread file ≡ records_of limits.bytes kind headless unread other
-  records_alike kind headless unread file other same = by_read (is_unread_input unread kind)
-    where
-      by_read : (b : Bool)
-          → and_then (if b then Err (Read kind) else bytes_present limits.bytes kind file) (λ bytes. with_header headless (table_of bytes))
-          ≡ and_then (if b then Err (Read kind) else bytes_present limits.bytes kind other) (λ bytes. with_header headless (table_of bytes))
-      by_read b = grind (arith, present_alike)
+  records_alike kind headless unread file other same = grind (arith, present_alike)
 
 -- ---- what is loaded alike has the same problems and the same faults
 

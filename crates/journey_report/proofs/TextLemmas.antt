@@ -14,8 +14,7 @@ use Rattle.journey_model.specs.Sites.{last_printable}
 
 delay_at : (o : Outcome) (row : List Outcome) (d : ℕ) (b : Bool) → (o.delay == d) ≡ b → o.delay ≤ seconds_per_day → (list_any (λ x. x.delay == d) row ≡ true → d ≤ seconds_per_day)
     → (b || list_any (λ x. x.delay == d) row) ≡ true → d ≤ seconds_per_day
-delay_at o row d true same few rest any = grind (arith, nat_tests)
-delay_at o row d false same few rest any = rest any
+delay_at o row d b same few rest any = grind (arith, nat_tests)
 
 -- a delay of a valid row is at most a day
 delay_few : (row : List Outcome) (d : ℕ) → All (λ o. o.delay ≤ seconds_per_day) row → list_any (λ o. o.delay == d) row ≡ true → d ≤ seconds_per_day
@@ -26,11 +25,7 @@ delay_few (o ∷ row) d all any =
 module _ (n : NetworkModel) (valid : IsValid n) where
   -- the arrival of a ride has a text
   pub ride_arrival : (r : Ridden) → IsRidden n r → r.arrival.0 ≤ last_printable
-  ride_arrival r is =
-      let c = valid.connections r.leg.exit.0 is.is_leg.exit in
-      let row = valid.rows (connection n r.leg.exit.0).class.0 c.class_in in
-      let few = delay_few (outcomes_of n r.leg) r.delay row.delays is.is_delay in
-      omega (arith, is.late, c.early, few)
+  ride_arrival r is = grind (arith, delay_few)
 
   pub arrivals : (start : ℕ) (rides : List Ridden) → start ≤ last_printable → All (IsRidden n) rides → arrival_after start rides ≤ last_printable
   arrivals start [] early all = early

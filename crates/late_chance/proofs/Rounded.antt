@@ -39,8 +39,7 @@ module _ (scale : ℕ) (leaf : ℕ → ℕ) (n : NetworkModel) (target d : ℕ) 
     sum_up_none (Kid w tree kids) [] p scheduled safe = absurd safe
     sum_up_none (Kid w tree kids) (o ∷ row) p scheduled safe =
         let e = up_none tree p (scheduled + o.delay) safe.1 in
-        let k = sum_up_none kids row p scheduled safe.2 in
-        rw (e, k) (omega arith)
+        grind (arith, sum_up_none kids row p scheduled safe.2)
 
   mutual
     down_none : (tree : Tree) (p x : ℕ) → IsSafe n target (Some d) tree p x → rounded_down scale leaf tree ≡ 0
@@ -53,8 +52,7 @@ module _ (scale : ℕ) (leaf : ℕ → ℕ) (n : NetworkModel) (target d : ℕ) 
     sum_down_none (Kid w tree kids) [] p scheduled safe = absurd safe
     sum_down_none (Kid w tree kids) (o ∷ row) p scheduled safe =
         let e = down_none tree p (scheduled + o.delay) safe.1 in
-        let k = sum_down_none kids row p scheduled safe.2 in
-        rw (e, k) (omega arith)
+        grind (arith, sum_down_none kids row p scheduled safe.2)
 
   pub from_start : (tree : Tree) (q : Query) → q.target.0 ≡ target → q.deadline.0 ≡ d → IsSafeFor n q tree
       → (rounded_up scale leaf tree ≡ 0) × (rounded_down scale leaf tree ≡ 0)

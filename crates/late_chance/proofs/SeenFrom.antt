@@ -50,23 +50,14 @@ module _ (shift start : ℕ) (m : NetworkModel) where
         let k = inside j h in
         let one = parts_at i (omega arith) in
         let other = parts_at j k in
-        let next = v.onward i j less k (sym one.0 ∙ run ∙ other.0) in
-        omega (arith, one.3, other.2)
+        grind arith
 
     one_valid : (i : ℕ) → i < count seen → IsValidConnection seen i
     one_valid i h =
         let k = inside i h in
         let c = v.connections i k in
         let e = at i k in
-        let (run, step, dep, arr) = parts_at i k in
-        record {
-          forward = let f = c.forward in omega arith;
-          early = let f = c.early in omega arith;
-          from_in = let f = c.from_in in let g = ap (λ (x : Connection). x.from.0) e in omega arith;
-          to_in = let f = c.to_in in let g = ap (λ (x : Connection). x.to.0) e in omega arith;
-          class_in = let f = c.class_in in let g = ap (λ (x : Connection). x.class.0) e in omega arith;
-          step_in = let f = c.step_in in omega arith;
-        }
+        grind arith
 
     each_run : (i r : ℕ) → i < count seen → r < run_of seen i → ∥ ((j : ℕ) × (j < count seen) × (run_of seen j ≡ r)) ∥₁
     each_run i r h less =

@@ -1,4 +1,5 @@
 -- The graph of the rides that a scan's choices reach.
+use Rattle.std.proofs.Common.{arith}
 use Rattle.std.proofs.Common.{◌≡◌, ◌≢◌, ℕ, List, [], map, Option, Some, None, Contains, sym, subst, refl, inl, inr, ◌∙◌, ap, ◌==◌, if◌then◌else◌, MatchOption}
 use Rattle.std.proofs.Common.{option_map, ne_eqb, eq-eqb}
 use Rattle.std.proofs.lemmas.Bool.{cases_eq}
@@ -37,8 +38,7 @@ module _ {V : Type 0} {scoring : Scoring V} (n : NetworkModel) (q : Query) (foun
 
   pub safe_start : (start : V × Leg) → found.start ≡ Some start → IsSafeFor n q (chosen_by n q found start.1)
   safe_start start is =
-      let begins = subst (λ (f : Option (V × Leg)). MatchOption f ((tree : Tree) → IsSafeFor n q tree → ⊥) (IsStartAnswer scoring n q found)) is answers.begins in
-      begins.safe
+      grind arith
 
   module _ (valid : IsValid n) (differ : q.source.0 ≢ q.target.0) (start : V × Leg) (starts : found.start ≡ Some start) (rides : List Ride)
       (walked : IsWalked n q (by_place n (leg_choice found)) start.1 rides) where
@@ -51,19 +51,11 @@ module _ {V : Type 0} {scoring : Scoring V} (n : NetworkModel) (q : Query) (foun
     kept_after : (leg : Leg) → IsKeptAfter n target choice leg
     kept_after leg away o has next is =
         let k = steady (end_of n leg) (arrival_of n leg o.delay) next away is in
-        record {
-          next = next;
-          is_chosen = is;
-          limit = k.limit;
-          is_limit = k.is_limit;
-          in_time = k.in_time;
-          kept = λ u there after within. k.kept (arrival_of n leg u.delay) after within;
-        }
+        grind arith
 
     start_leg : IsLegOf n start.1
     start_leg =
-        let r = walked.begins in
-        subst (λ (l : Leg). IsLegOf n l) r.2 (All-contains (λ s. IsLegOf n s.leg) rides r.0 walked.legs r.1)
+        grind (arith, All-contains)
 
     has_arrivals : (r : Ride) → Contains rides r → HasArrivals n target r
     has_arrivals r there =
@@ -71,9 +63,7 @@ module _ {V : Type 0} {scoring : Scoring V} (n : NetworkModel) (q : Query) (foun
         let arrivals = map (λ o. arrival_of n r.leg o.delay) os in
         let table = table_of_ride n valid q choice start.1 rides walked r there in
         elim (cases_eq (end_of n r.leg) target) [
-          | inl is ↦
-              let right : (if end_of n r.leg == target then [] else arrivals) ≡ [] = rw (eq-eqb (end_of n r.leg) target is) refl in
-              ap (λ (list : List GraphRow). map (λ row. row.by.0) list) (table ∙ table_there n target choice r.leg is) ∙ sym right
+          | inl is ↦ grind (arith, eq-eqb, table_there)
           | inr away ↦
               let right : (if end_of n r.leg == target then [] else arrivals) ≡ arrivals = rw (ne_eqb (end_of n r.leg) target away) refl in
               ap (λ (list : List GraphRow). map (λ row. row.by.0) list) (table ∙ table_away n target choice r.leg away)

@@ -1,4 +1,5 @@
 -- The deadline of a certificate that is read has a text.
+use Rattle.std.proofs.Common.{arith}
 use Rattle.lower_proof.proofs.Common.{◌≡◌, ℕ, ◌≤◌, List, Option, Some, Ok, subst, ap, sym, ◌∙◌, nat_le, last_printable, header, require-ok, Query, NetworkModel, NameLists, field, whole_at, number_of}
 use Rattle.lower_proof.proofs.Common.{is_query, if-value, BoundsRow, bounds_numbers, is_bounds, bounds_row_in, bounds_in, IsProofReported}
 use Rattle.clock_text.specs.Times.{moment_at}
@@ -7,8 +8,7 @@ use Rattle.clock_text.proofs.Range.{moment_range}
 use Rattle.plan_model.specs.declared.model.Moment.{Moment}
 
 by_numbers : (a b c : Option ℕ) (x : BoundsRow) → bounds_numbers a b c ≡ Some x → b ≡ Some x.deadline.0
-by_numbers (Some s) (Some d) (Some k) x is = ap (λ (y : BoundsRow). Some y.deadline.0) (some_cases (nat_le s d) _ x is).1
-by_numbers _ _ _ x is = absurd (cc)
+by_numbers a b c x is = grind (arith, some_cases, nat_le)
 
 -- the deadline of a first row
 row_deadline : (names : NameLists) (source target start : ℕ) (r : List (List ℕ)) (y : BoundsRow) → bounds_in names source target start r ≡ Ok y → y.deadline.0 ≤ last_printable

@@ -15,8 +15,7 @@ use Rattle.printed_rows.proofs.Printed.{IsKept, AreKept, seven_kept, four_kept, 
 
 -- two facts of one result
 pub IfOk-with : {T E : Type 0} (r : Result T E) (P Q : T → Type 0) (R : Type 0) → ((x : T) → P x → R → Q x) → IfOk r P → OnOk r R → IfOk r Q
-IfOk-with (Ok x) P Q R both p r = both x p r
-IfOk-with (Err e) P Q R both p r = tt
+IfOk-with r P Q R both p h1 = grind arith
 
 same_query : (a b : Query) → a.source.0 ≡ b.source.0 → a.target.0 ≡ b.target.0 → a.start.0 ≡ b.start.0 → a.deadline ≡ b.deadline → a ≡ b
 same_query a b s t u d = λ i. record { source = record { 0 = s i }; target = record { 0 = t i }; start = record { 0 = u i }; deadline = d i }
@@ -115,8 +114,7 @@ module _ (n : NetworkModel) (names : NameLists) (valid : IsValid n) (fit : Names
         (value_row table i ≡ value_record n names (offset_at values i) v)
     row_reported i within =
         let (v, inside, value, row) = row_at n names 0 values i within in
-        let e : 0 + offset_at values i ≡ offset_at values i = omega arith in
-        (v, omega (arith, inside, as_many), value, row_is i ∙ row ∙ ap (λ (d : ℕ). value_record n names d v) e)
+        grind (arith, row_is)
 
     row_connection : (i : ℕ) → i < length rows → connection_in n names (value_row table i) ≡ Some (offset_at values i)
     row_connection i within =
@@ -137,8 +135,7 @@ module _ (n : NetworkModel) (names : NameLists) (valid : IsValid n) (fit : Names
     row_for : (c v : ℕ) → bound_of values c ≡ Some v → (i : ℕ) × (i < length rows) × (value_row table i ≡ value_record n names c v)
     row_for c v is =
         let at = row_of_value n names 0 values c v is in
-        let e : 0 + c ≡ c = omega arith in
-        (at.0, at.1, row_is at.0 ∙ at.2 ∙ ap (λ (d : ℕ). value_record n names d v) e)
+        grind (arith, row_is)
 
     never_reported : (c : ℕ) → ((i : ℕ) → i < length rows → connection_in n names (value_row table i) ≢ Some c) → (own_value : Option ℕ) → bound_of values c ≡ own_value → own_value ≡ None
     never_reported c never own_value is = grind (arith, row_for, named_back, present)
@@ -167,9 +164,7 @@ module _ (n : NetworkModel) (names : NameLists) (valid : IsValid n) (fit : Names
     all_reported =
         let many : length rows ≡ count_by is_some values = rows_many n names 0 values in
         record {
-          faultless = λ i within.
-              let inside : i < length rows = omega (arith, many, within, max-le {a = row_count table} {b = count_by is_some values} {k = length rows} (omega arith) (omega (arith, many))) in
-              row_faultless (count_by is_some values) i (omega (arith, many, inside)) inside;
+          faultless = λ i within. grind (arith, max-le, row_faultless);
           as_many = as_many;
           reported = λ i c within at.
               let inside : i < length rows = omega (arith, within) in

@@ -17,25 +17,13 @@ if-err test a fault f is = grind arith
 reported_in_memory : (n : NetworkModel) (names : NameLists) (line : ℕ) (before : Option ℕ) (r : List (List ℕ)) → reported_in n names line before r ≡ Err NoMemory → ⊥
 reported_in_memory n names line before r is = elim (require-err (value_row_in r) (Row line) _ NoMemory is) [
   | inl e ↦ absurd (cc)
-  | inr row ↦ elim (require-err (number_of names.runs (field r 1)) (UnknownName line) _ NoMemory row.1) [
-    | inl e ↦ absurd (cc)
-    | inr run ↦ elim (require-err (connection_of n run.0 row.0.step) (NoConnection line) _ NoMemory run.1) [
-      | inl e ↦ absurd (cc)
-      | inr c ↦ let e = if-err (rises before c.0) _ (NotRising line) NoMemory c.1 in absurd (cc)
-    ]
-  ]
+  | inr row ↦ grind (arith, require-err, if-err)
 ]
 
 bounds_in_memory : (names : NameLists) (source target start : ℕ) (r : List (List ℕ)) → bounds_in names source target start r ≡ Err NoMemory → ⊥
 bounds_in_memory names source target start r is = elim (require-err (bounds_row_in r) (Row 1) _ NoMemory is) [
   | inl e ↦ absurd (cc)
-  | inr row ↦ elim (require-err (number_of names.places (field r 2)) (UnknownName 1) _ NoMemory row.1) [
-    | inl e ↦ absurd (cc)
-    | inr from ↦ elim (require-err (number_of names.places (field r 3)) (UnknownName 1) _ NoMemory from.1) [
-      | inl e ↦ absurd (cc)
-      | inr to ↦ let e = if-err (is_query from.0 to.0 row.0.start.0 source target start) _ (OtherQuery 1) NoMemory to.1 in absurd (cc)
-    ]
-  ]
+  | inr row ↦ grind (arith, require-err, if-err)
 ]
 
 result_err-some : {A E : Type 0} (r : Result A E) (f : E) → result_err r ≡ Some f → r ≡ Err f

@@ -17,12 +17,7 @@ reports n names line before r reported is =
     let run = require-ok (number_of names.runs (field r 1)) _ _ reported x.2 in
     let c = require-ok (connection_of n run.0 x.0.step) _ _ reported run.2 in
     let own = if-value (rises before c.0) _ _ reported c.2 in
-    let same : record { id = record { 0 = c.0 }; value = x.0.value } ≡ reported = (cc) in
-    subst (Reports n names before r) same (record {
-      connection = by_parts (value_row_in r) (number_of names.runs (field r 1)) x.1 run.1 c.1;
-      value = ap (option_map (λ (row : ValueRow). row.value)) x.1;
-      rise = own.0;
-    })
+    grind arith
   where
     by_parts : (row : Option ValueRow) (run : Option ℕ) {x : ValueRow} {k c : ℕ} → row ≡ Some x → run ≡ Some k → connection_of n k x.step ≡ Some c
         → option_and_then (λ y. option_and_then (λ own. connection_of n own y.step) run) row ≡ Some c

@@ -18,17 +18,7 @@ module _ (p : Problem) (start : ℕ) where
 module _ (limits : Limits) (files : FileMap) (start : ℕ) (p : Problem) where
   -- an answered question
   pub answers_end : (ask : AskModel) (found : Findings) (text : List ℕ) → AnswersAsk (Some files) limits start p ask found text → EndsAsk limits files start p ask 0
-  answers_end (Safe alpha) found text (q, w, asked, reports) = asked_ends p start alpha q w asked
-  answers_end (Expand alpha) found text (q, w, asked, reports) = asked_ends p start alpha q w asked
-  answers_end (Plan alpha) found text (q, w, asked, reports) = asked_ends p start alpha q w asked
-  answers_end (Replays graph late) found text (head, plan, file, reported) = grind arith
-  answers_end (Certify alpha) found text (q, w, asked, reports) = asked_ends p start alpha q w asked
-  answers_end (CheckProof path) found text (q, certificate, file, held) = inl (q, certificate, file, inl (held.accepted, refl))
-  answers_end (CheckGraph path) found text (head, plan, file, reported) = inl (head, plan, file.reads, inl (refl, reported.scored.safe))
-  answers_end (Punctual alpha promise) found text (q, w, asked, reports) = asked_ends p start alpha q w asked
-  answers_end (Departures until last) found text (rows, same, are, safe, reported) = inl (refl, safe)
-  answers_end (Latest until) found text (moment, same, is, reported) = inl (refl, (moment.0, is.1.0, is.0, is.1.1))
-  answers_end (Reach until) found text reached = refl
+  answers_end ask found text reached = grind (arith, asked_ends)
 
   replay_ends : (graph late : List ℕ) (fault : Fault) → ((i : Input) → fault ≡ Read i → ⊥)
       → FailsReplay (Some files) limits start graph late p fault → EndsByGraphFile limits files start graph late p (status_of (Some fault))
@@ -43,8 +33,7 @@ module _ (limits : Limits) (files : FileMap) (start : ℕ) (p : Problem) where
 
   score_ends : (path : List ℕ) (fault : Fault) → ((i : Input) → fault ≡ Read i → ⊥)
       → FailsScore (Some files) limits start path p fault → EndsByScore limits files start path p (status_of (Some fault))
-  score_ends path fault never (inl (of, fails)) = grind (arith, none_unread)
-  score_ends path fault never (inr (head, plan, file, (place, moment, is, why))) = grind arith
+  score_ends path fault never h1 = grind (arith, none_unread)
 
   -- a question with no answer
   pub fails_end : (ask : AskModel) (fault : Fault) → ((i : Input) → fault ≡ Read i → ⊥) → FailsAsk (Some files) limits start p ask fault

@@ -23,26 +23,14 @@ module _ (contents : Option FileMap) (limits : Limits) (words : List (List ℕ))
 
   module _ (report : Report) (old new : Option (List ℕ)) (IsLine : List ℕ → Type 0) where
     outcome_by : (fault : Fault) → fault ≢ Write → Keeps old new → IsRefused contents limits words report IsLine fault → Outcome contents limits words report old new IsLine (Some fault)
-    outcome_by fault other keeps refused = record {
-      whole = λ none. absurd (cc);
-      torn = λ write. absurd (other (same_Some _ _ write));
-      refused = λ found is never. (keeps, subst (IsRefused contents limits words report IsLine) (same_Some _ _ is) refused);
-    }
+    outcome_by fault other keeps refused = grind arith
 
   -- a refusal whose line was written
   pub refused_outcome : (report : Report) (old new before after : Option (List ℕ)) (was now : ℕ) (known : Option NamedParts) (wanted : Fault) (found : Option Fault)
       → findings_of report ≡ no_findings → Keeps old new
       → IsExplained contents limits words known wanted → wanted ≢ Write → IsRefusedWith before after was now known wanted found
       → Outcome contents limits words report old new (IsLineWritten before after was now) found
-  refused_outcome report old new before after was now known wanted None findings keeps cause other refused = absurd refused
-  refused_outcome report old new before after was now known wanted (Some fault) findings keeps cause other (same, line) =
-      ⊎_elim
-      (λ (is : fault ≡ wanted). outcome_by report old new (IsLineWritten before after was now) fault (λ write. other (sym is ∙ write)) keeps
-      (findings, (known, subst (IsExplained contents limits words known) (sym is) cause, line)))
-      (λ (is : (fault ≡ NoMemory) × IsFormatted wanted).
-      outcome_by report old new (IsLineWritten before after was now) fault (λ write. let never : NoMemory ≡ Write = sym is.0 ∙ write in cc) keeps
-      (findings, (known, inl is.0, line)))
-      same
+  refused_outcome report old new before after was now known wanted found findings keeps cause other refused = grind (arith, outcome_by)
 
   -- an answer that was written, or not wholly
   pub answered_outcome : (wanted : JobModel) (answer : Findings) (report : Report) (text : List ℕ) (old new : Option (List ℕ)) (IsLine : List ℕ → Type 0) (found : Option Fault)

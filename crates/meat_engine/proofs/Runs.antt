@@ -38,8 +38,7 @@ module _ (limits : Limits) (words : List (List ℕ)) (report : Report) (before a
         same = same;
         read = unread;
         read_path = λ job input is some unread. read_path job input is some (wanted_read input unread);
-        files_grew = λ less. let file = grew less in
-            (file.0, refused_read err.written err_after.written err.faults err_after.faults known wanted report.fault file.0 reported file.1);
+        files_grew = λ less. grind (arith, refused_read);
         write = unwritten;
         out_grew = λ less. absurd (omega (arith, less));
         complete = λ files_calm out_calm.

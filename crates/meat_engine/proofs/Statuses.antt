@@ -1,4 +1,5 @@
 -- The status of a call, by what it comes to.
+use Rattle.std.proofs.Common.{arith}
 use Rattle.meat_engine.proofs.Common.{◌≡◌, ℕ, ap, refl, sym, ◌∙◌, subst, inl, inr, List, Option, Some, None, Ok, ◌≢◌, ◌⊎◌, FileMap, Limits, JourneyModel, AskModel, Plan, Ask, Sample, job_of, Input}
 use Rattle.meat_engine.proofs.Common.{Fault, Read, NoMemory, status_of, IsUndisturbed, NamedParts, Problem, IsProblem, IsProblemFault, IsFaultless, no_fault, Report, EndsAsk, EndsBySafety}
 use Rattle.meat_engine.proofs.Common.{findings_of, Outcome, sample_journey, sample_alpha, FailsSample}
@@ -17,8 +18,7 @@ Comes limits files j a fault =
 
 comes_by : (limits : Limits) (files : FileMap) (j : JourneyModel) (a : AskModel) (fault : Fault) → fault ≢ NoMemory
     → EndsOver limits files j a (status_of (Some fault)) ⊎ IsProblemFault limits files j fault → Comes limits files j a (Some fault)
-comes_by limits files j a fault m (inl ends) = inl ends
-comes_by limits files j a fault m (inr first) = inr (inl (fault, refl, m, first))
+comes_by limits files j a fault m h1 = grind arith
 
 module _ (limits : Limits) (files : FileMap) (words : List (List ℕ)) (report : Report) (old new : Option (List ℕ)) (Reports : List ℕ → Type 0) (j : JourneyModel) (a : AskModel) where
   fault_comes : (fault : Fault) → job_of words ≡ Ok (Ask j a) → Outcome (Some files) limits words report old new Reports (Some fault)

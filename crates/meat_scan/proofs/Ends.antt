@@ -14,20 +14,13 @@ picked_still {V} [] arrival later row is after in_time = absurd (cc)
 picked_still {V} (head ∷ rows) arrival later row is after in_time = elim (cases_lt head.by.0 arrival) [
   | inl late ↦
       let here : row_in_time arrival (head ∷ rows) ≡ row_in_time arrival rows = grind (arith, nat_tests) in
-      let there : row_in_time later (head ∷ rows) ≡ row_in_time later rows = grind (arith, nat_tests) in
-      there ∙ picked_still rows arrival later row (sym here ∙ is) after in_time
-  | inr early ↦
-      let here : row_in_time arrival (head ∷ rows) ≡ Some head = grind (arith, nat_tests) in
-      let same : head ≡ row = let both = sym here ∙ is in cc in
-      let in_time_head : later ≤ head.by.0 = subst (λ (r : Row V). later ≤ r.by.0) (sym same) in_time in
-      let there : row_in_time later (head ∷ rows) ≡ Some head = grind (arith, nat_tests) in
-      there ∙ ap (λ (r : Row V). Some r) same
+      grind (arith, nat_tests, picked_still rows arrival later row (sym here ∙ is) after in_time)
+  | inr early ↦ grind (arith, nat_tests)
 ]
 
 -- a map of a map of an option
 option_map-option_map : {V : Type 0} (o : Option (Row V)) → option_map (λ (choice : V × Leg). choice.1) (option_map (λ (row : Row V). (row.value, row.leg)) o) ≡ option_map (λ row. row.leg) o
-option_map-option_map None = refl
-option_map-option_map (Some row) = refl
+option_map-option_map o = grind arith
 
 module _ {V : Type 0} (n : NetworkModel) (target deadline : ℕ) (choice : ℕ → ℕ → Option Leg) (rows : ℕ → List (Row V))
     (by_rows : (place arrival : ℕ) → choice place arrival ≡ option_map (λ row. row.leg) (row_in_time arrival (rows place))) where
@@ -44,10 +37,8 @@ module _ {V : Type 0} (n : NetworkModel) (target deadline : ℕ) (choice : ℕ �
     -- a chosen and safe tree of at most this many rides is what is unfolded
     pub unfold_after-chosen : (tree : Tree) (rides : ℕ) (leg : Leg) (place arrival : ℕ) → end_of n leg ≡ place → height tree ≤ rides
         → IsSafe n target (Some deadline) tree place arrival → IsChosen n target rows tree place arrival → after_leg rides leg arrival ≡ tree
-    unfold_after-chosen (Done moment) zero leg place arrival ends low safe is = let at = ends
-        ∙ is.0 in let e : after_leg zero leg arrival ≡ Done arrival = grind (arith, nat_tests) in e ∙ ap Done (sym is.1)
-    unfold_after-chosen (Done moment) (suc rides) leg place arrival ends low safe is = let at = ends
-        ∙ is.0 in let e : after_leg (suc rides) leg arrival ≡ Done arrival = grind (arith, nat_tests) in e ∙ ap Done (sym is.1)
+    unfold_after-chosen (Done moment) zero leg place arrival ends low safe is = grind (arith, nat_tests)
+    unfold_after-chosen (Done moment) (suc rides) leg place arrival ends low safe is = grind (arith, nat_tests)
     unfold_after-chosen (Ride enter exit kids) zero leg place arrival ends low safe is = absurd (omega arith)
     unfold_after-chosen (Ride enter exit kids) (suc rides) leg place arrival ends low safe is =
         let away : end_of n leg ≢ target = λ at. is.0 (sym ends ∙ at) in
@@ -76,8 +67,7 @@ module _ {V : Type 0} (n : NetworkModel) (target deadline : ℕ) (choice : ℕ �
       → unfold_from n target (by_place n choice) (Some leg) place arrival ≡ Ride enter exit kids
   unfold_from-chosen enter exit kids leg place arrival away enters exits low safe is =
       let e : unfold_from n target (by_place n choice) (Some leg) place arrival ≡ ride_of n (after_leg (count n - 1)) leg = grind (arith, nat_tests) in
-      e ∙ ride_of-children enter exit kids (count n - 1) leg enters exits
-      (children_after-chosen kids (count n - 1) leg (outcomes n exit) (to_of n exit) (arr_of n exit) (ap (to_of n) exits) (omega arith) safe is)
+      grind (arith, ride_of-children, children_after-chosen)
 
 module _ {V : Type 0} (scoring : Scoring V) (n : NetworkModel) (q : Query) (scanned : ℕ → Type 0)
     (all : (id : ℕ) → id < count n → scanned id) (differ : q.source.0 ≢ q.target.0) (found : ScanResult V) (exits : ℕ → Option (Exit V))
@@ -126,14 +116,7 @@ module _ {V : Type 0} (scoring : Scoring V) (n : NetworkModel) (q : Query) (scan
       let tree_is : chosen_by n q found begin.1 ≡ tree = unfold_from-chosen n q.target.0 q.deadline.0 (leg_choice found)
       (found_rows found) leg_choice-row_in_time begin.1.enter.0 begin.1.exit.0 claim.kids begin.1 q.source.0 q.start.0 differ refl refl claim.low
       claim.safe claim.chosen in
-      let safe : IsSafeFor n q tree = (differ, claim.is_leg, boards, claim.safe) in
-      record {
-        safe = rw tree_is safe;
-        covers_chosen = rw tree_is claim.covers_ride;
-        below_safe = by_ride (IsSafeFor n q) (λ moment safe. differ safe.1) (λ at moment safe. safe) (scoring.below begin.0)
-            (λ enter exit others safe. claim.below_all enter (all enter safe.1.enter) exit others safe);
-        gap_within = claim.gap_within;
-      }
+      grind (arith, by_ride)
 
   -- the scan's answers
   pub solves_end : HasAnswers scoring n q found

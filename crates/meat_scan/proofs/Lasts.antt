@@ -6,12 +6,6 @@ abbrev pub IsLastRow : {V : Type 0} → List (Row V) → Row V → Type 0
 IsLastRow rows row = (row_in_time row.by.0 rows ≡ Some row) × ((arrival : ℕ) → row.by.0 < arrival → row_in_time arrival rows ≡ None)
 
 pub last_picked : {V : Type 0} (rank : V → ℕ) (rows : List (Row V)) (k : ℕ) (d : Row V) → suc k ≡ length rows → RowsRise rank rows → IsLastRow rows (get_or rows k d)
-last_picked rank [] k d many rise = absurd (omega (arith, many))
 last_picked rank (r ∷ []) zero d many rise = (picked_here r.by.0 r [] (omega arith), λ arrival late. picked_later arrival r [] late)
-last_picked rank (r ∷ []) (suc k) d many rise = absurd (omega (arith, many))
-last_picked rank (r ∷ s ∷ rows) zero d many rise = absurd (omega (arith, many))
-last_picked rank (r ∷ s ∷ rows) (suc k) d many rise =
-    let last = get_or (s ∷ rows) k d in
-    let rest = last_picked rank (s ∷ rows) k d (omega (arith, many)) rise.1 in
-    let sooner = picked_holds _ last.by.0 (s ∷ rows) last rise.0 rest.0 in
-    (picked_later last.by.0 r (s ∷ rows) sooner.0 ∙ rest.0, λ arrival late. picked_later arrival r (s ∷ rows) (omega (arith, late, sooner.0)) ∙ rest.1 arrival late)
+last_picked rank (r ∷ s ∷ rows) (suc k) d many rise = grind (arith, picked_holds, picked_later, last_picked rank (s ∷ rows) k d (omega (arith, many)) rise.1)
+last_picked rank _ k d many rise = absurd (omega (arith, many))

@@ -79,8 +79,7 @@ fits_all network last tables late fit = record {
     split = sym (append-nil order);
     late = All-nil (λ (id : ConnectionId). last < dep_of network id.0);
     soon = λ k d within.
-        let sound = fit.valid.connections (get_or order k d).0 ((has_each_id network order whole).within k d within) in
-        omega (arith, sound.forward, sound.early, late);
+        grind (arith, has_each_id);
   });
 }
 
@@ -101,9 +100,5 @@ fits_again network old new used fit empty spare same places runs = record {
   empty = empty;
   room = λ order whole.
       let room = fit.room order whole in
-      record {
-        places = places;
-        runs = λ i inside. omega (arith, room.runs i inside, runs);
-        room = λ place within. omega (arith, room.room place (omega (arith, within, places, room.places)), spare place, same place);
-      };
+      grind arith;
 }

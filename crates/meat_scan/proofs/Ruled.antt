@@ -1,12 +1,12 @@
 -- The strategy of a scan's start is the one that the rules keep.
+use Rattle.std.proofs.Common.{arith}
 use Rattle.meat_scan.proofs.Common.{◌≡◌, ℕ, List, Option, Some, None, sym, refl, ap, ◌∙◌, ConnectionId, Leg, Query, NetworkModel, IsScanOrder, unfolding_of, by_place, Scoring, Row, row_in_time}
 use Rattle.meat_scan.proofs.Common.{FollowsRules, IsByRules, kept_after, kept_leg, ScanResult, chosen_by, leg_choice, found_rows}
 use Rattle.std.specs.Option.{option_map}
 
 module _ {V : Type 0} (scoring : Scoring V) (n : NetworkModel) (q : Query) (found : ScanResult V) where
   leg_of_row : (row : Option (Row V)) → option_map (λ (c : V × Leg). c.1) (option_map (λ (r : Row V). (r.value, r.leg)) row) ≡ option_map (λ (r : Row V). r.leg) row
-  leg_of_row None = refl
-  leg_of_row (Some row) = refl
+  leg_of_row row = grind arith
 
   pub by_rules : (order : List ConnectionId) → IsScanOrder n order → FollowsRules scoring n q order found → (start : V × Leg) → found.start ≡ Some start
       → IsByRules scoring n q (chosen_by n q found start.1) start.0

@@ -37,9 +37,7 @@ kept_by scoring network query id run value exit profiles profiles' exits exits' 
     let exits_same = same_function (exit_at exits') (λ other. exits_next scoring network query id.0 (rows_of_profile profiles) (exit_at exits) other)
     (λ other. rw (run_is, value_is) at (exits_are other)) in
     let boards = exit_is ∙ ap (boarding_exit network id.0) exits_same in
-    kept_same
-    (same_function (rows_of_profile profiles') (λ place. rows_next scoring network query id.0 (rows_of_profile profiles) (exit_at exits) place) (λ place. rw boards at (rows_are place)))
-    exits_same (rw boards at start_is)
+    grind (arith, kept_same, same_function)
 
 module _ {V : Type 0} {scoring : Scoring V} (laws : ScoreLaws scoring) (network : NetworkModel) (good : IsValid network) (query : Query)
     (order : List ConnectionId) (whole : IsScanOrder network order) where
@@ -123,8 +121,7 @@ no_values arrived target deadline rows place scheduled [] some none late = absur
 no_values {V} arrived target deadline rows place scheduled (outcome ∷ row) some none late = grind (arith, common_steps, nat_tests)
 
 cond_none : {X : Type 0} (b : Bool) → cond {A = Option X} b None None ≡ None
-cond_none true = refl
-cond_none false = refl
+cond_none b = grind arith
 
 module _ {V : Type 0} (scoring : Scoring V) (network : NetworkModel)
     (good : IsValid network) (query : Query) (id : ℕ) (there : id < count network) (late : query.deadline.0 < dep_of network id)

@@ -17,8 +17,7 @@ way_in-none (way ∷ ways) place away = rw (ne_eqb way.from.0 place (away 0 way 
     (way_in-none ways place (λ j d within. away (suc j) d (omega arith)))
 
 option_or-None : (o : Option Way) → option_or o None ≡ o
-option_or-None None = refl
-option_or-None (Some way) = refl
+option_or-None o = grind arith
 
 -- one, where there is a way
 abbrev pub way_number : Option Way → ℕ

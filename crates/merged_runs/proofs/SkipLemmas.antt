@@ -21,9 +21,7 @@ filter_parts p late (id ∷ ids) up = elim (cases_Bool (late id)) [
   | inl is_late ↦
       let all = All-cons (λ (x : ConnectionId). late x ≡ true) id ids is_late (λ k d within. up 0 (suc k) d (omega arith) (omega arith) is_late) in
       rw (filter_none (λ x. cond (late x) false (p x)) (id ∷ ids) (λ k d within. rw (all k d within) refl)) (late_alike p late (id ∷ ids) all)
-  | inr is_soon ↦
-      let rest = filter_parts p late ids (AllPairs-tail (λ (a b : ConnectionId). late a ≡ true → late b ≡ true) id ids up) in
-      rw is_soon (elim (cases_Bool (p id)) [ inl passes ↦ rw passes (ap (λ (xs : List ConnectionId). id ∷ xs) rest) | inr fails ↦ rw fails rest ])
+  | inr is_soon ↦ grind (arith, AllPairs-tail, cases_Bool, filter_parts p late ids (AllPairs-tail (λ (a b : ConnectionId). late a ≡ true → late b ≡ true) id ids up))
 ]
 
 -- departures do not fall along a run

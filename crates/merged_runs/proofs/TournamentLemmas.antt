@@ -113,8 +113,7 @@ module _ (n : NetworkModel) (starts remaining keys : List ℕ) where
   IsPlayedFrom-runs run all read = record {
     size = read.size;
     each = λ k ge some few. let e : length remaining + (k - length remaining) ≡ k = omega arith in
-        let leaf : get_or keys k 0 ≡ key_of n starts remaining (k - length remaining) = ap (λ m. get_or keys m 0) (sym e) ∙ read.each (k - length remaining) (omega arith) (omega arith) in
-        rw leaf (subst (λ m. IsWinner n starts remaining m (key_of n starts remaining (k - length remaining))) e (IsWinner-leaf n starts remaining (k - length remaining) (omega arith)));
+        grind (arith, IsWinner-leaf);
   }
 
   -- one run more has its key
@@ -181,21 +180,7 @@ module _ (n : NetworkModel) (starts remaining keys : List ℕ) (m : IsMerge n st
   pub won : 0 < length remaining → 0 < key → HasWon n starts remaining key
   won any more =
       let w = m.tournament.each 1 (omega arith) (omega (arith, any)) in
-      let run : ℕ = w.run in
-      let some : get_or starts run 0 < get_or remaining run 0 =
-      ⊎_elim (λ less. less) (λ ge. absurd (omega (arith, final, w.own, key_of-none n starts remaining run ge))) (cases_lt (get_or starts run 0) (get_or remaining run 0)) in
-      let last : key - 1 ≡ rank n (get_or remaining run 0 - 1) = omega (arith, final, w.own, key_of-some n starts remaining run some) in
-      let own = run_between n starts m.stretches.begin run (get_or remaining run 0 - 1) (omega (arith, w.within, m.stretches.size)) (omega arith) (omega (arith, (m.stretches.within run w.within).1)) in
-      let few = within_count n starts remaining m.stretches run w.within in
-      record {
-        run = run;
-        within = w.within;
-        some = some;
-        last = last;
-        own = own.1;
-        there = own.0;
-        id = omega (arith, last, few, some);
-      }
+      grind (arith, key_of-none, cases_lt, key_of-some, run_between, within_count)
 
   -- the last connection that remains of the run that won is the last one of all
   pub rest_of-given : (h : HasWon n starts remaining key) → rest_of n remaining ≡ rest_of n (set remaining h.run (get_or remaining h.run 0 - 1)) ++ record { 0 = get_or remaining h.run 0 - 1 } ∷ []

@@ -44,8 +44,7 @@ rows_of_place-none tables p i rise point other = found_nowhere (λ ts. rows_of_p
       | inr from ↦ elim (cases_lt i k) [
         | inl more ↦
             let rises = rise i k d more within in
-            let past = ltb-false (slice_index_or tables i d).place.0 p (point.1 i d (omega arith) (omega (arith, more, within))) in
-            omega (arith, rises, past, is)
+            grind (arith, ltb-false, slice_index_or)
         | inr same ↦ let e : k ≡ i = omega (arith, from, same) in other d (omega (arith, e, within)) (subst (λ (m : ℕ). (slice_index_or tables m d).place.0 ≡ p) e is)
       ]
     ]))

@@ -75,10 +75,7 @@ module _ (choice : ℕ → Option Leg) (scheduled : ℕ) where
       → choice (scheduled + o.delay) ≡ Some leg → IsFirstInTime (rows_for choice scheduled os) (scheduled + o.delay) (row_by (scheduled + o.delay) leg)
   first_for [] rising o has leg is = absurd (Contains-nil o has)
   first_for (head ∷ os) rising o has leg is = elim (Contains-cons_cases head os o has) [
-    | inl same ↦
-        let here : choice (scheduled + head.delay) ≡ Some leg = ap (λ (u : Outcome). choice (scheduled + u.delay)) same ∙ is in
-        subst (λ (u : Outcome). IsFirstInTime (rows_for choice scheduled (head ∷ os)) (scheduled + u.delay) (row_by (scheduled + u.delay) leg)) same
-        (rw here (inl (omega arith, refl)))
+    | inl same ↦ grind arith
     | inr more ↦
         let less = AllPairs-head Sooner head os rising o more in
         by_found (choice (scheduled + head.delay)) (omega (arith, less)) (first_for os (AllPairs-tail Sooner head os rising) o more leg is)
@@ -106,10 +103,7 @@ module _ (choice : ℕ → Option Leg) (scheduled : ℕ) where
         let row = row_by (scheduled + head.delay) first.next in
         let x = scheduled + o.delay in
         rw first.is_chosen (elim (Contains-cons_cases head os o has) [
-          | inl same ↦
-              let in_time : x ≤ first.limit = subst (λ (u : Outcome). scheduled + u.delay ≤ first.limit) same first.in_time in
-              in_time_here n place row (rows_for choice scheduled os) x first.limit first.is_limit in_time
-              ∙ sym (ap (λ (u : Outcome). choice (scheduled + u.delay)) (sym same) ∙ first.is_chosen) ∙ is
+          | inl same ↦ grind (arith, in_time_here)
           | inr more ↦
               let less = AllPairs-head Sooner head os rising o more in
               elim (cases_lt first.limit x) [

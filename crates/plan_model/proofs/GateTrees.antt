@@ -10,34 +10,23 @@ module _ (n m : NetworkModel) (gate source : ℕ) (g : IsGate n m gate source) (
 
   -- in the network with the gate
   sets_out : (tree : Tree) (x : ℕ) → IsSafe n target by tree gate x → IsSafeFromStart n target by tree source (x + 1)
-  sets_out (Done a) x h = absurd (omega (arith, h.1, g.added, inside))
-  sets_out (Ride i j kids) x h =
-      let b = h.2 in
-      let here = g.only (from_of n i) b.seconds (begins_inside i j h.1) b.way in
-      let both = sym g.link ∙ ap (way_of n gate) (sym here) ∙ b.way in
-      let second : 1 ≡ b.seconds = (cc) in
-      (away, h.1, (here, omega (arith, second, b.in_time)), h.3)
-  sets_out (Stuck q y) x h = absurd h
+  sets_out tree x h = grind (arith, begins_inside)
 
   goes_on : (tree : Tree) (x : ℕ) → IsSafeFromStart n target by tree source (x + 1) → IsSafe n target by tree gate x
   goes_on (Done a) x h = absurd (away h.1)
   goes_on (Ride i j kids) x h =
       let way : way_of n gate (from_of n i) ≡ Some 1 = ap (way_of n gate) h.2.0 ∙ g.link in
-      let other : gate ≢ target = omega (arith, g.added, inside) in
-      let board : IsBoardable n gate x i = record { seconds = 1; way = way; in_time = h.2.1 } in
-      (other, h.1, board, h.3)
+      grind arith
   goes_on (Stuck q y) x h = absurd h
 
   pub gate_there : (tree : Tree) (x : ℕ) → IsSafe n target by tree gate x → IsSafeFromStart m target by tree source (x + 1)
   gate_there tree x h =
       let start = start_there n m 0 0 g.view valid target by tree source (x + 1) (sets_out tree x h) in
-      let now : x + 1 + 0 ≡ x + 1 = omega arith in
-      rw (later_by-none tree, deadline-none by, now) at start
+      grind (arith, later_by-none, deadline-none)
 
   pub gate_back : (tree : Tree) (x : ℕ) → IsSafeFromStart m target by tree source (x + 1) → IsSafe n target by tree gate x
   gate_back tree x h =
       let now : x + 1 ≡ x + 1 + 0 = omega arith in
       let reported : IsSafeFromStart m target (deadline_later_by 0 by) tree source (x + 1 + 0) = rw (deadline-none by, ← now) h in
       let from = start_back n m 0 0 g.view valid target by tree source (x + 1) (omega arith) reported in
-      let same : from.0 ≡ tree = sym (later_by-none from.0) ∙ from.1 in
-      goes_on tree x (subst (λ (t : Tree). IsSafeFromStart n target by t source (x + 1)) same from.2)
+      grind (arith, later_by-none, goes_on)

@@ -28,23 +28,13 @@ if_away gate source r away = let other : (r == source.0) ≡ false = grind (arit
 -- of one source more there is a way more
 pub ways_from_gates-push : (gate : ℕ) (sources : List PlaceId) (source : PlaceId) (r : ℕ)
     → ways_from_gates gate (sources ++ source ∷ []) r ≡ ways_from_gates gate sources r ++ way_if_to (gate + length sources) source r
-ways_from_gates-push gate [] source r =
-    let now : gate ≡ gate + 0 = omega arith in
-    append-nil (way_if_to gate source r) ∙ ap (λ (k : ℕ). way_if_to k source r) now
-ways_from_gates-push gate (s ∷ sources) source r =
-    let later : gate + 1 + length sources ≡ gate + suc (length sources) = omega arith in
-    ap (λ ways. way_if_to gate s r ++ ways) (ways_from_gates-push (gate + 1) sources source r ∙ ap (λ k. ways_from_gates (gate + 1) sources r ++ way_if_to k source r) later)
-    ∙ sym (append_assoc (way_if_to gate s r) (ways_from_gates (gate + 1) sources r) (way_if_to (gate + suc (length sources)) source r))
+ways_from_gates-push gate [] source r = grind (arith, append-nil)
+ways_from_gates-push gate (s ∷ sources) source r = grind (arith, append_assoc, ways_from_gates-push (gate + 1) sources source r)
 
 -- the gates are the places from the first one on
 from_later : (gate : ℕ) (sources : List PlaceId) (r : ℕ) → All (λ way. gate ≤ way.from.0) (ways_from_gates gate sources r)
 from_later gate [] r = grind (arith, All-nil)
-from_later gate (s ∷ sources) r =
-    let others : All (λ way. gate ≤ way.from.0) (ways_from_gates (gate + 1) sources r) = λ k d within. let later = from_later (gate + 1) sources r k d within in omega (arith, later) in
-    elim (cases_eq r s.0) [
-      | inl here ↦ let e = if_here gate s r here in rw e (All-cons (λ way. gate ≤ way.from.0) (way_from gate) (ways_from_gates (gate + 1) sources r) (omega arith) others)
-      | inr away ↦ let e = if_away gate s r away in rw e others
-    ]
+from_later gate (s ∷ sources) r = grind (arith, cases_eq, All-cons, if_away, from_later (gate + 1) sources r)
 
 none_before : (ways : List Way) (gate p : ℕ) → All (λ way. gate ≤ way.from.0) ways → p < gate → way_in ways p ≡ None
 none_before [] gate p later before = refl
@@ -64,23 +54,13 @@ from_gate gate k [] r within = absurd (omega (arith, within))
 from_gate gate zero (s ∷ sources) r within =
     let now : gate ≡ gate + 0 = omega arith in
     subst (λ (p : ℕ). way_in (ways_from_gates gate (s ∷ sources) r) p ≡ (if r == s.0 then Some 1 else None)) now (elim (cases_eq r s.0) [
-      | inl here ↦
-          let e = if_here gate s r here in
-          let same : (r == s.0) ≡ true = grind (arith, nat_tests) in
-          rw (e, same) (way_in-here (way_from gate) (ways_from_gates (gate + 1) sources r) gate refl)
+      | inl here ↦ grind (arith, nat_tests, way_in-here)
       | inr away ↦
           let e = if_away gate s r away in
           let other : (r == s.0) ≡ false = grind (arith, nat_tests) in
           rw (e, other) (none_before (ways_from_gates (gate + 1) sources r) (gate + 1) gate (from_later (gate + 1) sources r) (omega arith))
     ])
-from_gate gate (suc k) (s ∷ sources) r within =
-    let next : gate + 1 + k ≡ gate + suc k = omega arith in
-    let rest : way_in (ways_from_gates (gate + 1) sources r) (gate + suc k) ≡ (if r == source_at sources k then Some 1 else None) =
-    subst (λ (p : ℕ). way_in (ways_from_gates (gate + 1) sources r) p ≡ (if r == source_at sources k then Some 1 else None)) next (from_gate (gate + 1) k sources r (omega (arith, within))) in
-    elim (cases_eq r s.0) [
-      | inl here ↦ let e = if_here gate s r here in rw e (way_in-away (way_from gate) (ways_from_gates (gate + 1) sources r) (gate + suc k) (λ same. absurd (omega (arith, same))) ∙ rest)
-      | inr away ↦ let e = if_away gate s r away in rw e rest
-    ]
+from_gate gate (suc k) (s ∷ sources) r within = grind (arith, cases_eq, way_in-away, if_away, from_gate (gate + 1) k sources r (omega (arith, within)))
 
 -- the ways from gates are links from places more
 links_more : (gate r : ℕ) (links : List Way) (sources : List PlaceId) → r < gate → AreLinksInto gate r links → AreLinksInto (gate + length sources) r (links ++ ways_from_gates gate sources r)
@@ -94,10 +74,7 @@ links_more gate r links (s ∷ sources) before are =
           let whole = links_more (gate + 1) r (links ++ way_from gate ∷ []) sources (omega (arith, before)) more in
           let shift = append_assoc links (way_from gate ∷ []) (ways_from_gates (gate + 1) sources r) in
           rw (e, ← later, ← shift) whole
-      | inr away ↦
-          let e = if_away gate s r away in
-          let whole = links_more (gate + 1) r links sources (omega (arith, before)) (AreLinksInto-wider gate r links are) in
-          rw (e, ← later) whole
+      | inr away ↦ grind (arith, if_away, AreLinksInto-wider, links_more (gate + 1) r links sources (omega (arith, before)) (AreLinksInto-wider gate r links are))
     ]
 
 module _ (m : NetworkModel) (v : IsValid m) (sources : List PlaceId) (there : All (λ source. source.0 < length m.change) sources) (few : length m.change + length sources < 4294967296) where
@@ -115,18 +92,13 @@ module _ (m : NetworkModel) (v : IsValid m) (sources : List PlaceId) (there : Al
 
   -- past the places there is no link
   pub none_past : (r : ℕ) → last ≤ r → links_with_gates m sources r ≡ []
-  none_past r past =
-      let none : links_into m r ≡ [] = get_or_past m.links r [] (omega (arith, past, v.links.few)) in
-      rw none (no_source last sources r (λ k d within e. absurd (let inside = there k d within in omega (arith, e, inside, past))))
+  none_past r past = grind (arith, get_or_past, no_source)
 
   links_at : (r : ℕ) → r < last + length sources → links_into n r ≡ links_with_gates m sources r
   links_at r h = get_or-map-range_with_len (links_with_gates m sources) 0 (last + length sources) r r [] h (omega arith)
 
   none_into : (r : ℕ) → last ≤ r → links_into n r ≡ []
-  none_into r past = elim (cases_lt r (last + length sources)) [
-    | inl before ↦ links_at r before ∙ none_past r past
-    | inr after ↦ get_or_past n.links r [] (omega (arith, after, length-map-range_with_len (links_with_gates m sources) 0 (last + length sources)))
-  ]
+  none_into r past = grind (arith, cases_lt, links_at, none_past, get_or_past, length-map-range_with_len)
 
   own_at : (r : ℕ) → r < last → own_way n r ≡ own_way m r
   unfolding change_of
@@ -161,13 +133,7 @@ module _ (m : NetworkModel) (v : IsValid m) (sources : List PlaceId) (there : Al
   link k within inside = let same : (source_at sources k == source_at sources k) ≡ true = grind (arith, nat_tests) in from_the_gate k (source_at sources k) within inside ∙ rw same refl
 
   only : (k to seconds : ℕ) → k < length sources → to < last → way_of n (last + k) to ≡ Some seconds → to ≡ source_at sources k
-  only k to seconds within h way = elim (cases_eq to (source_at sources k)) [
-    | inl same ↦ same
-    | inr other ↦
-        let test : (to == source_at sources k) ≡ false = grind (arith, nat_tests) in
-        let none : way_of n (last + k) to ≡ None = from_the_gate k to within h ∙ rw test refl in
-        absurd (cc)
-  ]
+  only k to seconds within h way = grind (arith, cases_eq, nat_tests, from_the_gate)
 
   pub has_gates : HasGates n m sources
   has_gates = record {
@@ -186,14 +152,7 @@ module _ (m : NetworkModel) (v : IsValid m) (sources : List PlaceId) (there : Al
 
   changes_valid : (p : ℕ) → p < last + length sources → (1 ≤ change_of n p) × (change_of n p ≤ 86400)
   unfolding change_of
-  changes_valid p h = elim (cases_lt p last) [
-    | inl before ↦ let e = get_or_append_left m.change (replicate (length sources) 1) 0 p before in rw e (v.changes p before)
-    | inr past ↦
-        let e = get_or-append_right m.change (replicate (length sources) 1) last p 0 refl past in
-        let one : ◌≡◌ {A = ℕ} (slice_index_or (replicate (length sources) 1) (p - last) 0) 1 =
-        get_or-replicate (length sources) (p - last) 1 0 (omega (arith, h, past)) in
-        rw (e, one) (omega arith, omega arith)
-  ]
+  changes_valid p h = grind (arith, cases_lt, get_or_append_left, get_or-append_right, slice_index_or, get_or-replicate)
 
   pub is_valid : IsValid n
   unfolding connection row_of

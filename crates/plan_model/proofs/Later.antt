@@ -20,8 +20,7 @@ mutual
   all_later_by-none (Kid w tree kids) = same_child w _ _ _ _ (later_by-none tree) (all_later_by-none kids)
 
 pub deadline-none : (by : Option ℕ) → deadline_later_by 0 by ≡ by
-deadline-none None = refl
-deadline-none (Some d) = let e : d + 0 ≡ d = omega arith in ap (λ (k : ℕ). Some k) e
+deadline-none by = grind arith
 
 -- the tree with all moments less by a shift
 abbrev mutual

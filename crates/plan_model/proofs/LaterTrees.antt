@@ -29,12 +29,10 @@ module _ (n m : NetworkModel) (shift first : ℕ) (view : IsView n m shift first
     goes_later : (s t : Leg → ℕ → Tree) (p x : ℕ) (o : Option Leg) → ((next : Leg) → o ≡ Some next → IsLeg n next.enter.0 next.exit.0)
         → ((next : Leg) (y : ℕ) → IsLeg n next.enter.0 next.exit.0 → t next (y + shift) ≡ later_by shift (s next y))
         → ride_or_stuck m t o p (x + shift) ≡ later_by shift (ride_or_stuck n s o p x)
-    goes_later s t p x None is same = refl
-    goes_later s t p x (Some next) is same = ride_later s t next (is next refl) (λ y. same next y (is next refl))
+    goes_later s t p x o is same = grind (arith, ride_later)
 
     done_or : (b : Bool) (x : ℕ) (t u : Tree) → t ≡ later_by shift u → (if b then Done (x + shift) else t) ≡ later_by shift (if b then Done x else u)
-    done_or true x t u same = refl
-    done_or false x t u same = same
+    done_or b x t u same = grind arith
 
     pub unfold_after-later : (k : ℕ) (leg : Leg) (x : ℕ) → IsLeg n leg.enter.0 leg.exit.0 → unfold_after m target g k leg (x + shift) ≡ later_by shift (unfold_after n target f k leg x)
     unfold_after-later zero leg x is = grind (arith, same_end, done_or)

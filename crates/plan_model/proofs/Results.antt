@@ -1,4 +1,5 @@
 -- What is known of a chain of results is known of its parts.
+use Rattle.std.proofs.Common.{arith}
 use Rattle.plan_model.proofs.Common.{◌≡◌, Option, Some, None, Result, Ok, Err, ap, refl}
 use Rattle.std.specs.Result.{result_err}
 use Rattle.plan_model.specs.Results.{and_then, require}
@@ -9,17 +10,14 @@ and_then-err r fault next is = ap (λ z. and_then z next) is
 -- where a chain has no fault, its first part is there, and the rest has none
 pub result_err-require : {A B E : Type 0} (o : Option A) (fault : E) (next : A → Result B E) → result_err (require o fault next) ≡ None
     → (a : A) × (o ≡ Some a) × (result_err (next a) ≡ None)
-result_err-require None fault next none = absurd (cc)
-result_err-require (Some a) fault next none = (a, refl, none)
+result_err-require o fault next none = grind arith
 
 -- where it has a value, its first part is there, and the rest has that value
 pub require-ok : {A B E : Type 0} (o : Option A) (fault : E) (next : A → Result B E) (b : B) → require o fault next ≡ Ok b
     → (a : A) × (o ≡ Some a) × (next a ≡ Ok b)
-require-ok None fault next b is = absurd (cc)
-require-ok (Some a) fault next b is = (a, refl, is)
+require-ok o fault next b is = grind arith
 
 -- of its value is so what is so of each value of the rest
 pub require-each : {A B E : Type 0} (P : B → Type 0) (o : Option A) (fault : E) (next : A → Result B E)
     → ((a : A) → o ≡ Some a → (b : B) → next a ≡ Ok b → P b) → (b : B) → require o fault next ≡ Ok b → P b
-require-each P None fault next each b is = absurd (cc)
-require-each P (Some a) fault next each b is = each a refl b is
+require-each P o fault next each b is = grind arith

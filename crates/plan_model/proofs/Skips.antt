@@ -6,8 +6,7 @@ take_take : {X : Type 0} (xs : List X) (i j : ℕ) → i ≤ j → take i (take 
 take_take {X} xs i j h = grind (arith, common_steps, nat_tests)
 
 pub dep_of_earlier : (n : NetworkModel) (i j : ℕ) → IsEarlier n i j → dep_of n i ≤ dep_of n j
-dep_of_earlier n i j (inl less) = omega arith
-dep_of_earlier n i j (inr same) = omega (arith, same.0)
+dep_of_earlier n i j h1 = grind arith
 
 -- departures do not fall along a scan order
 pub dep_along : (n : NetworkModel) (ids : List ConnectionId) → IsScanOrder n ids → (i j : ℕ) (d : ConnectionId) → i ≤ j → j < length ids → dep_of n (get_or ids i d).0 ≤ dep_of n (get_or ids j d).0

@@ -1,4 +1,5 @@
 -- Texts that are there, and texts that are not.
+use Rattle.std.proofs.Common.{arith}
 use Rattle.plan_model.proofs.Common.{◌≡◌, ℕ, ◌<◌, ◌-◌, ◌^◌, true, false, Option, Some, None, String, List, [], ◌∷◌, ◌++◌, length, get_or, ap, ◌∙◌, Contains, is_some, slice_get, IfSome, IfNone}
 use Rattle.plan_model.proofs.Common.{Global, string_bytes, get_or_default, slice_get_within, get_or_from_slice_get, slice_get-get_or, texts}
 use Rattle.plan_model.specs.TextLists.{AreTexts}
@@ -13,8 +14,7 @@ there_by_number texts text None is_there found = absurd (cc)
 -- and one that has none is not
 pub absent_by_number : (texts : List (List ℕ)) (text : List ℕ) (number : Option ℕ) → false ≡ is_some number → IfNone number (¬ Contains texts text)
     → ¬ Contains texts text
-absent_by_number texts text (Some n) is_none absent = absurd (cc)
-absent_by_number texts text None is_none absent = absent
+absent_by_number texts text number is_none absent = grind arith
 
 -- what a walk finds, and what it does not
 pub found_at : (texts : List (List ℕ)) (text : List ℕ) (i : ℕ) → i < length texts → get_or texts i [] ≡ text → slice_get texts i ≡ Some text

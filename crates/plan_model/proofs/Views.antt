@@ -6,12 +6,10 @@ use Rattle.plan_model.proofs.Bounds.{forward}
 use Rattle.plan_model.proofs.Later.{later_by-same}
 
 in_time_there : (shift : ℕ) (by : Option ℕ) (x : ℕ) → IsInTime by x → IsInTime (deadline_later_by shift by) (x + shift)
-in_time_there shift None x h = tt
-in_time_there shift (Some d) x h = omega arith
+in_time_there shift by x h = grind arith
 
 in_time_back : (shift : ℕ) (by : Option ℕ) (x : ℕ) → IsInTime (deadline_later_by shift by) (x + shift) → IsInTime by x
-in_time_back shift None x h = tt
-in_time_back shift (Some d) x h = omega arith
+in_time_back shift by x h = grind arith
 
 same_all : (n : NetworkModel) (target : ℕ) (by : Option ℕ) (kids : Kids) (r s : List Outcome) (p q a b : ℕ) → r ≡ s → p ≡ q → a ≡ b → AreSafe n target by kids r p a → AreSafe n target by kids s q b
 same_all n target by kids r s p q a b e f g h = rw (← e, ← f, ← g) h
@@ -120,9 +118,7 @@ module _ (n m : NetworkModel) (shift first : ℕ) (view : IsView n m shift first
 
     -- the same of who sets out at a start
     pub start_there : (tree : Tree) (source x : ℕ) → IsSafeFromStart n target by tree source x → IsSafeFromStart m target later (later_by shift tree) source (x + shift)
-    start_there (Done a) source x h = (ap (λ (k : ℕ). k + shift) h.0, h.1, in_time_there shift by x h.2)
-    start_there (Ride i j kids) source x h = grind (arith, leg_there, all_there, ends_inside, seen, departs, reported_there, later)
-    start_there (Stuck q y) source x h = absurd h
+    start_there tree source x h = grind (arith, in_time_there, leg_there, all_there, ends_inside, reported_there)
 
     abbrev pub ComesFrom : Tree → (source x : ℕ) → Type 0
     ComesFrom u source x = (tree : Tree) × (later_by shift tree ≡ u) × IsSafeFromStart n target by tree source x
@@ -145,13 +141,11 @@ alike n m shift first view valid = record {
   there = λ target by tree p x inside h. safe_there n m shift first view valid target by tree p x inside h;
   back = λ target by tree p x inside late h.
       let from = safe_back n m shift first view valid target by (later_by shift tree) p x inside late h in
-      let same = later_by-same shift from.0 tree from.1 in
-      subst (λ (t : Tree). IsSafe n target by t p x) same from.2;
+      grind (arith, later_by-same);
   each = λ target by u p x inside late h. let from = safe_back n m shift first view valid target by u p x inside late h in (from.0, from.1);
   start_there = λ target by tree source x h. start_there n m shift first view valid target by tree source x h;
   start_back = λ target by tree source x late h.
       let from = start_back n m shift first view valid target by (later_by shift tree) source x late h in
-      let same = later_by-same shift from.0 tree from.1 in
-      subst (λ (t : Tree). IsSafeFromStart n target by t source x) same from.2;
+      grind (arith, later_by-same);
   each_start = λ target by u source x late h. let from = start_back n m shift first view valid target by u source x late h in (from.0, from.1);
 }

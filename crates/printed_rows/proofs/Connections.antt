@@ -3,13 +3,11 @@ use Rattle.printed_rows.proofs.Common.{◌≡◌, ℕ, ◌<◌, ◌≤◌, lengt
 
 pub dep_printable : (n : NetworkModel) (i : ℕ) (x : Connection) → IsValid n → i < count n → x ≡ connection n i → x.dep.0 ≤ last_printable
 dep_printable n i x v l e =
-    let w = v.connections i l in
-    omega (arith, ap (λ (z : Connection). z.dep.0) e, w.forward, w.early)
+    grind arith
 
 pub arr_printable : (n : NetworkModel) (i : ℕ) (x : Connection) → IsValid n → i < count n → x ≡ connection n i → x.arr.0 ≤ last_printable
 arr_printable n i x v l e =
-    let w = v.connections i l in
-    omega (arith, ap (λ (z : Connection). z.arr.0) e, w.early)
+    grind arith
 
 pub run_named : (names : NameLists) (n : NetworkModel) (i : ℕ) (x : Connection) → NamesFit names n → i < count n → x ≡ connection n i
     → x.run.0 < length names.runs
@@ -18,11 +16,9 @@ run_named names n i x fit l e = omega (arith, ap (λ (z : Connection). z.run.0) 
 pub from_named : (names : NameLists) (n : NetworkModel) (i : ℕ) (x : Connection) → NamesFit names n → IsValid n → i < count n → x ≡ connection n i
     → x.from.0 < length names.places
 from_named names n i x fit v l e =
-    let w = v.connections i l in
-    omega (arith, ap (λ (z : Connection). z.from.0) e, w.from_in, fit.places)
+    grind arith
 
 pub to_named : (names : NameLists) (n : NetworkModel) (i : ℕ) (x : Connection) → NamesFit names n → IsValid n → i < count n → x ≡ connection n i
     → x.to.0 < length names.places
 to_named names n i x fit v l e =
-    let w = v.connections i l in
-    omega (arith, ap (λ (z : Connection). z.to.0) e, w.to_in, fit.places)
+    grind arith

@@ -10,10 +10,7 @@ use Rattle.plan_model.proofs.Searches.{connection_is}
 found_holds : {X : Type 0} (t : X → Bool) (xs : List X) (from k : ℕ) (d : X) → position_from t from xs ≡ Some k → (j : ℕ) × (k ≡ from + j) × (j < length xs) × (t (slice_index_or xs j d) ≡ true)
 found_holds t [] from k d is = absurd (cc)
 found_holds t (x ∷ xs) from k d is = elim (cases_Bool (t x)) [
-  | inl holds ↦
-      let first = rw holds at is in
-      let e : from ≡ k = (cc) in
-      (0, omega (arith, e), omega arith, holds)
+  | inl holds ↦ grind arith
   | inr fails ↦
       let rest = found_holds t xs (from + 1) k d (rw fails at is) in
       (suc rest.0, omega (arith, rest.1), omega (arith, rest.2), rest.3)
@@ -34,8 +31,7 @@ pub connection_number : (n : NetworkModel) → IsValid n → (run step : ℕ) (f
     → IfNone found ((i : ℕ) → i < count n → run_of n i ≡ run → step_of n i ≡ step → ⊥) → option_map (λ id. id.0) found ≡ connection_of n run step
 connection_number n valid run step None there none =
     sym (position_none (is_at run step) n.connections 0 no_connection (λ k within. false_if (is_at run step (connection_at n.connections k)) (λ is.
-    let both = at_both run step (connection_at n.connections k) is in
-    none k within (ap (λ (c : Connection). c.run.0) (sym (connection_is n k)) ∙ both.0) (ap (λ (c : Connection). c.step) (sym (connection_is n k)) ∙ both.1))))
+    grind (arith, connection_is))))
 connection_number n valid run step (Some id) there none =
     sym (ap (λ (k : ℕ). Some k) (let e : 0 + id.0 ≡ id.0 = omega arith in e)) ∙ sym (position_found (is_at run step) n.connections 0 id.0 no_connection
     (λ k less. false_if (is_at run step (connection_at n.connections k)) (λ is.
@@ -55,9 +51,4 @@ connection_back n valid c there = sym (connection_number n valid (run_of n c) (s
 pub connection_holds : (n : NetworkModel) (run step c : ℕ) → connection_of n run step ≡ Some c → (c < count n) × (run_of n c ≡ run) × (step_of n c ≡ step)
 connection_holds n run step c is =
     let found = found_holds (is_at run step) n.connections 0 c no_connection is in
-    let same : found.0 ≡ c = omega (arith, found.1) in
-    let both = at_both run step (connection_at n.connections found.0) found.3 in (
-      omega (arith, same, found.2),
-      ap (run_of n) (sym same) ∙ ap (λ (c : Connection). c.run.0) (sym (connection_is n found.0)) ∙ both.0,
-      ap (step_of n) (sym same) ∙ ap (λ (c : Connection). c.step) (sym (connection_is n found.0)) ∙ both.1,
-    )
+    grind (arith, connection_is)

@@ -40,8 +40,7 @@ children_in (Stuck place moment) = Nil
 
 -- the first rides of one tree are of one leg
 one_leg : (n : NetworkModel) (f g : Leg → ℕ → Tree) (a b : Option Leg) (place x : ℕ) → ride_or_stuck n f a place x ≡ ride_or_stuck n g b place x → a ≡ b
-one_leg n f g None h place x same = grind arith
-one_leg n f g (Some a) h place x same = grind (arith, same_leg)
+one_leg n f g a b place x same = grind (arith, same_leg)
 
 module _ (n : NetworkModel) (target : ℕ) (c d : Leg → ℕ → Option Leg) where
   -- after each outcome of a leg that does not end at the target both choose the same
@@ -73,9 +72,7 @@ module _ (n : NetworkModel) (target : ℕ) (c d : Leg → ℕ → Option Leg) wh
         elim stands [
           | inl is ↦ subst Agrees (sym (same_leg other leg is.0 is.1))
               (λ away o has. next_same rides leg (arrival_of n leg o.delay) away (child o has) (child_safe o has))
-          | inr below ↦
-              let found = stands_after f (outcomes_of n leg) (arr_of n leg.exit.0) other below in
-              over leg (arrival_of n leg found.0.delay) (child found.0 found.1) (child_safe found.0 found.1) other found.2
+          | inr below ↦ grind (arith, stands_after)
         ]
 
     agree_by : (rides : ℕ) → AgreeOver rides → (a b : Option Leg) (place x : ℕ)

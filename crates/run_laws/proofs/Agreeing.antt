@@ -404,8 +404,7 @@ module _ (limits : Limits) (r s : RunModel) (first : IsRunWithin limits r) (seco
 
     of_journey : (known : Option NamedParts) → IsProblem limits files j p → FailsJourney (Some files) limits j (CheckGraph path) known (fault.GraphFile f)
         → file_at files path ≡ Some text → length text ≤ limits.bytes → IsFirst
-    of_journey known is (inl (q, has, also, (named, fails))) there small = grind (arith, of_score)
-    of_journey known is (inr early) there small = absurd early.0
+    of_journey known is h1 there small = grind (arith, of_score)
 
   pub first_fault : FaultsAreReported → FaultIsFirst limits r
   first_fault reported files j path text p f calm asks is there small fails = grind (arith, job_fails, of_journey)

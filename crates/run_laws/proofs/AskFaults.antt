@@ -97,8 +97,7 @@ module _ (p : Problem) (files : FileMap) (limits : Limits) (start : ℕ) where
         let never = never_memory p.timetable.network p.timetable.names p.source.0 p.target.0 start (table_of text) first late in
         let neither = never_memory p.timetable.network p.timetable.names p.source.0 p.target.0 start (table_of text) second after in
         let one = read_once p.timetable.network p.timetable.names p.source.0 p.target.0 start text (Err first) (Err second) (inr late) (inr after) (free text first never) (free text second neither) in
-        let same : first ≡ second = cc in
-        is ∙ ap (λ (f : ProofFault). ProofFile f) same ∙ sym also
+        grind arith
 
     one_file_fault : (r : Result (List ℕ) Fault) (a b : Fault) → FailsFile p start r a → FailsFile p start r b → a ≡ b
     one_file_fault (Ok text) a b is also = one_text_fault text a b is also
@@ -132,17 +131,13 @@ module _ (p : Problem) (files : FileMap) (limits : Limits) (start : ℕ) where
   one_no_safe a b is also = is.0 ∙ sym also.0
 
   pub one_ask_fault : (ask : AskModel) (a b : Fault) → NotRead a → NotRead b → FailsAsk (Some files) limits start p ask a → FailsAsk (Some files) limits start p ask b → a ≡ b
-  one_ask_fault (Safe alpha) a b m n is also = one_no_safe a b is also
-  one_ask_fault (Expand alpha) a b m n is also = one_no_safe a b is also
-  one_ask_fault (Plan alpha) a b m n is also = one_no_safe a b is also
   one_ask_fault (Replays graph late) a b m n is also = one_replay_fault graph late a b m n is also
-  one_ask_fault (Certify alpha) a b m n is also = one_no_safe a b is also
   one_ask_fault (CheckProof certificate) a b m n is also = one_check_fault certificate a b m n is also
   one_ask_fault (CheckGraph graph) a b m n is also = one_score_fault graph a b m n is also
-  one_ask_fault (Punctual alpha promise) a b m n is also = one_no_safe a b is also
   one_ask_fault (Departures until last) a b m n is also = is.0 ∙ sym also.0
   one_ask_fault (Latest until) a b m n is also = is.0 ∙ sym also.0
   one_ask_fault (Reach until) a b m n is also = absurd is
+  one_ask_fault _ a b m n is also = one_no_safe a b is also
 
   -- what has an answer has no fault
   pub answered_or_not : (ask : AskModel) (found : Findings) (text : List ℕ) (a : Fault) → NotRead a → AnswersAsk (Some files) limits start p ask found text → FailsAsk (Some files) limits start p ask a → ⊥

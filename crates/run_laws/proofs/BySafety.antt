@@ -39,12 +39,7 @@ module _ (p : Problem) (start : ℕ) where
     asked_by (Plan beta) found text by (q, w, is, answers) = grind (arith, found_by)
     asked_by (Certify beta) found text by (q, w, is, answers) = grind (arith, found_by)
     asked_by (Punctual beta promise) found text by (q, w, is, answers) = grind (arith, found_by)
-    asked_by (Replays graph late) found text by answers = absurd by
-    asked_by (CheckProof certificate) found text by answers = absurd by
-    asked_by (CheckGraph graph) found text by answers = absurd by
-    asked_by (Departures until last) found text by answers = absurd by
-    asked_by (Latest until) found text by answers = absurd by
-    asked_by (Reach until) found text by answers = absurd by
+    asked_by _ found text by answers = absurd by
 
   -- both found one query and one least worst arrival
   pub one_asked : (alpha : ℕ) (limits : Limits) (files others : FileMap) (found other : Findings) → Asked limits files alpha found → Asked limits others alpha other

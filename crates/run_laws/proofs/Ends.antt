@@ -92,8 +92,7 @@ module _ (limits : Limits) (files : FileMap) where
       sampled : FailsJourney (Some folder) limits sample_journey (Plan sample_alpha) known a → ⊥
       sampled (inl (r, sound, also, (called, none))) =
           let one = one_problem limits folder sample_journey r p also is in
-          let never = subst (λ (x : Problem). IsNoSafe x sample_journey.start a) one none in
-          not_none p sample_journey.start sample_alpha q w asked never.1
+          grind (arith, not_none)
       sampled (inr early) = no_fault limits folder sample_journey p a is m.read m.memory early.1
 
   answered_or_refused : (words : List (List ℕ)) (found : Findings) (text : List ℕ) (known : Option NamedParts) (a : Fault) → IsCalm a → AnswersWords (Some files) limits words found text
@@ -104,8 +103,7 @@ module _ (limits : Limits) (files : FileMap) where
 
 -- nothing more is no byte more
 pub keeps_none : (old new : Option (List ℕ)) → Keeps old new → Appends old new []
-keeps_none None new kept = tt
-keeps_none (Some old) h kept = grind (arith, append-nil)
+keeps_none old new kept = grind (arith, append-nil)
 
 -- ---- how a run ends that nothing disturbs
 

@@ -27,20 +27,17 @@ module _ (limits : Limits) (files : FileMap) where
 
   module _ (folder : List ℕ) where
     one_later : (f : FeedParts) (a b : FeedFault) → unread_table a ≡ None → unread_table b ≡ None → IsLaterTableFault limits files folder f a → IsLaterTableFault limits files folder f b → a ≡ b
-    one_later f a b u v (inl is) h = grind (arith, one_err, not_ok)
-    one_later f a b u v (inr (ok, is)) h = grind (arith, not_ok, one_err)
+    one_later f a b u v h1 h = grind (arith, one_err, not_ok)
 
     of_tables : (fault : FeedFault) → unread_table fault ≡ None → tables_in files folder limits (unread_table fault) ≡ Err fault → tables_in files folder limits None ≡ Err fault
     of_tables fault u is = subst (λ (t : Option Table). tables_in files folder limits t ≡ Err fault) u is
 
     one_table_fault : (a b : FeedFault) → unread_table a ≡ None → unread_table b ≡ None → IsFolderFault limits files folder a → IsFolderFault limits files folder b → a ≡ b
-    one_table_fault a b u v (inl is) h = grind (arith, one_err, of_tables, not_feed)
-    one_table_fault a b u v (inr (f, feed, later)) h = grind (arith, not_feed, of_tables, one_feed_of, one_later)
+    one_table_fault a b u v h1 h = grind (arith, one_err, of_tables, not_feed, one_feed_of)
 
     module _ (horizon : ℕ) (j : JourneyModel) where
       one_window : (h g : GtfsFolder) (a b : Fault) → SameGtfsFolder h g → IsWindowFault limits horizon j h a → IsWindowFault limits horizon j g b → a ≡ b
-      one_window h g a b same (inl is) given = grind (arith, one_some, not_both)
-      one_window h g a b same (inr (none, is)) given = grind (arith, not_both, one_some, one_window_fault)
+      one_window h g a b same h1 given = grind (arith, one_some, not_both, one_window_fault)
 
       one_after : (h g : GtfsFolder) (a b : Fault) → SameGtfsFolder h g → NotRead a → NotRead b → IsFaultAfterFolder limits files horizon j h a → IsFaultAfterFolder limits files horizon j g b → a ≡ b
       one_after h g a b same m n (inl is) given = grind (arith, one_some, quiet, not_both)

@@ -19,15 +19,13 @@ pub agree_for : (j : JourneyModel) (own : OwnPaths) (files other : FileMap) → 
 agree_for j own files other same (input.Feed table) = same (input.Feed table)
 agree_for j own files other same input.Cut = same input.Cut
 agree_for j own files other same input.Delays = same input.Delays
-agree_for j own files other same input.Graph = tt
-agree_for j own files other same input.Proof = tt
+agree_for j own files other same _ = tt
 
 read_for : (limits : Limits) (j : JourneyModel) (own : OwnPaths) (files other : FileMap) → ReadAlikeAt limits.bytes (file_path j own) files other → ReadAlike limits j files other
 read_for limits j own files other same (input.Feed table) = same (input.Feed table)
 read_for limits j own files other same input.Cut = same input.Cut
 read_for limits j own files other same input.Delays = same input.Delays
-read_for limits j own files other same input.Graph = tt
-read_for limits j own files other same input.Proof = tt
+read_for limits j own files other same _ = tt
 
 -- both have one fault, or the same records
 abbrev SameBytes : Result (List ℕ) Fault → Result (List ℕ) Fault → Type 0
@@ -43,15 +41,11 @@ few : (most : ℕ) (file : List ℕ) → length file ≤ most → nat_lt most (l
 few most file small = grind (arith, nat_tests)
 
 present_alike : (most : ℕ) (kind : Input) (file other : Option (List ℕ)) → HaveSameRecords most file other → SameBytes (bytes_present most kind file) (bytes_present most kind other)
-present_alike most kind None h same = grind arith
-present_alike most kind (Some a) h same = grind (arith, few)
+present_alike most kind file other same = grind arith
 
 bytes_alike : (most : ℕ) (kind : Input) (unread : Option Input) (file other : Option (List ℕ)) → HaveSameRecords most file other
     → SameBytes (bytes_of most kind unread file) (bytes_of most kind unread other)
-bytes_alike most kind unread file other same = by_read (is_unread_input unread kind)
-  where
-    by_read : (b : Bool) → SameBytes (if b then Err (Read kind) else bytes_present most kind file) (if b then Err (Read kind) else bytes_present most kind other)
-    by_read b = grind (arith, present_alike)
+bytes_alike most kind unread file other same = grind (arith, present_alike)
 
 -- from other files to these
 module _ (limits : Limits) (files other : FileMap) where
@@ -98,8 +92,7 @@ module _ (limits : Limits) (files other : FileMap) where
     graph_by : (r s : Result (List ℕ) Fault) → SameBytes r s
         → and_then r (λ bytes. graph_as (graph_of bytes p.timetable.network p.timetable.names p.source.0 p.target.0 start))
         ≡ and_then s (λ bytes. graph_as (graph_of bytes p.timetable.network p.timetable.names p.source.0 p.target.0 start))
-    graph_by (Ok a) h same = grind arith
-    graph_by (Err e) h same = grind arith
+    graph_by r s same = grind arith
 
     graph_same : ReadsSame input.Graph path → (unread : Option Input) → graph_in limits p start unread (file_at other path) ≡ graph_in limits p start unread (file_at files path)
     graph_same same unread = graph_by (bytes_of limits.bytes input.Graph unread (file_at other path)) (bytes_of limits.bytes input.Graph unread (file_at files path)) (same unread)
@@ -133,9 +126,7 @@ module _ (limits : Limits) (files other : FileMap) where
         )
 
     fails_by : (r s : Result (List ℕ) Fault) (fault : Fault) → SameBytes r s → FailsFile p start r fault → FailsFile p start s fault
-    fails_by (Ok a) (Ok b) fault same (first, is, late) = grind arith
-    fails_by (Ok a) (Err f) fault same fails = absurd same
-    fails_by (Err e) h fault same fails = grind arith
+    fails_by r s fault same fails = grind arith
 
     certificate_fails : (fault : Fault) → ReadsSame input.Proof path → FailsCertificate (Some other) limits start path p fault → FailsCertificate (Some files) limits start path p fault
     certificate_fails fault same (of, fails) = grind (arith, fails_by)
@@ -147,36 +138,21 @@ module _ (limits : Limits) (files other : FileMap) where
     either_certificate : (P : Query → LowerBounds → Type 0) (fault : Fault) → ReadsSame input.Proof path
         → FailsCertificate (Some other) limits start path p fault ⊎ InCertificateFile (Some other) limits start path p P
         → FailsCertificate (Some files) limits start path p fault ⊎ InCertificateFile (Some files) limits start path p P
-    either_certificate P fault same (inl fails) = inl (certificate_fails fault same fails)
-    either_certificate P fault same (inr is) = inr (in_certificate P same is)
+    either_certificate P fault same h1 = grind (arith, certificate_fails, in_certificate)
 
   ask_answers : (j : JourneyModel) (p : Problem) (a : AskModel) (found : Findings) (text : List ℕ) → CarriesAsk j a
       → AnswersAsk (Some other) limits j.start p a found text → AnswersAsk (Some files) limits j.start p a found text
-  ask_answers j p (Safe alpha) found text same is = is
-  ask_answers j p (Expand alpha) found text same is = is
-  ask_answers j p (Plan alpha) found text same is = is
   ask_answers j p (Replays graph late) found text same is = in_graph j.start graph p _ same.graph is
-  ask_answers j p (Certify alpha) found text same is = is
   ask_answers j p (CheckProof certificate) found text same is = in_certificate j.start certificate p _ same.proof is
   ask_answers j p (CheckGraph graph) found text same is = in_graph j.start graph p _ same.graph is
-  ask_answers j p (Punctual alpha promise) found text same is = is
-  ask_answers j p (Departures until last) found text same is = is
-  ask_answers j p (Latest until) found text same is = is
-  ask_answers j p (Reach until) found text same is = is
+  ask_answers j p _ found text same is = is
 
   ask_fails : (j : JourneyModel) (p : Problem) (a : AskModel) (fault : Fault) → CarriesAsk j a
       → FailsAsk (Some other) limits j.start p a fault → FailsAsk (Some files) limits j.start p a fault
-  ask_fails j p (Safe alpha) fault same is = is
-  ask_fails j p (Expand alpha) fault same is = is
-  ask_fails j p (Plan alpha) fault same is = is
   ask_fails j p (Replays graph late) fault same is = either_graph j.start graph p _ fault same.graph is
-  ask_fails j p (Certify alpha) fault same is = is
   ask_fails j p (CheckProof certificate) fault same is = either_certificate j.start certificate p _ fault same.proof is
   ask_fails j p (CheckGraph graph) fault same is = either_graph j.start graph p _ fault same.graph is
-  ask_fails j p (Punctual alpha promise) fault same is = is
-  ask_fails j p (Departures until last) fault same is = is
-  ask_fails j p (Latest until) fault same is = is
-  ask_fails j p (Reach until) fault same is = is
+  ask_fails j p _ fault same is = is
 
   pub journey_fails : (j : JourneyModel) (a : AskModel) (known : Option NamedParts) (fault : Fault) → CarriesAsk j a
       → FailsJourney (Some other) limits j a known fault → FailsJourney (Some files) limits j a known fault
@@ -198,9 +174,7 @@ module _ (limits : Limits) (files other : FileMap) where
     framed_answer found text (job, is, answers) = (job, is, job_answers job found text (carries job is) answers)
 
     pub framed_cause : (known : Option NamedParts) (fault : Fault) → IsExplained (Some other) limits words known fault → IsExplained (Some files) limits words known fault
-    framed_cause known fault (inl none) = inl none
-    framed_cause known fault (inr (inl refused)) = inr (inl refused)
-    framed_cause known fault (inr (inr (job, is, fails))) = inr (inr (job, is, job_fails job known fault (carries job is) fails))
+    framed_cause known fault h1 = grind (arith, job_fails)
 
 -- what words ask is carried over, from the second files to the first
 abbrev pub CarriesWords : Limits → FileMap → FileMap → List (List ℕ) → Type 0

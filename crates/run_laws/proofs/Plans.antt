@@ -25,8 +25,7 @@ module _ (n : NetworkModel) (q : Query) where
 
   by_start : {P Q : Leg → Type 0} {R : Type 0} (s t : Option Leg) → (q.source.0 ≢ q.target.0 → s ≡ t) → ((leg : Leg) → P leg → q.source.0 ≢ q.target.0) → ((leg : Leg) → Q leg → q.source.0 ≢ q.target.0)
       → (R → q.source.0 ≡ q.target.0) → MatchOption s (q.source.0 ≡ q.target.0) P → MatchOption t R Q → s ≡ t
-  by_start None h same p d r none nothing = grind arith
-  by_start (Some s) h same p d r fit none = grind arith
+  by_start s t same p d r none nothing = grind arith
 
   pub one_strategy : (a : ExpandedGraph) (b : PlanGraph) (s t : Interval) → IsExpanded n q a s → IsPlanned n q b t → IsOneStrategy n q a b s t
   one_strategy a b s t expanded plan = grind (arith, one_best, of_expanded, of_plan, by_start, start_same)

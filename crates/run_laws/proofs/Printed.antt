@@ -80,12 +80,7 @@ module _ (limits : Limits) (files : FileMap) (start : ℕ) (p : Problem) (text p
 
   -- the text is read as its head and its graph
   pub read_again : read_file ≡ Ok (head_of own.q own.bounds, own.graph)
-  read_again =
-      let few : nat_lt limits.bytes (length text) ≡ false = grind (arith, nat_tests) in
-      let s : p.source.0 ≡ own.q.source.0 = sym own.source in
-      let t : p.target.0 ≡ own.q.target.0 = sym own.target in
-      let b : start ≡ own.q.start.0 = sym own.start_is in
-      rw (there, few, s, t, b, own.reads) refl
+  read_again = grind (arith, nat_lt, nat_tests)
 
   one_pair : (head : Head) (graph : PlanGraph) → read_file ≡ Ok (head, graph) → ◌≡◌ {A = Head × PlanGraph} (head, graph) (head_of own.q own.bounds, own.graph)
   one_pair head graph is = ok_is (head, graph) (head_of own.q own.bounds, own.graph) read_file is read_again

@@ -33,9 +33,7 @@ one_greatest Safe first a b is other = grind (arith, cases_order)
 module _ (m : NetworkModel) (q : Query) where
   -- from the place of a row something is safe
   has_safe : (p : ℕ) (row : ReachRow) → row.place.0 ≡ p → IsReachRow m q q.start.0 row → (tree : Tree) × SafeFrom m p q q.start.0 tree
-  has_safe p row here is =
-      let one = is.bounds.1.covers_one in
-      subst (λ (k : ℕ). (tree : Tree) × SafeFrom m k q q.start.0 tree) here (one.0, one.1)
+  has_safe p row here is = grind arith
 
   module _ (xs ys : List ReachRow) (a : AreReached m q xs) (b : AreReached m q ys) where
     one_row : (p : ℕ) (x y : ReachRow) → row_of_place p xs ≡ Some x → row_of_place p ys ≡ Some y → IsReachRow m q q.start.0 x → IsReachRow m q q.start.0 y → x ≡ y
@@ -73,9 +71,7 @@ module _ (m : NetworkModel) (q : Query) where
             ∙ sym (none_of_place p ys (λ k d within e. (b.reach.places k d within).1 (e ∙ target)))
         | inr away ↦ answered p (row_of_place p xs) (row_of_place p ys) refl refl (a.reach.answers p inside away) (b.reach.answers p inside away)
       ]
-      | inr past ↦
-          none_of_place p xs (λ k d within e. absurd (let at = a.reach.places k d within in omega (arith, at.0, e, past)))
-          ∙ sym (none_of_place p ys (λ k d within e. absurd (let at = b.reach.places k d within in omega (arith, at.0, e, past))))
+      | inr past ↦ grind (arith, none_of_place)
     ]
 
     -- what the rules give is one list
@@ -124,13 +120,7 @@ module _ (p : Problem) (start until x : ℕ) (rows : List ReachRow) (reached : A
   -- the first of the departures
   module _ (last : ℕ) (departures : List DepartureRow) (soon : start ≤ last) (ruled : AreByRules p q last departures) where
     fits_one : FitGates m (p.source ∷ [])
-    fits_one =
-        let fit = reached.by_rules.fit in
-        let many = count_up_to (length m.change) in
-        record { there = λ k d within. one_there k d within; few = omega (arith, fit.few, many, p.source_in) }
-      where
-        one_there : All (λ (source : PlaceId). source.0 < length m.change) (p.source ∷ [])
-        one_there h d within = grind arith
+    fits_one = grind (arith, count_up_to)
 
     begins : (row : ReachRow) → row_of_place p.source.0 rows ≡ Some row → BeginsWithBounds row departures
     begins row at =
@@ -160,9 +150,7 @@ module _ (m : NetworkModel) (target : PlaceId) (x y : PlaceId) (start : Moment) 
   by_later = record { source = y; target = target; start = start; deadline = later }
 
   still_safe : (place moment : ℕ) (tree : Tree) → SafeFrom m place by_sooner moment tree → SafeFrom m place by_later moment tree
-  still_safe place moment tree safe =
-      let reached = reaches_from_safe m place target.0 moment sooner.0 tree safe in
-      safe_from_reaches m place target.0 moment later.0 tree reached.0 (omega (arith, reached.1, less))
+  still_safe place moment tree safe = grind (arith, reaches_from_safe, safe_from_reaches)
 
   module _ (reached : IsReach m by_sooner start.0 rows) (others : IsReach m by_later start.0 more) where
     no_earlier : (row : ReachRow) → row.place.0 < length m.change → IsReachRow m by_sooner start.0 row → (o : Option ReachRow) → row_of_place row.place.0 more ≡ o

@@ -14,9 +14,7 @@ use Rattle.run_laws.proofs.PlaceTables.{Sooner, row_same}
 own_pick : (rows : List GraphRow) → AllPairs Sooner rows → (row : GraphRow) → Contains rows row → pick_row rows row.by.0 ≡ Some row.leg
 own_pick [] up row has = absurd (Contains-nil row has)
 own_pick (head ∷ rows) up row has = elim (Contains-cons_cases head rows row has) [
-  | inl is ↦
-      let moment : head.by.0 ≡ row.by.0 = ap (λ (r : GraphRow). r.by.0) is in
-      pick_here head rows row.by.0 (omega (arith, moment)) ∙ ap (λ (r : GraphRow). Some r.leg) is
+  | inl is ↦ grind (arith, pick_here)
   | inr more ↦ pick_further head rows row.by.0 (AllPairs-head Sooner head rows up row more) ∙ own_pick rows (AllPairs-tail Sooner head rows up) row more
 ]
 

@@ -6,8 +6,4 @@ use Rattle.departure_table.specs.declared.DepartureRow.{DepartureRow}
 
 pub row_upper : (n : NetworkModel) (source moment : ℕ) (q r : Query) (row : DepartureRow) (strategy : Tree) (bounds : Interval) → IsBestFrom n (SafeFrom n source q) moment row
     → IsBest n r strategy bounds → r.source.0 ≡ source → r.target.0 ≡ q.target.0 → r.start.0 ≡ moment → r.deadline.0 ≡ q.deadline.0 → row.bounds.hi ≡ bounds.hi
-row_upper n source moment q r row strategy bounds best two s t x d =
-    let one = best.covers_one in
-    let there : SafeFrom n source q moment strategy = rw (← s, ← t, ← x, ← d) two.safe in
-    let back : IsSafeFor n r one.0 = rw (s, t, x, d) one.1 in
-    omega (arith, best.least_up strategy there, two.least_up one.0 back, one.4, two.rounded)
+row_upper n source moment q r row strategy bounds best two s t x d = grind arith

@@ -36,9 +36,7 @@ of_job limits files words job found text asks (wanted, is, answers) = grind (ari
 
 cause_of_job : (limits : Limits) (files : FileMap) (words : List (List ℕ)) (job : JobModel) (known : Option NamedParts) (fault : Fault) → job_of words ≡ Ok job → IsCalm fault
     → IsExplained (Some files) limits words known fault → FailsJob (Some files) limits job known fault
-cause_of_job limits files words job known fault asks calm (inl none) = absurd (calm.memory none)
-cause_of_job limits files words job known fault asks calm (inr (inl (refusal, is, from))) = absurd (refused_or_not words refusal job from asks)
-cause_of_job limits files words job known fault asks calm (inr (inr (wanted, is, fails))) = grind (arith, one_job)
+cause_of_job limits files words job known fault asks calm h1 = grind (arith, refused_or_not, one_job)
 
 module _ (one_problem : HasOneProblem) (limits : Limits) (files others : FileMap) (size : ℕ) (agree : AgreeFor sample_journey (made size) others) where
   -- the same question, by words

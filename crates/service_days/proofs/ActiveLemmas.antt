@@ -26,6 +26,4 @@ runs_is calendar dates ids exceptions d n service day =
     let past : (k : ℕ) → length (service_ids calendar) ≤ k → period_runs periods day (Some k) ≡ false
     = λ k l. ap (λ p. runs_within p day) (slice_get_past periods k (omega (arith, l, length-list_below (field calendar ServiceId) m, length-list_below (period_of calendar) m))) in
     let held = n.kept service (period_runs periods day) refl past ∙ runs_of calendar d service day (number_in service (service_ids calendar)) refl in
-    ap (λ b. not b && (has_at exceptions day true o || period_runs periods day o)) (n.is service day false)
-    ∙ ap (λ b. not (is_excepted dates (row_count dates) service day false) && (b || period_runs periods day o)) (n.is service day true)
-    ∙ ap (λ b. not (is_excepted dates (row_count dates) service day false) && (is_excepted dates (row_count dates) service day true || b)) held
+    grind arith

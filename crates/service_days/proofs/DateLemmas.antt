@@ -1,4 +1,5 @@
 -- The rows of exceptions.
+use Rattle.std.proofs.Common.{arith}
 use Rattle.service_days.proofs.Common.{◌≡◌, ℕ, ◌+◌, List, ap, sym, ◌∙◌, subst, Ok, name_in, field_at, name_text, IsTrimmed, ServiceDate, date_from, date_columns, date_in, date_at_row, require-ok}
 use Rattle.clock_text.specs.Times.{date_at}
 use Rattle.csv_rows.specs.Spaces.{AreTrimmed}
@@ -16,9 +17,7 @@ service_is : (line : ℕ) (service date kind : List ℕ) (d : ServiceDate) → d
 service_is line service date kind d h =
     let a = require-ok (name_in service) _ _ d h in
     let b = require-ok (date_at date) _ _ d a.2 in
-    let k = require-ok (adds_in kind) _ _ d b.2 in
-    let e : d.service ≡ a.0 = cc in
-    e ∙ name_text service a.0 a.1
+    grind (arith, require-ok, name_text)
 
 -- and so it has no space at its ends
 pub service_trimmed : (t : List (List (List ℕ))) (c : DateColumns) (i : ℕ) (d : ServiceDate) → AreTrimmed t → date_in t c i ≡ Ok d → IsTrimmed d.service

@@ -35,8 +35,7 @@ no_later_embeds = embeds_by (λ a b. a ≤ b) (λ a b less. less)
 beside_less : (row others : List Outcome) (a b : ℕ) → AreBeside (λ x y. x ≡ y) row a others b → AreBeside (λ x y. x ≤ y) row a others b
 beside_less [] [] a b beside = tt
 beside_less (o ∷ row) (other ∷ others) a b beside = (beside.0, omega (arith, beside.1), beside_less row others a b beside.2)
-beside_less [] (other ∷ others) a b beside = absurd beside
-beside_less (o ∷ row) [] a b beside = absurd beside
+beside_less _ _ a b beside = absurd beside
 
 pub alike_no_later : (small large : NetworkModel) (image place : ℕ → ℕ) → EmbedsAlike small large image place → EmbedsNoLater small large image place
 alike_no_later small large image place e = grind (arith, beside_less)
@@ -52,8 +51,7 @@ module _ (n : NetworkModel) (number : ℕ → ℕ) (connections : List Connectio
   pick i = elim (cases_lt i (count n)) [
     | inl there ↦
         let has = among i no_connection there in
-        let same = get_or_default connections has.0 no_connection (renamed number (connection n i)) has.1 in
-        (has.0, λ h. (has.1, same ∙ has.2))
+        grind (arith, get_or_default)
     | inr past ↦ (0, λ h. absurd (omega (arith, h, past)))
   ]
 
@@ -136,10 +134,7 @@ module _ (n : NetworkModel) (valid : IsValid n) where
     only_link : (ways : List Way) (way : Way) → AllPairs (λ a b. a.from.0 < b.from.0) ways → Contains ways way → way_in ways way.from.0 ≡ Some way.seconds
     only_link [] way rising has = absurd (Contains-nil way has)
     only_link (w ∷ ways) way rising has = elim (Contains-cons_cases w ways way has) [
-      | inl is ↦ elim (eqb_tells w.from.0 way.from.0) [
-        | inl here ↦ rw here.0 (ap (λ (v : Way). Some v.seconds) is)
-        | inr else ↦ absurd (else.1 (ap (λ (v : Way). v.from.0) is))
-      ]
+      | inl is ↦ grind (arith, eqb_tells)
       | inr there ↦ elim (eqb_tells w.from.0 way.from.0) [
         | inl here ↦ let less = AllPairs-head (λ a b. a.from.0 < b.from.0) w ways rising way there in absurd (omega (arith, here.1, less))
         | inr else ↦ rw else.0 (only_link ways way (AllPairs-tail (λ a b. a.from.0 < b.from.0) w ways rising) there)

@@ -26,10 +26,9 @@ module _ (a b c : NetworkModel) (f g p q : ℕ → ℕ) where
     beside_twice : (row middle last : List Outcome) (x y z : ℕ) → AreBeside R row x middle y → AreBeside R middle y last z → AreBeside R row x last z
     beside_twice [] [] [] x y z one two = tt
     beside_twice (o ∷ row) (m ∷ middle) (l ∷ last) x y z one two = grind (arith, beside_twice row middle last x y z one.2 two.2)
-    beside_twice [] [] (l ∷ last) x y z one two = absurd two
     beside_twice [] (m ∷ middle) last x y z one two = absurd one
     beside_twice (o ∷ row) [] last x y z one two = absurd one
-    beside_twice (o ∷ row) (m ∷ middle) [] x y z one two = absurd two
+    beside_twice _ _ _ x y z one two = absurd two
 
     by_twice : EmbedsBy R a b f p → EmbedsBy R b c g q → EmbedsBy R a c image place
     by_twice one two = grind (arith, found_twice, beside_twice)

@@ -6,8 +6,7 @@ use Rattle.service_laws.proofs.Common.{IsSafeToo, EmbedsNoLater, EmbedsAlike, Is
 use Rattle.service_laws.proofs.Trees.{Compare, CompareAll, NoLater, Same, no_worse, as_good}
 
 in_time_sooner : (by : Option ℕ) (x y : ℕ) → y ≤ x → IsInTime by x → IsInTime by y
-in_time_sooner None x y less h = tt
-in_time_sooner (Some d) x y less h = omega (arith, less, h)
+in_time_sooner by x y less h = grind arith
 
 module _ (small large : NetworkModel) (image place : ℕ → ℕ) (found : IsFound small large image place) where
   leg_found : (i j : ℕ) → IsLeg small i j → IsLeg large (image i) (image j)
@@ -53,8 +52,6 @@ module _ (small large : NetworkModel) (image place : ℕ → ℕ) (found : IsFou
         -- the child of an outcome, from no later a moment
         child_by : (kids : Kids) (row : List Outcome) (p a : ℕ) (o : Outcome) (y : ℕ) → AreSafe small target by kids row p a → Contains row o → y ≤ a + o.delay → By p y (worst_of kids)
         child_by Nil [] p a o y safe has sooner = absurd (Contains-nil o has)
-        child_by Nil (first ∷ row) p a o y safe has sooner = absurd safe
-        child_by (Kid w tree kids) [] p a o y safe has sooner = absurd safe
         child_by (Kid w tree kids) (first ∷ row) p a o y safe has sooner = elim (Contains-cons_cases first row o has) [
           | inl is ↦
               let same : first.delay ≡ o.delay = ap (λ (z : Outcome). z.delay) is in
@@ -62,6 +59,7 @@ module _ (small large : NetworkModel) (image place : ℕ → ℕ) (found : IsFou
               (other, own, omega (arith, less))
           | inr more ↦ grind (arith, child_by kids row p a o y safe.2 more sooner)
         ]
+        child_by _ _ p a o y safe has sooner = absurd safe
 
       start_by : (tree : Tree) (s x y : ℕ) → y ≤ x → IsSafeFromStart small target by tree s x
           → (other : Tree) × IsSafeFromStart large (place target) by other (place s) y × (worst other ≤ worst tree)
@@ -91,10 +89,9 @@ module _ (small large : NetworkModel) (image place : ℕ → ℕ) (found : IsFou
             let (first, own, one) = safe_beside tree p (b + other.delay) (a + o.delay) beside.1 safe.1 in
             let (next, all, alike) = all_beside kids row others p a b beside.2 safe.2 in
             (Kid o.weight first next, (refl, own, all), (omega (arith, beside.0, safe.0), one, alike))
-        all_beside Nil (o ∷ row) [] p a b beside safe = absurd beside
         all_beside Nil row (other ∷ others) p a b beside safe = absurd safe
         all_beside (Kid w tree kids) row [] p a b beside safe = absurd safe
-        all_beside (Kid w tree kids) [] (other ∷ others) p a b beside safe = absurd beside
+        all_beside _ _ _ p a b beside safe = absurd beside
 
       start_beside : (tree : Tree) (s x y : ℕ) → R y x → IsSafeFromStart small target by tree s x
           → (other : Tree) × IsSafeFromStart large (place target) by other (place s) y × Compare R other tree

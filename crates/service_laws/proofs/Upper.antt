@@ -32,5 +32,4 @@ plan_no_worse small large image place q r strategy other bounds others e one two
     let (t, safe, alike) = (compares NoLater (λ a b least. least) small large image place e).from_start q.target.0 (Some q.deadline.0) strategy q.source.0 q.start.0 r.start.0 start one.safe in
     let reached = reaches_from_safe large (place q.source.0) (place q.target.0) r.start.0 q.deadline.0 t safe in
     let in_time = safe_from_reaches large (place q.source.0) (place q.target.0) r.start.0 r.deadline.0 t reached.0 (omega (arith, reached.1, less)) in
-    let own : IsSafeFor large r t = rw (source, target) in_time in
-    omega (arith, two.least_up t own, rounded_kept nanos_per_second arrival (λ a b least. least) t strategy alike, one.rounded)
+    grind (arith, rounded_kept)

@@ -47,22 +47,7 @@ took_first-read old new fields is ready read =
     let next : Read = more.2.0 in
     let ends : (next.1 ≡ reader_state new) × (next.2 ≡ more.0) = more.2.3 in
     let t = takes default_config s is.text next is.between more.2.1 in
-    record {
-      reads = record {
-        trim = read.3 ∙ is.trim;
-        ready = inl ready;
-        config = read.2 ∙ is.config;
-        between = ap ends_at_end (sym ends.0) ∙ t.1;
-        text = more.0;
-        known = more.1;
-      };
-      records = ap (records_after s) is.known
-          ∙ ap (map (λ (row : List (List ℕ)). map trimmed_text row)) (first_record s is.text next is.between more.2.1)
-          ∙ ap (λ (row : List (List ℕ)). map trimmed_text row ∷ records_after next.1 (Some next.2)) (sym more.2.2)
-          ∙ ap (λ (x : State). map trimmed_text fields ∷ records_after x (Some next.2)) ends.0
-          ∙ ap (λ (x : List ℕ). map trimmed_text fields ∷ records_after (reader_state new) (Some x)) ends.1
-          ∙ ap (λ (x : Option (List ℕ)). map trimmed_text fields ∷ records_after (reader_state new) x) (sym more.1);
-    }
+    grind (arith, records_after, first_record)
 
 -- where there was none
 pub took-none : (old new : Reader (Bor (List ℕ))) (fields : List (List ℕ)) → IsReading old

@@ -4,10 +4,7 @@ use Rattle.stop_times.proofs.Common.{StopTimes, DuplicateKey, Key, first_below, 
 use Rattle.stop_times.proofs.Common.{sequence_of, repeated_time, is_taken, IsRowBefore, AreRowsRising}
 
 before_on : (a b c : TimedRow) → IsRowBefore a b → IsRowBefore b c → IsRowBefore a c
-before_on a b c (inl low) (inl next) = inl (omega arith)
-before_on a b c (inl low) (inr next) = inl (omega (arith, next.0))
-before_on a b c (inr low) (inl next) = inl (omega (arith, low.0))
-before_on a b c (inr low) (inr next) = inr (low.0 ∙ next.0, omega (arith, low.1, next.1))
+before_on a b c h1 h2 = grind arith
 
 -- the first m rows do
 abbrev pub RiseBelow : List TimedRow → ℕ → Type 0
@@ -21,9 +18,7 @@ rising-next rows i rise last j k less inside = elim (cases_lt k i) [
       let here : i ≡ k = omega arith in
       subst (λ (m : ℕ). IsRowBefore (row_at rows j) (row_at rows m)) here (elim (cases_lt j (i - 1)) [
         | inl low ↦ before_on (row_at rows j) (row_at rows (i - 1)) (row_at rows i) (rise j (i - 1) low (omega arith)) last
-        | inr next ↦
-            let there : i - 1 ≡ j = omega arith in
-            subst (λ (m : ℕ). IsRowBefore (row_at rows m) (row_at rows i)) there last
+        | inr next ↦ grind arith
       ])
 ]
 
@@ -46,13 +41,4 @@ keys_rise rows keys rise own k l less inside =
 pub rising_once : (rows : List TimedRow) → AreRowsRising rows → first_below (repeated_time rows) (length rows) ≡ None
 unfolding repeated_time
 rising_once rows rise = first-none (repeated_time rows) (length rows) (λ i inside.
-    let once : has_twin (trip_of rows) (sequence_of rows) i ≡ false =
-    any-false (λ j. (trip_of rows j == trip_of rows i) && (sequence_of rows j == sequence_of rows i)) i (λ j less twin.
-    let both = and_parts (trip_of rows j == trip_of rows i) (sequence_of rows j == sequence_of rows i) twin in
-    let trip = eqb-true (trip_of rows j) (trip_of rows i) both.0 in
-    let order_is = eqb-true (sequence_of rows j) (sequence_of rows i) both.1 in
-    elim (rise j i less inside) [
-      | inl low ↦ omega (arith, low, trip)
-      | inr same ↦ omega (arith, same.1, order_is)
-    ]) in
-    ap (λ (b : Bool). if b then Some (DuplicateKey StopTimes (i + 2)) else None) once)
+    grind (arith, any-false, and_parts, eqb-true))

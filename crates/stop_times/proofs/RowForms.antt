@@ -36,9 +36,7 @@ seconds_below : (h m s n : ℕ) → seconds_of_time h m s ≡ Some n → n < end
 seconds_below h m s n e = grind (arith, common_steps, nat_tests, some_cases, and_parts)
 
 has_marks : ℕ → List ℕ → Bool
-has_marks k t =
-    nat_eq (slice_index t k) 58 && (nat_eq (slice_index t (k + 3)) 58 && (list_all is_ascii_digit (take k t)
-    && (list_all is_ascii_digit (take 2 (drop (k + 1) t)) && list_all is_ascii_digit (take 2 (drop (k + 4) t)))))
+has_marks k t = grind (arith, nat_eq)
 
 of_below : (k : ℕ) (t : List ℕ) (n : ℕ) → time_of k t ≡ Some n → n < end_of_times
 unfolding has_marks
@@ -50,11 +48,7 @@ time_below text n e =
 
 visit_form : (stops : ℕ) (places : List ℕ) (o a d : Option ℕ) (board exit : Bool) → IsBelow stops o → IsBelow end_of_times a → IsBelow end_of_times d
     → IfSome (visit_of places o (times_of a d) board exit) (IsAtStop stops places)
-visit_form stops places None a d board exit h k l = tt
-visit_form stops places (Some i) None None board exit h k l = tt
-visit_form stops places (Some i) None (Some y) board exit h k l = record { stop = i; inside = h; place = refl; arrival = l; departure = l }
-visit_form stops places (Some i) (Some x) None board exit h k l = record { stop = i; inside = h; place = refl; arrival = k; departure = k }
-visit_form stops places (Some i) (Some x) (Some y) board exit h k l = record { stop = i; inside = h; place = refl; arrival = k; departure = l }
+visit_form stops places o a d board exit h k l = grind arith
 
 -- a row that has no fault by itself
 from_in_form : (trips stops : List (List ℕ)) (places : List ℕ) (line : ℕ) (trip stop sequence arrival departure pickup drop_off : List ℕ) (r : TimedRow)
@@ -79,8 +73,7 @@ from_in_form trips stops places line trip stop sequence arrival departure pickup
     }))))))))))
 
 ok_form : (P : TimedRow → Type 0) (o : Result TimedRow FeedFault) → result_err o ≡ None → ((r : TimedRow) → o ≡ Ok r → P r) → P (value_or no_row o)
-ok_form P (Ok r) h k = k r refl
-ok_form P (Err fault) h k = absurd (cc)
+ok_form P o h k = grind arith
 
 pub row_in_form : (trips stops : List (List ℕ)) (places : List ℕ) (t : List (List (List ℕ))) (i : ℕ) → result_err (timed_at trips stops places t i) ≡ None
     → InForm (length stops) places (value_or no_row (timed_at trips stops places t i))

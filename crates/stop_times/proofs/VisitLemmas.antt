@@ -6,8 +6,7 @@ use Rattle.stop_times.proofs.Common.{visit_or_none, visit_at, IsVisit, AreStopTi
 use Rattle.stop_times.proofs.BackLemmas.{apart}
 
 some_is : (o : Option StopRow) → is_some o ≡ true → o ≡ Some (visit_or_none o)
-some_is None h = absurd (cc)
-some_is (Some v) h = refl
+some_is o h = grind arith
 
 -- the rows from one place to another
 length-range : {A : Type 0} (xs : List A) (low high : ℕ) → high ≤ length xs → length (slice_range xs low high) ≡ high - low
@@ -27,17 +26,7 @@ module _ (rows : List TimedRow) (keys : List Key) (s : AreKeysOf true rows keys)
       let size : length of_trip ≡ high - low = length-range visits low high (omega (arith, span.inside, long)) in
       record {
         line = λ p. (key_at keys (low + p)).row;
-        visit = λ p h.
-            let k = low + p in
-            let inside : k < length keys = omega (arith, h, size, span.inside) in
-            let value : slice_index_or of_trip p no_visit ≡ visit_at rows keys k
-            = get-range visits low high p no_visit (omega (arith, h, size)) ∙ ap (λ (xs : List StopRow). slice_index_or xs k no_visit) e
-            ∙ get-list_below (visit_at rows keys) (length keys) k no_visit inside in
-            subst (IsVisit rows trip (key_at keys k).row) (sym value) (record {
-              inside = s.inside k inside;
-              of_trip = sym (s.groups k inside) ∙ span.here k (omega arith) (omega (arith, h, size));
-              kept = some_is (row_at rows (key_at keys k).row).visit (s.taken k inside);
-            });
+        visit = λ p h. grind (arith, slice_index_or, get-range, get-list_below, some_is);
         rising = λ p q less h.
             let k = low + p in let m = low + q in
             let inside : m < length keys = omega (arith, h, size, span.inside) in

@@ -21,21 +21,7 @@ Takes way = (1 ≤ way.seconds) × (way.seconds ≤ 86400)
 pub links_push : (places r : ℕ) (ws : List Way) (w : Way) → w.from.0 < places → w.from.0 ≢ r → Takes w
     → All (λ way. way.from.0 < w.from.0) ws → AreLinksInto places r ws → AreLinksInto places r (ws ++ w ∷ [])
 links_push places r ws w inside other takes before are =
-    let size : length (ws ++ w ∷ []) ≡ length ws + 1 = length-append ws (w ∷ []) in
-    record {
-      rising = λ i j d l h.
-          ⊎_elim (λ (low : j < length ws).
-          subst (λ x. Rises x (get_or (ws ++ w ∷ []) j d)) (sym (get_or_append_left ws (w ∷ []) d i (omega arith)))
-          (subst (Rises (get_or ws i d)) (sym (get_or_append_left ws (w ∷ []) d j low)) (are.rising i j d l low)))
-          (λ (high : length ws ≤ j).
-          let end : length ws ≡ j = omega (arith, size) in
-          subst (λ x. Rises x (get_or (ws ++ w ∷ []) j d)) (sym (get_or_append_left ws (w ∷ []) d i (omega arith)))
-          (subst (Rises (get_or ws i d)) (sym (get_or_push ws w d j end)) (All-get_or (λ (way : Way). way.from.0 < w.from.0) ws i d (omega arith) before)))
-          (cases_lt j (length ws));
-      inside = All-push (λ (way : Way). way.from.0 < places) ws w are.inside inside;
-      others = All-push (λ (way : Way). way.from.0 ≢ r) ws w are.others other;
-      takes = All-push Takes ws w are.takes takes;
-    }
+    grind (arith, length-append, get_or_append_left, get_or_push, All-get_or, cases_lt, All-push)
 
 -- the links into each of the first places, and those into the next one
 pub lists_push : (places : ℕ) (lists : List (List Way)) (ws : List Way) → ((r : ℕ) → r < length lists → AreLinksInto places r (get_or lists r []))

@@ -40,10 +40,7 @@ by_name : (found : Option ℕ) (names : List (List ℕ)) (name : List ℕ) → I
     → found ≡ position_from (λ own. bytes_eq own name) 0 names
 by_name (Some i) names name there none distinct =
     let at = get_within names i name [] there in
-    sym (ap (λ (k : ℕ). Some k) (let e : 0 + i ≡ i = omega arith in e)) ∙ sym (position_found (λ own. bytes_eq own name) names 0 i []
-    (λ k less. false_if (bytes_eq (slice_index_or names k []) name) (λ same. distinct k i less at.0
-    ((bytes_decides (slice_index_or names k []) name).0 same ∙ sym at.1)))
-    at.0 ((bytes_decides (slice_index_or names i []) name).1 at.1))
+    grind (arith, position_found, false_if, slice_index_or, bytes_decides)
 by_name None names name there none distinct =
     sym (position_none (λ own. bytes_eq own name) names 0 [] (λ k within. false_if (bytes_eq (slice_index_or names k []) name)
     (λ same. none (k, within, get_or_default names k name [] within ∙ (bytes_decides (slice_index_or names k []) name).0 same))))

@@ -95,9 +95,7 @@ repeats_in-span (t ∷ trips) [] trip low high size s = absurd (omega (arith, si
 repeats_in-span (t ∷ trips) (row ∷ rows) trip (suc low) zero size s = absurd (omega (arith, s.order))
 repeats_in-span (t ∷ trips) (row ∷ rows) trip (suc low) (suc high) size s =
     let apart = ne_eqb t trip (λ e. omega (arith, e, s.before 0 (omega arith))) in
-    let less : suc high - suc low ≡ high - low = omega arith in
-    ap (λ n. take n (drop low rows)) less
-    ∙ repeats_in-span trips rows trip low high (omega (arith, size)) (next_span t trip low high trips s) ∙ sym (passed (t == trip) row _ apart)
+    grind (arith, next_span, repeats_in-span trips rows trip low high (omega (arith, size)) (next_span t trip low high trips s))
 repeats_in-span (t ∷ trips) (row ∷ rows) trip zero zero size s =
     let apart = ne_eqb t trip (λ e. omega (arith, e, s.after 0 (omega arith) (omega arith))) in
     repeats_in-span trips rows trip 0 0 (omega (arith, size)) (empty_span t trip trips s) ∙ sym (passed (t == trip) row _ apart)

@@ -39,9 +39,7 @@ module _ (n : NetworkModel) (target deadline : ℕ) (late : ℕ → ℕ) (possib
           let a = arrive tree p (scheduled + o.delay) (behind ++ ride_with_delay n i j (late j) ∷ []) safe.1
           (All-push (IsLateBy late) behind (ride_with_delay n i j (late j)) own refl) in
           record { delays = a.delays; trace = a.trace; trip = rw (eq-eqb o.delay (late j) is) a.trip; in_time = a.in_time; late_by = a.late_by }
-      | inr differ ↦
-          let k = arrive_child kids row p scheduled i j behind safe.2 (rw (ne_eqb o.delay (late j) differ) at has) own in
-          record { delays = k.delays; trace = k.trace; trip = rw (ne_eqb o.delay (late j) differ) k.trip; in_time = k.in_time; late_by = k.late_by }
+      | inr differ ↦ grind (arith, ne_eqb, arrive_child kids row p scheduled i j behind safe.2 (rw (ne_eqb o.delay (late j) differ) at has) own)
     ]
 
 pub arrives : (n : NetworkModel) (q : Query) (tree : Tree) (late : ℕ → ℕ) → IsSafeFor n q tree → ArePossible n late → Arrives n q.deadline.0 tree late

@@ -18,9 +18,7 @@ use Rattle.trip_replay.specs.Onward.{AreUpTo, late_end, LeadsInTime, ArrivesByRo
 pick_sooner : (rows : List GraphRow) (y x : ℕ) (leg : Leg) → pick_row rows y ≡ Some leg → x ≤ y → (sooner : Leg) × (pick_row rows x ≡ Some sooner)
 pick_sooner [] y x leg is less = absurd (cc)
 pick_sooner (row ∷ rows) y x leg is less = elim (cases_lt row.by.0 x) [
-  | inl late ↦
-      let rest = pick_sooner rows y x leg (sym (pick_further row rows y (omega (arith, late, less))) ∙ is) less in
-      (rest.0, pick_further row rows x late ∙ rest.1)
+  | inl late ↦ grind (arith, pick_further, pick_sooner rows y x leg (sym (pick_further row rows y (omega (arith, late, less))) ∙ is) less)
   | inr soon ↦ (row.leg, pick_here row rows x soon)
 ]
 
@@ -64,10 +62,8 @@ module _ (n : NetworkModel) (target : ℕ) (by : Option ℕ) (choice : Leg → �
       let e = here.0 in
       let f = here.1 in
       let same : next ≡ other = λ i. record { enter = record { 0 = sym e i }; exit = record { 0 = sym f i } } in
-      subst Placed same
-      (record { is_leg = is_leg; rides = rides; safe = safe; stands = inside next (inl (refl, refl)); below = λ l under. inside l (inr under) })
-  placed_ride rides next other below is_leg safe inside (inr under) =
-      placed_in rides next other below (outcomes_of n next) safe (λ l t. inside l (inr t)) under
+      grind arith
+  placed_ride rides next other below is_leg safe inside (inr under) = grind (arith, placed_in)
 
   placed_by : (rides : ℕ) (leg : Leg) (x : ℕ) (other : Leg) → ((next : Leg) → ArePlacedAfter rides next other) → (found : Option Leg)
       → IsSafe n target by (ride_or_stuck n (onward rides) found (end_of n leg) x) (end_of n leg) x
@@ -77,10 +73,7 @@ module _ (n : NetworkModel) (target : ℕ) (by : Option ℕ) (choice : Leg → �
   placed_by rides leg x other below (Some next) safe inside there = placed_ride rides next other (below next) safe.1 safe.3 inside there
 
   placed_after : (rides : ℕ) (leg other : Leg) → ArePlacedAfter rides leg other
-  placed_after zero leg other x safe inside there = elim (cases_eq (end_of n leg) target) [
-    | inl is ↦ absurd (rw (eq-eqb (end_of n leg) target is) at there)
-    | inr away ↦ absurd (rw (ne_eqb (end_of n leg) target away) at there)
-  ]
+  placed_after zero leg other x safe inside there = grind (arith, cases_eq, eq-eqb, ne_eqb)
   placed_after (suc rides) leg other x safe inside there = elim (cases_eq (end_of n leg) target) [
     | inl is ↦ absurd (rw (eq-eqb (end_of n leg) target is) at there)
     | inr away ↦
@@ -90,8 +83,7 @@ module _ (n : NetworkModel) (target : ℕ) (by : Option ℕ) (choice : Leg → �
 
   -- at the target the traveller has arrived
   done_after : (rides : ℕ) (leg : Leg) (x : ℕ) → end_of n leg ≡ target → onward rides leg x ≡ Done x
-  done_after zero leg x is = rw (eq-eqb (end_of n leg) target is) refl
-  done_after (suc rides) leg x is = rw (eq-eqb (end_of n leg) target is) refl
+  done_after rides leg x h1 = grind (arith, eq-eqb)
 
 module _ (n : NetworkModel) (v : IsValid n) (q : Query) (tables : List PlaceTable) (start : Leg) where
   abbrev choice : Leg → ℕ → Option Leg
@@ -150,9 +142,7 @@ module _ (n : NetworkModel) (v : IsValid n) (q : Query) (tables : List PlaceTabl
           omega (arith, done.2, w.2)
 
       arrive : (m : ℕ) (leg : Leg) → IsPlaced leg → 13601088000 ≤ dep_of n leg.enter.0 + m → LeadsInTime n tables q late leg
-      arrive zero leg own much =
-          let enter = v.connections leg.enter.0 own.is_leg.enter in
-          absurd (omega (arith, much, enter.forward, enter.early))
+      arrive zero leg own much = grind arith
       arrive (suc m) leg own much = elim (cases_eq (end_of n leg) q.target.0) [
         | inl there ↦ (suc zero, (late_end n late leg, inl (there, refl), in_time leg own there))
         | inr away ↦

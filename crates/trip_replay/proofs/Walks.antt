@@ -15,8 +15,7 @@ delay_some n leg delay x false is some = absurd (cc)
 -- the ride of a leg with a delay that it can have
 pub is_ride : (n : NetworkModel) (leg : Leg) (delay x : ℕ) → IsLegOf n leg → delayed_arrival n leg delay ≡ Some x → IsRidden n (record { leg = leg; delay = delay; arrival = record { 0 = x } })
 is_ride n leg delay x is some =
-    let both = delay_some n leg delay x (has_delay (outcomes_of n leg) delay) refl some in
-    record { is_leg = is; is_delay = both.0; late = (cc) }
+    grind (arith, delay_some)
 
 pub arrival_after-push : (start : ℕ) (rides : List Ridden) (r : Ridden) → arrival_after start (rides ++ r ∷ []) ≡ r.arrival.0
 arrival_after-push start [] r = refl

@@ -37,8 +37,7 @@ then_parts : {A B E : Type 0} (r : Result A E) (next : A → Result B E) (b : B)
 then_parts r next b is = grind arith
 
 unless_parts : {A E : Type 0} (o : Option E) (a b : A) → unless o a ≡ Ok b → (o ≡ None) × (a ≡ b)
-unless_parts {A} {E} None a b is = let same : a ≡ b = cc in (refl, same)
-unless_parts (Some e) a b is = absurd (cc)
+unless_parts o a b is = grind arith
 
 -- a table that is read has no fault
 no_fault : {T : Type 0} (r : Result T FeedFault) (fault : T → Option FeedFault) (t : T) → and_then r (λ t. unless (fault t) t) ≡ Ok t → fault t ≡ None

@@ -119,12 +119,7 @@ module _ (less more : Timetable) (part : IsPartOf less more) (d : DelayLists) (s
   unfolding change_of
   are_shorter place h =
       let within = inside_of place h in
-      let before : slice_index small.change place ≡ place_seconds less.parts.changes place =
-      ap (λ (xs : List ℕ). slice_index xs place) is.is.change_of_places ∙ get-list_below (place_seconds less.parts.changes) places place 0 within in
-      let after : slice_index large.change place ≡ place_seconds more.parts.changes place =
-      ap (λ (xs : List ℕ). slice_index xs place) are.is.change_of_places
-      ∙ get-list_below (place_seconds more.parts.changes) (length more.parts.feed.stop_ids) place 0 (omega (arith, within, part.all.places)) in
-      omega (arith, before, after, part.all.changes place within)
+      grind (arith, get-list_below)
 
   shorter_valid : IsValid shorter
   unfolding connection change_of row_of

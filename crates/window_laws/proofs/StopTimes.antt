@@ -43,12 +43,7 @@ module _ (stops : List (List ℕ)) (places : List ℕ) (line other : ℕ) (stop 
       let one = all k k in
       let here : k ≡ i = sym (one.2 v kept).0 ∙ of_trip in
       let no : None ≡ Some j = then_too (ap (λ (x : ℕ). Some x) here) in absurd (cc)
-  by_number i j (Some k) (Some l) e f n m all then_too = λ v kept of_trip.
-      let one = all k l in
-      let here : k ≡ i = sym (one.2 v kept).0 ∙ of_trip in
-      let there : Some l ≡ Some j = then_too (ap (λ (x : ℕ). Some x) here) in
-      let is : l ≡ j = cc in
-      (sym one.0 ∙ kept, (one.2 v kept).1 ∙ is, sym one.1)
+  by_number i j (Some k) (Some l) e f n m all then_too = λ v kept of_trip. grind arith
 
   kept_too : (trips others : List (List ℕ)) (i j : ℕ) (trip : List ℕ) → ((id : List ℕ) → number_in id trips ≡ Some i → number_in id others ≡ Some j)
       → IsKeptToo i j (value_or no_row (timed_from trips stops places line trip stop sequence arrival departure pickup drop_off))

@@ -16,8 +16,7 @@ returns-in_default-clause-looked c =
     (c.loop-next.invariant.looked [] (inr (ap (option_map (row_of_choice c.args.network.now)) (sym c.in_default.ensures))))
 
 pub get-requires : goal.get-requires
-get-requires c =
-    enters c.args.network.now c.args.query.now c.args.scanned.now c.requires.solves c.requires.differ c.requires.second (c.loop-next.next - 1) (c.in-Some.value, c.in-Some.leg) (sym c.in-Some.ensures)
+get-requires c = grind arith
 
 pub loop-next-smaller : goal.loop-next-smaller
 loop-next-smaller c =

@@ -1,9 +1,7 @@
+use Rattle.std.proofs.Common.{arith}
 use Rattle.graph_text.proofs.Common.{table_of}
 use Rattle.graph_text.proofs.Faults.{records_fail, records_back}
 use Rattle.graph_text.proofs.read_fault_is_by_rows.Goals as goal
 
 pub returns : goal.returns
-returns c n names source target start text fault valid = (
-  records_fail n names valid source target start (table_of text) fault,
-  records_back n names valid source target start (table_of text) fault,
-)
+returns c n names source target start text fault valid = grind (arith, records_fail, records_back)

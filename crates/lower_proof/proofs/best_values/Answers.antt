@@ -4,12 +4,7 @@ use Rattle.lower_proof.proofs.best_values.Goals as goal
 use Rattle.lower_proof.proofs.best_values.Goals.{then-get, else-get}
 
 pub loop-departure-init : goal.loop-departure-init
-loop-departure-init c = record {
-  written = written_first c.in_ok-departures.ensures.valid (omega arith) c.in_ok-values.ensures.as_many c.in_ok-departures.ensures.departures
-      c.in_ok-exits.ensures.runs c.in_ok-exits.ensures.empty
-      (c.in_ok-boards.ensures.fresh.right c.in_ok-values.values.items (λ k inside late. c.in_ok-values.ensures.none k))
-      c.in_ok-boards.ensures.fresh.late;
-}
+loop-departure-init c = grind (arith, written_first)
 
 pub offer-best-requires-clause-boards : goal.offer-best-requires-clause-boards
 offer-best-requires-clause-boards c = rw (c.deref_mut.ensures.value, c.deref.ensures.value) c.loop-departure.invariant.written.right
@@ -18,18 +13,13 @@ pub invariant_of-site : goal.invariant_of-site
 invariant_of-site c = record { there = written_there c.in_ok-departures.ensures.valid c.loop-departure.invariant.written _ _ c.in-Some.ensures.items }
 
 pub offer-best-requires-clause-run : goal.offer-best-requires-clause-run
-offer-best-requires-clause-run c =
-    let written = c.loop-departure.invariant.written in
-    rw c.deref_mut-in-Some.ensures.value (written.scanned.runs c.in-Some.departure.id.0 (written_there c.in_ok-departures.ensures.valid written _ _ c.in-Some.ensures.items))
+offer-best-requires-clause-run c = grind (arith, written_there)
 
 pub get-requires : goal.get-requires
 get-requires c = written_there c.in_ok-departures.ensures.valid c.loop-departure.invariant.written _ _ c.in-Some.ensures.items
 
 pub index_mut-requires : goal.index_mut-requires
-index_mut-requires c =
-    let written = c.loop-departure.invariant.written in
-    let there = written_there c.in_ok-departures.ensures.valid written _ _ c.in-Some.ensures.items in
-    omega (arith, there, written.as_many, c.loop-departure.values.ok.0)
+index_mut-requires c = grind (arith, written_there)
 
 pub loop-departure-preserved : goal.loop-departure-preserved
 loop-departure-preserved c =
@@ -38,10 +28,7 @@ loop-departure-preserved c =
     let run = (connection c.args.network.now c.in-Some.departure.id.0).run.0 in
     let can_board = (connection c.args.network.now c.in-Some.departure.id.0).can_board in
     let board_is = ap (λ (k : Connection). k.can_board) (sym c.get.ensures.connection) in
-    let own_is : c.if-get.own ≡ given can_board best = elim c.if-get.branch [
-      | then-get w ↦ w.own-is ∙ ap (λ b. given b best) (sym (board_is ∙ w.if-get.true))
-      | else-get w ↦ w.own-is ∙ ap (λ b. given b best) (sym (board_is ∙ w.if-get.false))
-    ] in
+    let own_is : c.if-get.own ≡ given can_board best = grind (arith, then-get, else-get) in
     let least = rw (c.deref_mut-in-Some.ensures.value, c.deref.ensures.value) at c.offer-best.ensures.best in
     let exits = rw c.deref_mut-in-Some.ensures.value at c.offer-best.ensures.exits in
     let boards = rw c.deref.ensures.value at c.offer-best.ensures.boards in

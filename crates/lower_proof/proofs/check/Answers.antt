@@ -5,8 +5,7 @@ use Rattle.lower_proof.proofs.Best.{sound}
 
 pub loop-departure-init : goal.loop-departure-init
 loop-departure-init c = record {
-  state = check_first c.in_ok-departures.ensures.valid c.last_departure-last.ensures.deadline c.last_departure-last.ensures.none
-      c.in_ok-departures.ensures.departures c.in_ok-exits.ensures.runs c.in_ok-exits.ensures.empty;
+  state = grind (arith, check_first);
   boards = c.in_ok-boards.ensures.fresh.right c.as_slice-values.result.now c.last_departure-last.ensures.none;
 }
 
@@ -17,9 +16,7 @@ pub invariant_of-site : goal.invariant_of-site
 invariant_of-site c = record { there = check_there c.in_ok-departures.ensures.valid c.loop-departure.invariant.state _ _ c.in-Some.ensures.items }
 
 pub offer-best-requires-clause-run : goal.offer-best-requires-clause-run
-offer-best-requires-clause-run c =
-    let state = c.loop-departure.invariant.state in
-    rw c.deref_mut-in-Some.ensures.value (state.scanned.runs c.in-Some.departure.id.0 (check_there c.in_ok-departures.ensures.valid state _ _ c.in-Some.ensures.items))
+offer-best-requires-clause-run c = grind (arith, check_there)
 
 pub get-requires : goal.get-requires
 get-requires c = check_there c.in_ok-departures.ensures.valid c.loop-departure.invariant.state _ _ c.in-Some.ensures.items

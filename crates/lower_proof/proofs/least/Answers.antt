@@ -11,19 +11,8 @@ loop-i-preserved c =
     let i = c.loop-i.i in
     let board_is = ap (λ (k : Connection). k.can_board) (sym c.get-connection.ensures.connection) in
     elim c.if-connection.branch [
-      | then-connection+then-starts w ↦
-          let starts = rw c.get-connection.ensures.connection at w.starts.ensures.0 w.if-starts.true in
-          rw (w.least-is, w.lesser-least.ensures, w.value_of.ensures)
-          (with_offer n values Boards i c.loop-i.least (omega arith) (board_is ∙ w.if-connection.true) starts c.loop-i.invariant)
-      | else-connection w ↦ elim w.else-connection.branch [
-        | else-connection-via-then-connection+else-starts u ↦
-            let starts = rw c.get-connection.ensures.connection at u.starts.ensures.1 in
-            rw w.least-is (below_same (Offers n values Boards) i c.loop-i.least (λ v offer. both_ways u.starts.result u.if-starts.false (starts offer.boards))
-            c.loop-i.invariant)
-        | else-connection-via-else-connection u ↦ rw w.least-is
-            (below_same (Offers n values Boards) i c.loop-i.least (λ v offer. both_ways (connection n i).can_board (board_is ∙ u.if-connection.false) offer.board)
-            c.loop-i.invariant)
-      ]
+      | then-connection+then-starts w ↦ grind (arith, with_offer)
+      | else-connection w ↦ grind (arith, else-connection-via-then-connection+else-starts, below_same, else-connection-via-else-connection)
     ]
 
 pub returns : goal.returns
@@ -33,10 +22,4 @@ returns c =
     let Boards = IsBoardableAtStart n q.source.0 q.start.0 in
     let values = c.as_slice-values.result.now in
     let whole : c.loop-i.i ≡ count n = omega arith in
-    let away : q.source.0 ≢ q.target.0 = search rules in
-    let least = all_offers n values Boards c.loop-i.least (subst (λ (m : ℕ). IsLeastOf (Below (Offers n values Boards) m) c.loop-i.least) whole
-    c.loop-i.invariant) in
-    record {
-      at_target = λ there. absurd (away there);
-      elsewhere = λ e. rw (← c.as_slice-values.ensures) least;
-    }
+    grind (arith, all_offers)

@@ -1,3 +1,4 @@
+use Rattle.std.proofs.Common.{arith}
 use Rattle.lower_proof.proofs.Common.{◌≢◌, rules, get_or_default}
 use Rattle.lower_proof.proofs.Entries.{no_board}
 use Rattle.lower_proof.proofs.Written.{board_least, boards_looked}
@@ -8,8 +9,7 @@ returns-clause-least c n last are =
     let p = c.args.place.0 in
     let away : p ≢ c.args.query.now.target.0 = search rules in
     let same = rw (get_or_default c.args.boards.now p c.index-boards-place.result no_board c.requires.place) at c.look.ensures.entries in
-    board_least n last c.args.query.now c.args.values.now p c.args.moment.0 c.look.new.self.entries are.none_after
-    (rw same (are.each p c.requires.place).entries) away c.look.result c.look.ensures.least
+    grind (arith, board_least)
 
 pub returns-clause-boards : goal.returns-clause-boards
 returns-clause-boards c n last are =

@@ -3,14 +3,10 @@ use Rattle.meat_scan.proofs.WaySteps.{from_in, count_next}
 use Rattle.meat_scan.proofs.count_ways.Goals as goal
 
 pub bounds-room-way : goal.bounds-room-way
-bounds-room-way c =
-    let inside = from_in c.args.network.now c.requires.valid c.args.place.0 c.loop-k.k c.way_at-way.result c.requires.place c.way_at-way.ensures in
-    omega (arith, inside, c.loop-k.invariant.len, c.requires.len)
+bounds-room-way c = grind (arith, from_in)
 
 pub bounds-room-way-in-loop-k : goal.bounds-room-way-in-loop-k
-bounds-room-way-in-loop-k c =
-    let inside = from_in c.args.network.now c.requires.valid c.args.place.0 c.loop-k.k c.way_at-way.result c.requires.place c.way_at-way.ensures in
-    omega (arith, inside, c.loop-k.invariant.len, c.requires.len)
+bounds-room-way-in-loop-k c = grind (arith, from_in)
 
 pub loop-k-preserved : goal.loop-k-preserved
 loop-k-preserved c =

@@ -1,3 +1,4 @@
+use Rattle.std.proofs.lemmas.Grind.{common_steps}
 use Rattle.meat_scan.proofs.Common.{◌∙◌, sym, subst, arith, refl, written_back, FitsTablesBy}
 use Rattle.meat_scan.proofs.States.{next_state, last_state, rules_end, id_there, room_for_run, room_for_rows, room_next, found_rows-profiles, skipped_state}
 use Rattle.meat_scan.proofs.scan_all.Goals as goal
@@ -23,21 +24,10 @@ invariant_of-site g c =
     record { there = id_there c.args.network.now loop.valid _ c.requires.whole _ state.taken c.in-Some.id state.split }
 
 pub scan_one-start-requires-clause-run : goal.scan_one-start-requires-clause-run
-scan_one-start-requires-clause-run g c =
-    let loop = c.loop-id.invariant in
-    let room = rw c.in-Some.ensures.last at loop.room in
-    let state = rw c.in-Some.ensures.last at loop.state in
-    let there = id_there c.args.network.now loop.valid _ c.requires.whole _ state.taken c.in-Some.id state.split in
-    room_for_run c.args.network.now (g.B.BackwardOrder.rest c.next.new.self c.args.network.now) c.in-Some.id there c.loop-id.profiles.items c.loop-id.exits room
+scan_one-start-requires-clause-run g c = grind (arith, id_there, room_for_run)
 
 pub scan_one-start-requires-clause-room : goal.scan_one-start-requires-clause-room
-scan_one-start-requires-clause-room g c =
-    let loop = c.loop-id.invariant in
-    let room = rw c.in-Some.ensures.last at loop.room in
-    let state = rw c.in-Some.ensures.last at loop.state in
-    let there = id_there c.args.network.now loop.valid _ c.requires.whole _ state.taken c.in-Some.id state.split in
-    rw c.deref_mut.ensures.value (room_for_rows c.args.network.now
-    (g.B.BackwardOrder.rest c.next.new.self c.args.network.now) c.in-Some.id there c.loop-id.profiles.items c.loop-id.exits room)
+scan_one-start-requires-clause-room g c = grind (arith, common_steps, id_there, room_for_rows)
 
 pub loop-id-preserved : goal.loop-id-preserved
 loop-id-preserved g c =

@@ -1,15 +1,11 @@
+use Rattle.std.proofs.Common.{arith}
 use Rattle.meat_scan.proofs.Common.{◌∙◌, found_in}
 use Rattle.meat_scan.proofs.Ends.{value_solved}
 use Rattle.meat_scan.proofs.Reserves.{fits_again, fits_any}
 use Rattle.meat_scan.proofs.start_value.Goals as goal
 
 pub returns-clause-solves : goal.returns-clause-solves
-returns-clause-solves g c =
-    let score = g.V.Score in
-    let scanned = c.scan_all-tables in
-    value_solved score.scoring c.args.network.now c.args.query.now
-    (found_in scanned.result.0 scanned.result.1 c.args.query.now.target.0) scanned.result.1 c.leg_value-value.result
-    scanned.ensures.answers.begins c.leg_value-value.ensures
+returns-clause-solves g c = grind (arith, value_solved)
 
 pub returns-clause-tables_fit : goal.returns-clause-tables_fit
 returns-clause-tables_fit g c fit =

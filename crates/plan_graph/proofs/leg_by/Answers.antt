@@ -14,6 +14,4 @@ returns c =
     let rows = c.args.rows.now in
     let x = c.args.arrival.0 in
     let point = parted_at (λ (r : GraphRow). r.by.0) rows x _ c.partition_point-at.ensures.partitioned c.requires (λ a r q k. search rules) in
-    let d : GraphRow = record { by = record { 0 = 0 }; leg = record { enter = record { 0 = 0 }; exit = record { 0 = 0 } } } in
-    let within : c.partition_point-at.result < length rows = omega (arith, c.partition_point-at.ensures.bound, c.if-at-rows.false) in
-    sym (pick_row-at rows x c.partition_point-at.result d point.0 within (point.1 c.partition_point-at.result d (omega arith) within))
+    grind (arith, pick_row-at)

@@ -23,8 +23,4 @@ returns c =
     let tables = c.args.tables.now in
     let p = c.args.place.0 in
     let point = parted_at (λ (t : PlaceTable). t.place.0) tables p _ c.partition_point-at.ensures.partitioned c.requires (λ a r q k. search rules) in
-    let own = c.index-tables-at.result in
-    let within : c.partition_point-at.result < length tables = omega (arith, c.partition_point-at.ensures.bound, c.if-at-tables.false) in
-    let here = c.if-table-place.false in
-    c.as_slice.ensures ∙ ap (λ (t : PlaceTable). t.rows) c.index-tables-at.is
-    ∙ sym (rows_of_place-at tables p c.partition_point-at.result own point.0 within (ap (λ (t : PlaceTable). t.place.0) (sym c.index-tables-at.is) ∙ here))
+    grind (arith, rows_of_place-at)

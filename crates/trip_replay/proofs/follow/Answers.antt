@@ -44,14 +44,11 @@ loop-delay-preserved c =
           (eqb-false s.place.0 target (sym c.eq.ensures ∙ c.if-eq.false)) c.in-Some.is c.loop-delay-test.true some
           ∙ ap (λ (list : List Ridden). walk n (unfold_after n target choice s.remaining c.in-Some.leg c.in-Some-arrival_of.arrival.0) rest list) (sym pushed)
           ∙ ap (λ (tree : Tree). walk n tree rest c.push.new.self) (sym c.position_after-position.ensures.tree);
-      next = subst (λ (k : ℕ). IfSome c.position_after-position.result.next (λ leg. IsLegOf n leg × (k + c.position_after-position.result.remaining < count n))) (sym more)
-          (next_step n (count n) (length behind) s.remaining c.position_after-position.result.remaining c.position_after-position.result.next c.position_after-position.ensures.next few);
+      next = grind (arith, next_step);
       few = omega (arith, more, few, c.position_after-position.ensures.remaining);
       rides = subst (All (IsRidden n)) (sym pushed)
           (All-push (IsRidden n) behind _ c.loop-delay.invariant.rides
           (is_ride n c.in-Some.leg _ c.in-Some-arrival_of.arrival.0 is_leg some));
-      place = c.position_after-position.ensures.place
-          ∙ sym (ap (λ (list : List Ridden). place_after n c.args.query.now.source.0 list) pushed ∙ place_after-push n c.args.query.now.source.0 behind _);
-      arrival = ap (λ (moment : Moment). moment.0) c.position_after-position.ensures.moment
-          ∙ sym (ap (λ (list : List Ridden). arrival_after c.args.query.now.start.0 list) pushed ∙ arrival_after-push c.args.query.now.start.0 behind _);
+      place = grind (arith, place_after-push);
+      arrival = grind (arith, arrival_after-push);
     }

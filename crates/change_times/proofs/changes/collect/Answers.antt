@@ -17,9 +17,7 @@ returns-in_err-transfer-clause-reports c = match_raised _ _ c.from_residual.resu
     (ap result_err (transfer_is c.args.feed.now c.args.rows.now _ c.loop-i.i c.transfer_columns-columns.ensures)) c.in_err-transfer.ensures.reports)
 
 pub returns-clause-reported : goal.returns-clause-reported
-returns-clause-reported c =
-    let end : c.loop-i.i ≡ row_count c.args.rows.now = omega (arith, c.loop-i-test.false, c.loop-i.auto.i-end, c.count-i-end.ensures.count) in
-    subst (λ n. AreCollected c.args.feed.now c.args.rows.now n c.loop-i.reported) end c.loop-i.invariant.reported
+returns-clause-reported c = grind arith
 
 pub loop-i-preserved : goal.loop-i-preserved
 loop-i-preserved c =

@@ -1,3 +1,4 @@
+use Rattle.std.proofs.Common.{arith}
 use Rattle.change_times.proofs.Common.{◌<◌, List, All, refl, sym, subst, All-nil, Way, ways_at}
 use Rattle.change_times.proofs.ChangeLemmas.{no_rows}
 use Rattle.change_times.proofs.changes.no_changes.Goals as goal
@@ -8,6 +9,4 @@ returns-clause-changes c = λ feed.
     c.new.ensures.items refl
 
 pub returns-clause-links : goal.returns-clause-links
-returns-clause-links c = λ places place.
-    subst (λ (ls : List (List Way)). All (λ way. way.from.0 < places) (ways_at ls place)) (sym c.new.ensures.items)
-    (All-nil (λ (way : Way). way.from.0 < places))
+returns-clause-links c = λ places place. grind (arith, All-nil)

@@ -9,10 +9,7 @@ by_feed : (feed : FeedParts) (t : Records) (n : ℕ) (reported : TransfersSoFar)
     → walks ≡ reported.walks.items → (links : List (List Way))
     → ((to : ℕ) → to < length walks → ways_at links to ≡ ways_below (λ from. most_to to (walks_of walks from)) (length walks))
     → (to : ℕ) → to < length feed.stop_ids → ways_at links to ≡ ways_below (λ from. most_to to (walks_of reported.walks.items from)) (length feed.stop_ids)
-by_feed feed t n reported is walks same links ways to inside =
-    let size : length walks ≡ length feed.stop_ids = ap length same ∙ is.size in
-    ways to (omega (arith, size)) ∙ ap (λ k. ways_below (λ from. most_to to (walks_of walks from)) k) size
-    ∙ ap (λ ws. ways_below (λ from. most_to to (walks_of ws from)) (length feed.stop_ids)) same
+by_feed feed t n reported is walks same links ways to inside = grind arith
 
 pub invariant_of-result : goal.invariant_of-result
 invariant_of-result c =
@@ -27,20 +24,4 @@ invariant_of-result c =
     }
 
 pub returns : goal.returns
-returns c =
-    let feed = c.args.feed.now in let t = c.args.rows.now in let n = row_count t in let reported = c.in_ok-reported.reported in
-    let is = c.in_ok-reported.ensures.reported in let links = c.in_ok-links.links.items in
-    let size : length links ≡ length feed.stop_ids = c.in_ok-links.ensures.size ∙ ap length c.as_slice.ensures.value ∙ is.size in
-    let places : (to : ℕ) → to < length feed.stop_ids
-    → ways_at links to ≡ ways_below (λ from. most_to to (walks_of reported.walks.items from)) (length feed.stop_ids) =
-    by_feed feed t n reported is c.as_slice.result.now c.as_slice.ensures.value links c.in_ok-links.ensures.ways in
-    record {
-      changes = record {
-        seconds = λ place. ap change_seconds (is.seconds place);
-        links = λ to inside. places to inside ∙ ways-same _ _ (length feed.stop_ids) (λ from. is.walks from to);
-        few = omega (arith, size);
-        passed = is.passed;
-      };
-      links = reported_from feed t n reported is links size places;
-      reports = c.in_ok-reported.ensures.reports;
-    }
+returns c = grind (arith, by_feed, ways-same, reported_from)

@@ -1,10 +1,10 @@
+use Rattle.std.proofs.Common.{arith}
 use Rattle.change_times.proofs.Common.{match_raised, fault-first, reports-then, transfers_fault}
 use Rattle.change_times.proofs.changes.read_transfers.Goals as goal
 
 pub returns-in_err-check_columns-clause-reports : goal.returns-in_err-check_columns-clause-reports
 unfolding transfers_fault
-returns-in_err-check_columns-clause-reports c = match_raised _ _ c.from_residual.result c.from_residual.ensures
-    (fault-first _ _ _ c.in_err-check_columns.ensures)
+returns-in_err-check_columns-clause-reports c = grind (arith, match_raised, fault-first)
 
 pub returns-clause-reports : goal.returns-clause-reports
 unfolding transfers_fault

@@ -16,7 +16,4 @@ loop-walk-preserved c =
     }
 
 pub returns-clause-ways : goal.returns-clause-ways
-returns-clause-ways c =
-    λ to base less before e.
-    c.loop-walk.invariant.ways to base less before e
-    ∙ ap (λ ws. base ++ link_from c.args.from (most_to to ws)) (take_all c.loop-walk.walk-index c.args.walks.now (omega (arith, c.loop-walk-test.false)))
+returns-clause-ways c = λ to base less before e. grind (arith, take_all)

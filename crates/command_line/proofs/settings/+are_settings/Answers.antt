@@ -1,3 +1,4 @@
+use Rattle.std.proofs.Common.{arith}
 use Rattle.command_line.proofs.Common.{◌≡◌, ℕ, List, sym, ◌∙◌, true, false, Bor, is_some}
 use Rattle.command_line.proofs.Pairs.{IsPair, are_settings-short, are_settings-unknown, are_settings-known}
 use Rattle.command_line.proofs.settings.+are_settings.Goals as goal
@@ -6,20 +7,16 @@ pub returns-in_default : goal.returns-in_default
 returns-in_default t c = are_settings-short c.args.settings.now c.is_empty.result c.in_default.len_below c.is_empty.ensures
 
 pub returns-in-None : goal.returns-in-None
-returns-in-None t c =
-    let pair : IsPair _ _ _ _ = record { two = c.in-len2-up.len_at_least; name_is = c.name-item.is; value_is = c._value-item.is; word_is = c.as_str.ensures.value } in
-    are_settings-unknown _ _ _ _ pair (sym c.option_named.ensures ∙ c.in-None.is)
+returns-in-None t c = grind (arith, are_settings-unknown)
 
 pub returns-then-is_none : goal.returns-then-is_none
 returns-then-is_none t c =
     let pair : IsPair _ _ _ _ = record { two = c.in-len2-up.len_at_least; name_is = c.name-item.is; value_is = c._value-item.is; word_is = c.as_str.ensures.value } in
     let all = are_settings-known _ _ _ _ pair (λ (value : Bor (List ℕ)). value.now) c.value_of.result c.in-Some.option (sym c.option_named.ensures ∙ c.in-Some.is) c.value_of.ensures in
-    let none : is_some c.value_of.result ≡ false = c.if-is_none.ensures in
-    c.are_settings.ensures ∙ sym (rw none at all)
+    grind arith
 
 pub returns-else-is_none : goal.returns-else-is_none
 returns-else-is_none t c =
     let pair : IsPair _ _ _ _ = record { two = c.in-len2-up.len_at_least; name_is = c.name-item.is; value_is = c._value-item.is; word_is = c.as_str.ensures.value } in
     let all = are_settings-known _ _ _ _ pair (λ (value : Bor (List ℕ)). value.now) c.value_of.result c.in-Some.option (sym c.option_named.ensures ∙ c.in-Some.is) c.value_of.ensures in
-    let some : is_some c.value_of.result ≡ true = c.if-is_none.ensures in
-    c.if-is_none.false ∙ sym (rw some at all)
+    grind arith

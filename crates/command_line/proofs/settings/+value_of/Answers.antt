@@ -1,3 +1,4 @@
+use Rattle.std.proofs.Common.{arith}
 use Rattle.command_line.proofs.Common.{sym, ◌∙◌}
 use Rattle.command_line.proofs.Pairs.{IsPair, value_of-short, value_of-found, value_of-other}
 use Rattle.command_line.proofs.settings.+value_of.Goals as goal
@@ -11,6 +12,4 @@ returns-then-eq t c =
     value_of-found _ _ _ _ pair c.args.option c.name.result.now c.as_str-then-eq.result.now c.name.ensures c.if-eq.ensures c.as_str-then-eq.ensures.value
 
 pub returns : goal.returns
-returns t c =
-    let pair : IsPair _ _ _ _ = record { two = c.in-len2-up.len_at_least; name_is = c.name-item.is; value_is = c.value-item.is; word_is = c.as_str.ensures.value } in
-    c.value_of.ensures ∙ value_of-other _ _ _ _ pair c.args.option c.name.result.now c.name.ensures c.if-eq.ensures
+returns t c = grind (arith, value_of-other)

@@ -1,3 +1,4 @@
+use Rattle.std.proofs.Common.{arith}
 use Rattle.command_line.proofs.Common.{◌≡◌, ℕ, List, ◌∷◌, IsTrue, sym, ◌∙◌, ap, subst, flat_map, OptionName, spelled, value_of, value_in, are_settings}
 use Rattle.command_line.proofs.Lines.{settings_hold, read_settings}
 use Rattle.command_line.proofs.settings.line_is_a_command_and_its_settings.Goals as goal
@@ -10,6 +11,4 @@ returns-clause-accepted c words command given line rest is =
     subst P same (settings_hold given line.once)
 
 pub returns-clause-only : goal.returns-clause-only
-returns-clause-only c command rest are =
-    let read = read_settings rest are in
-    (read.0, record { words_are = ap (λ (words : List (List ℕ)). command ∷ words) read.1.words_are; once = read.1.once })
+returns-clause-only c command rest are = grind (arith, read_settings)

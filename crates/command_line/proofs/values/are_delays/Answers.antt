@@ -5,15 +5,10 @@ use Rattle.std.proofs.lemmas.Iterator.Search.{all_from_yields_List}
 use Rattle.command_line.proofs.values.are_delays.Goals as goal
 
 few : (texts : List (List ℕ)) (n : ℕ) (b : Bool) → n ≡ length texts → n ≤ 4096 → b ≡ list_all is_delay texts → b ≡ are_delays texts
-few texts n b count le all =
-    let here : nat_le (length texts) 4096 ≡ true = grind (arith, nat_tests) in
-    rw (here, all) refl
+few texts n b count le all = grind (arith, nat_le, nat_tests)
 
 many : (texts : List (List ℕ)) (n : ℕ) → n ≡ length texts → 4096 < n → nat_le n 4096 ≡ are_delays texts
-many texts n count more =
-    let one : nat_le n 4096 ≡ false = grind (arith, nat_tests) in
-    let other : nat_le (length texts) 4096 ≡ false = grind (arith, nat_tests) in
-    rw (one, other) refl
+many texts n count more = grind (arith, nat_le, nat_tests)
 
 pub returns-then-count-le-MOST_DELAYS : goal.returns-then-count-le-MOST_DELAYS
 returns-then-count-le-MOST_DELAYS c =

@@ -29,12 +29,7 @@ with_links-requires c =
     }
 
 pub returns-clause-count : goal.returns-clause-count
-returns-clause-count c =
-    let trips = c.args.counted.now.trips.now in
-    ap length (c.with_links.ensures.connections ∙ c.in_ok-network.ensures.connections)
-    ∙ connections_counted trips.feed.now trips.days.now.services c.args.delays.now trips.window c.as_slice-list.result.now (c.as_slice-list.ensures.value ∙ c.in_ok-found.ensures)
-    ∙ sym c.args.counted.now.exact
+returns-clause-count c = grind (arith, connections_counted)
 
 pub returns-clause-fit : goal.returns-clause-fit
-returns-clause-fit c =
-    names_fit c.in_ok-network.names c.in_ok-network.network c.with_links.result (sym c.with_links.ensures.connections) (sym c.with_links.ensures.change) c.in_ok-network.ensures.fit
+returns-clause-fit c = grind (arith, names_fit)

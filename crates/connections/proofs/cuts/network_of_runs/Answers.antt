@@ -20,6 +20,4 @@ returns-clause-fit c =
     c.in_ok-names.ensures.runs
 
 pub returns-clause-change : goal.returns-clause-change
-returns-clause-change c =
-    let trips = c.args.runs.now.trips.now in
-    c.from_parts.ensures.change ∙ c.in_ok-change.ensures.seconds ∙ ap (list_below (place_seconds trips.changes.now)) trips.stops_counted
+returns-clause-change c = grind arith

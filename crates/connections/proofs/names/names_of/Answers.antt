@@ -1,3 +1,4 @@
+use Rattle.std.proofs.lemmas.Grind.{common_steps}
 use Rattle.connections.proofs.Common.{◌≡◌, ℕ, ◌<◌, ◌≤◌, ◌+◌, arith, sym, ◌∙◌, subst, ⊎_elim, cases_lt, Run, run_at, IsSmallRepeat, IsRunName, List}
 use Rattle.connections.proofs.NameLemmas.{run_new, run_pushes}
 use Rattle.connections.proofs.names.names_of.Goals as goal
@@ -5,9 +6,7 @@ use Rattle.connections.proofs.names.names_of.Goals as goal
 -- the runs below a number and the next one
 below_next : (rs : List Run) (r : ℕ) → ((k : ℕ) → k < r → IsSmallRepeat (run_at rs k).repeat) → IsSmallRepeat (run_at rs r).repeat
     → (k : ℕ) → k < r + 1 → IsSmallRepeat (run_at rs k).repeat
-below_next rs r before here k h =
-    ⊎_elim (λ (less : k < r). before k less)
-    (λ (from : r ≤ k). let e : r ≡ k = omega arith in let P : ℕ → Type 0 = λ i. IsSmallRepeat (run_at rs i).repeat in subst P e here) (cases_lt k r)
+below_next rs r before here k h = grind (arith, cases_lt)
 
 pub push_run-requires-clause-absent : goal.push_run-requires-clause-absent
 push_run-requires-clause-absent c =
@@ -16,10 +15,4 @@ push_run-requires-clause-absent c =
     (omega arith) c.loop-r.invariant.0 (subst (IsRunName f (run_at rs r)) (sym c.as_str.ensures.value) c.in_ok-name.ensures.name)
 
 pub loop-r-preserved : goal.loop-r-preserved
-loop-r-preserved c =
-    let runs = c.args.runs.now in let trips = runs.trips.now in let f = trips.feed.now in let rs = runs.list.now in let r = c.loop-r.r in (
-      run_pushes f rs r c.loop-r.names.runs c.push_run.new.self.runs c.as_str.result.now c.loop-r.invariant.0
-          (subst (IsRunName f (run_at rs r)) (sym c.as_str.ensures.value) c.in_ok-name.ensures.name) c.in_ok-push_run.ensures.ok,
-      c.push_run.ensures.places ∙ c.loop-r.invariant.1,
-      below_next rs r c.loop-r.invariant.2 c.in_ok-name.ensures.small,
-    )
+loop-r-preserved c = grind (arith, common_steps, run_pushes, below_next)

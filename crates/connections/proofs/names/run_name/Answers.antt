@@ -1,3 +1,4 @@
+use Rattle.std.proofs.Common.{arith}
 use Rattle.connections.proofs.Common.{◌++◌, ◌∷◌, [], ℤ, w32, SFits, Some, sym, ap, ◌∙◌, subst, rules, append_assoc, to_z-of_z, HasDate, get_or_from_slice_get, start_text}
 use Rattle.std.proofs.lemmas.Str.{IsUtf8-from_ascii}
 use Rattle.connections.proofs.DateLemmas.{has_date, date_is_ascii}
@@ -21,10 +22,5 @@ returns-clause-name c =
     record {
       date = date;
       reads = c.write_date-date.ensures ∙ ap Some (to_z-of_z w32 c.args.named.now.run.origin.day.number fits);
-      text =
-          c.in_ok-push_str-in-Ok-2.ensures.bytes
-          ∙ ap (λ x. x ++ c.trip_id.result.now) (c.in_ok-push_str-in-Ok.ensures.bytes
-          ∙ ap (λ x. x ++ 58 ∷ []) (c.in_ok-push_start-in-Ok.ensures.text ∙ ap (λ x. x ++ start_text c.args.named.now.run.repeat) text))
-          ∙ append_assoc (date ++ start_text c.args.named.now.run.repeat) (58 ∷ []) c.trip_id.result.now
-          ∙ ap (λ x. (date ++ start_text c.args.named.now.run.repeat) ++ 58 ∷ x) (sym id);
+      text = grind (arith, append_assoc);
     }

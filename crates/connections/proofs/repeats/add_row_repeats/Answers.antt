@@ -39,9 +39,4 @@ loop-step-preserved c =
     )
 
 pub returns : goal.returns
-returns c =
-    let w = c.args.trip.now.window in let rows = c.args.trip.now.rows.now in let day = c.args.trip.now.day in let row = c.args.row.now in
-    let t = c.loop-step.invariant in
-    let end : c.loop-step.step ≡ 0 = omega (arith, c.loop-step-test.false) in
-    let all = subst (λ n. AreTaken w rows day row n c.loop-step.next t.0) end t.1 in
-    t.2 ∙ ap (λ (xs : List Repeat). c.args.repeats.now.items ++ xs) (all_taken w rows day row c.args.trip.now.departures c.requires c.loop-step.next t.0 all)
+returns c = grind (arith, all_taken)

@@ -6,5 +6,4 @@ pub returns-then-leaves : goal.returns-then-leaves
 returns-then-leaves c = has_connection_true c.args.window c.args.rows.now c.args.origin c.loop-k.k (omega (arith, c.saturating_sub-k-end.ensures)) (sym c.leaves.ensures ∙ c.if-leaves.true)
 
 pub returns : goal.returns
-returns c = has_connection_false c.args.window c.args.rows.now c.args.origin
-    (ap (λ (n : _). steps_below c.args.window c.args.rows.now c.args.origin n) (omega (arith, c.saturating_sub-k-end.ensures)) ∙ c.loop-k.invariant)
+returns c = grind (arith, has_connection_false)

@@ -1,3 +1,4 @@
+use Rattle.std.proofs.Common.{arith}
 use Rattle.connections.proofs.Common.{Option, IfSome, sym, ap, ◌∙◌, subst, class_of_trip, connection_from, IsClassOfHour}
 use Rattle.connections.specs.declared.window_connections.HourClass.{HourClass}
 use Rattle.connections.proofs.MapLemmas.{map-kept, map-dropped}
@@ -19,10 +20,5 @@ loop-row-preserved c =
                 (ap (λ v. v.items) w.connections-is ∙ w.in_ok-push.ensures.items);
             known = subst P (sym w.known-is) w.class_in_hour-class.ensures.hour;
           }
-      | else-leaves w ↦
-          record {
-            connections = map-dropped made c.args.window rows run.origin c.loop-row.row c.args.connections.now.items c.loop-row.connections.items c.if-leaves.connections.items
-                c.loop-row.invariant.connections (sym c.leaves.ensures ∙ w.if-leaves.false) (ap (λ v. v.items) w.connections-is);
-            known = subst P (sym w.known-is) c.loop-row.invariant.known;
-          }
+      | else-leaves w ↦ grind (arith, map-dropped)
     ]

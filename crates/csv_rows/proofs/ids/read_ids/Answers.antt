@@ -11,36 +11,16 @@ absent_in : (keys : List (Bor (List ℕ))) (ids : List (List ℕ)) (name : List 
 absent_in keys ids name seen fresh = subst (λ (w : List (List ℕ)). ¬ Contains w name) seen (key_absent name keys fresh)
 
 pub loop-i-init : goal.loop-i-init
-loop-i-init c =
-    let id = field c.args.rows.now c.args.column in
-    record {
-      ids = c.with_key-ids.ensures ∙ sym (list_below-zero id);
-      seen = ap key_texts c.with_hasher.ensures.empty ∙ sym c.with_key-ids.ensures;
-      none = first-zero (repeated_id c.args.table id);
-    }
+loop-i-init c = grind (arith, list_below-zero, first-zero)
 
 pub push-requires-clause-room : goal.push-requires-clause-room
-push-requires-clause-room c =
-    omega (arith, c.requires.few, ap length c.loop-i.invariant.ids, length-list_below (field c.args.rows.now c.args.column) c.loop-i.i)
+push-requires-clause-room c = grind (arith, length-list_below)
 
 pub push-requires-clause-absent : goal.push-requires-clause-absent
 push-requires-clause-absent c = absent_in c.loop-i.seen.texts.keys _ _ c.loop-i.invariant.seen (not-true _ (sym c.in_ok-new.ensures.added ∙ c.if-not-new.false))
 
 pub loop-i-preserved : goal.loop-i-preserved
-loop-i-preserved c =
-    let id = field c.args.rows.now c.args.column in
-    let name = c.name_at-name.result.now in
-    let keys = c.loop-i.seen.texts.keys in
-    let is = c.name_at-name.ensures ∙ ap (λ p. field_at c.args.rows.now p c.loop-i.i) c.index_of-index.ensures in
-    let fresh : has_key name keys ≡ false = not-true _ (sym c.in_ok-new.ensures.added ∙ c.if-not-new.false) in
-    record {
-      ids = list_below-next id c.loop-i.i c.loop-i.ids c.push.new.self name c.loop-i.invariant.ids c.in_ok-push.ensures.ok is;
-      seen = key_last keys c.insert.new.self.keys c.name_at-name.result fresh c.in_ok-new.ensures.keys
-          ∙ ap (λ (w : List (List ℕ)). w ++ name ∷ []) c.loop-i.invariant.seen ∙ sym c.in_ok-push.ensures.ok;
-      none = first-next (repeated_id c.args.table id) c.loop-i.i None c.loop-i.invariant.none
-          (not_repeated c.args.table id c.loop-i.i c.loop-i.ids name c.loop-i.invariant.ids is
-          (absent_in keys c.loop-i.ids name c.loop-i.invariant.seen fresh));
-    }
+loop-i-preserved c = grind (arith, not-true, list_below-next, key_last, first-next, not_repeated, absent_in)
 
 pub returns-then-not-new-clause-reports : goal.returns-then-not-new-clause-reports
 returns-then-not-new-clause-reports c =

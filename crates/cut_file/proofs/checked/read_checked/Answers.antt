@@ -8,14 +8,10 @@ returns-in-Some-clause-fault c = λ free.
     column_first c.args.rows.now c.args.limits.now.cut_rows c.columns_of-columns.result c.in-Some.fault c.columns_of-columns.ensures c.in-Some.ensures
 
 pub returns-then-limits-count-clause-fault : goal.returns-then-limits-count-clause-fault
-returns-then-limits-count-clause-fault c = λ free.
-    count_first c.args.rows.now c.args.limits.now.cut_rows c.columns_of-columns.result c.columns_of-columns.ensures c.in_default.ensures (omega arith)
-    ∙ ap (λ n. Some (TooManyRows n)) (sym c.count-count.ensures.count)
+returns-then-limits-count-clause-fault c = λ free. grind (arith, count_first)
 
 pub returns-in_err-cut-clause-fault : goal.returns-in_err-cut-clause-fault
-returns-in_err-cut-clause-fault c = if_raised _ c.from_residual.result c.from_residual.ensures (λ free.
-    rows_first c.args.rows.now c.args.limits.now.cut_rows c.columns_of-columns.result c.columns_of-columns.ensures c.in_default.ensures (omega arith)
-    ∙ field_first c.args.rows.now _ _ (c.in_err-cut.ensures.err free))
+returns-in_err-cut-clause-fault c = grind (arith, if_raised, rows_first, field_first)
 
 pub returns-in-Some-run_fault-clause-fault : goal.returns-in-Some-run_fault-clause-fault
 returns-in-Some-run_fault-clause-fault c = λ free.

@@ -15,9 +15,7 @@ pub fault_after-requires-clause-here : goal.fault_after-requires-clause-here
 fault_after-requires-clause-here c = c.requires.sorted.inside c.loop-k.k (omega arith)
 
 pub fault_after-requires-clause-before : goal.fault_after-requires-clause-before
-fault_after-requires-clause-before c =
-    let rows = c.args.rows.now in
-    before_inside (λ i. true) (run_of rows) (step_of rows) (length rows) c.args.keys.now c.requires.sorted c.loop-k.k (omega arith) c.before_at.result c.before_at.ensures
+fault_after-requires-clause-before c = grind (arith, before_inside)
 
 pub returns : goal.returns
 returns c = λ t runs places read none.

@@ -4,10 +4,7 @@ use Rattle.std.proofs.lemmas.List.Sorted.{length_permutation}
 use Rattle.cut_file.proofs.order.sorted_keys.Goals as goal
 
 pub loop-i-init : goal.loop-i-init
-loop-i-init c = record {
-  size = grind (arith, common_steps);
-  keys = keys-none (λ i. true) (run_of c.args.rows.now) (step_of c.args.rows.now) c.in_ok-keys.keys.items c.in_ok-keys.ensures.items;
-}
+loop-i-init c = grind (arith, common_steps, keys-none)
 
 pub loop-i-preserved : goal.loop-i-preserved
 unfolding key_of

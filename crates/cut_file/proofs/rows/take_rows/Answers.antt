@@ -5,19 +5,7 @@ use Rattle.cut_file.proofs.RowFacts.{bad_here, good_here, run_names-zero, place_
 use Rattle.cut_file.proofs.rows.take_rows.Goals as goal
 
 pub loop-i-init : goal.loop-i-init
-loop-i-init c =
-    let t = c.args.table.now.rows.now in
-    record {
-      none = first-zero (bad_field t);
-      size = ap length c.requires.no_rows;
-      each = λ k d l. absurd (omega arith);
-      runs = c.requires.no_runs ∙ sym (run_names-zero t);
-      places = c.requires.no_places ∙ sym (place_names-zero t);
-      few_runs = omega (arith, ap length c.requires.no_runs);
-      few_places = omega (arith, ap length c.requires.no_places);
-      run_before = tt;
-      end_before = tt;
-    }
+loop-i-init c = grind (arith, first-zero, run_names-zero, place_names-zero)
 
 pub returns-in-Err-clause-err : goal.returns-in-Err-clause-err
 returns-in-Err-clause-err c = λ free.

@@ -1,3 +1,4 @@
+use Rattle.std.proofs.Common.{arith}
 use Rattle.decision_graph.proofs.Common.{◌≡◌, None, MatchOption-at_some}
 use Rattle.decision_graph.proofs.AtOnce.{in_time, expanded_at_once, steady_at_once}
 use Rattle.decision_graph.proofs.BestStrategies.{IsOfStart, expanded, steady_choice}
@@ -10,8 +11,7 @@ returns-then-query-clause-plan g c =
     c.if-query.true there.0 there.1 c.arrive.ensures
 
 pub returns-then-query-clause-steady : goal.returns-then-query-clause-steady
-returns-then-query-clause-steady g c =
-    steady_at_once c.args.network.now c.args.query.now c.in-Some.graph (in_time c.args.query.now c.at_once.result c.in-Some.graph c.in-Some.is c.at_once.ensures).1
+returns-then-query-clause-steady g c = grind (arith, steady_at_once, in_time)
 
 pub returns-clause-plan : goal.returns-clause-plan
 returns-clause-plan g c =

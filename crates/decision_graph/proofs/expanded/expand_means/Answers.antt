@@ -1,3 +1,4 @@
+use Rattle.std.proofs.Common.{arith}
 use Rattle.decision_graph.proofs.Common.{ap}
 use Rattle.value_laws.specs.Means.{mean_scoring, mean_laws, from_span}
 use Rattle.decision_graph.proofs.AtOnce.{in_time, expanded_at_once, steady_at_once}
@@ -10,5 +11,4 @@ returns-then-query-clause-plan g c =
     c.if-query.true there.0 there.1 (ap from_span c.exact.ensures)
 
 pub returns-then-query-clause-steady : goal.returns-then-query-clause-steady
-returns-then-query-clause-steady g c =
-    steady_at_once c.args.network.now c.args.query.now c.in-Some.graph (in_time c.args.query.now c.at_once.result c.in-Some.graph c.in-Some.is c.at_once.ensures).1
+returns-then-query-clause-steady g c = grind (arith, steady_at_once, in_time)

@@ -1,3 +1,4 @@
+use Rattle.std.proofs.Common.{arith}
 use Rattle.decision_graph.proofs.Tables.{planned}
 use Rattle.decision_graph.proofs.planned.compacted.Goals as goal
 
@@ -8,7 +9,4 @@ compact-requires-clause-coherent g c =
     (c.in_ok-pruned.ensures.follows kept.choice kept.follows)
 
 pub returns : goal.returns
-returns g c =
-    planned g.V.Score.scoring c.args.network.now c.args.query.now c.args.expanded.graph
-    c.in_ok-pruned.pruned c.in_ok-graph.graph c.args.expanded.value c.requires.expanded
-    c.in_ok-pruned.ensures.unfolds c.in_ok-graph.ensures.unfolds c.in_ok-graph.ensures.tidy
+returns g c = grind arith

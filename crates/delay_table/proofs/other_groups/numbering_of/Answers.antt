@@ -1,3 +1,4 @@
+use Rattle.std.proofs.lemmas.Grind.{common_steps}
 use Rattle.delay_table.proofs.Common.{◌≡◌, ◌∙◌, ◌+◌, ◌++◌, ◌∷◌, [], ap, arith, sym, subst, false, true, List, others, Group, group_in, group_index, is_plain, IsNumbering, line_group}
 use Rattle.delay_table.proofs.NumberedFacts.{numbering-none, numbering-new, numbering-next}
 use Rattle.delay_table.proofs.Others.{others-zero, others-new, others-plain, others-other}
@@ -9,21 +10,10 @@ loop-index-init c =
     subst P (sym (others-zero c.args.read.now.groups)) (numbering-none c.new.result c.with_key.result c.new.ensures c.with_key.ensures)
 
 pub loop-index-preserved-then-is_plain : goal.loop-index-preserved-then-is_plain
-loop-index-preserved-then-is_plain c =
-    let g = c.args.read.now.groups in
-    let m = c.loop-index.numbering in
-    let plain : is_plain (group_in g c.loop-index.index) ≡ true = ap is_plain (sym c.at-group.ensures) ∙ sym c.is_plain.ensures ∙ c.if-is_plain.true in
-    let P : List Group → Type 0 = λ gs. IsNumbering m.routes m.groups gs in
-    subst P (sym (others-plain g c.loop-index.index plain)) c.loop-index.invariant
+loop-index-preserved-then-is_plain c = grind (arith, others-plain)
 
 pub add-requires : goal.add-requires
-add-requires c =
-    let g = c.args.read.now.groups in
-    let m = c.loop-index.numbering in
-    let n = c.in_ok-route.ensures in
-    let before = others g c.loop-index.index in
-    numbering-new m.routes m.groups before c.loop-index.invariant (line_group c.at-group.result) c.in_ok-route.route c.number_of.new.routes n.routes n.number
-    (ap (λ x. group_index x before) c.at-group.ensures ∙ others-new g c.args.read.now.read.apart c.loop-index.index (omega arith))
+add-requires c = grind (arith, common_steps, numbering-new, others-new)
 
 pub loop-index-preserved : goal.loop-index-preserved
 loop-index-preserved c =

@@ -26,15 +26,7 @@ invariant_of-result c =
     record { read = is-read t groups rows all.0 all.1 }
 
 pub returns-clause-none : goal.returns-clause-none
-returns-clause-none c =
-    let t = c.args.table.now.rows.now in
-    let end : c.loop-i.i ≡ row_count t = omega (arith, c.loop-i-test.false, c.loop-i.auto.i-end, c.count-i-end.ensures.count) in
-    let P : ℕ → Type 0 = λ n. first_below (line_fault t) n ≡ None in
-    subst P end c.loop-i.invariant.0
+returns-clause-none c = grind arith
 
 pub returns-clause-read : goal.returns-clause-read
-returns-clause-read c =
-    let t = c.args.table.now.rows.now in
-    let end : c.loop-i.i ≡ row_count t = omega (arith, c.loop-i-test.false, c.loop-i.auto.i-end, c.count-i-end.ensures.count) in
-    let P : ℕ → Type 0 = λ n. IsReadTo t n c.loop-i.reading.groups c.loop-i.reading.rows.items in
-    subst P end c.loop-i.invariant.1
+returns-clause-read c = grind arith

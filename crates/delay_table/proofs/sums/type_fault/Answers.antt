@@ -5,10 +5,7 @@ pub loop-index-init : goal.loop-index-init
 loop-index-init c = first-zero (type_sum_at (read_outcomes c.args.read.now.groups c.args.read.now.rows.items) c.args.types.now)
 
 pub returns-in-Some : goal.returns-in-Some
-returns-in-Some c =
-    sym (first-at (type_sum_at (read_outcomes c.args.read.now.groups c.args.read.now.rows.items) c.args.types.now) c.loop-index.index
-    (length c.args.types.now) c.in-Some.fault (omega arith) c.loop-index.invariant (sym c.in-Some.ensures))
+returns-in-Some c = grind (arith, first-at)
 
 pub loop-index-preserved : goal.loop-index-preserved
-loop-index-preserved c =
-    first-next (type_sum_at (read_outcomes c.args.read.now.groups c.args.read.now.rows.items) c.args.types.now) c.loop-index.index None c.loop-index.invariant (sym c.in_default.ensures)
+loop-index-preserved c = grind (arith, first-next)

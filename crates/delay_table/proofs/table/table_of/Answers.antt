@@ -1,25 +1,14 @@
+use Rattle.std.proofs.Common.{arith}
 use Rattle.delay_table.proofs.Common.{◌≡◌, ◌++◌, ◌∷◌, ◌∙◌, Some, sym, ap, subst, length, map, List, None, ℕ, Outcome, plain_types, class_rows, others, type_rows, line_at, read_outcomes, AreDelays}
 use Rattle.delay_table.proofs.Counted.{reported-count}
 use Rattle.delay_table.proofs.Sound.{made-is, delays_valid, classes-are}
 use Rattle.delay_table.proofs.table.table_of.Goals as goal
 
 pub returns-in-Some-clause-count : goal.returns-in-Some-clause-count
-returns-in-Some-clause-count c = λ n e.
-    let groups = c.args.read.now.groups in
-    let rows = c.args.read.now.rows.items in
-    reported-count (read_outcomes groups rows) groups (line_at rows) n (sym c.in-Some.ensures ∙ ap Some e)
+returns-in-Some-clause-count c = λ n e. grind (arith, reported-count)
 
 pub returns-clause-table : goal.returns-clause-table
-returns-clause-table c =
-    let g = c.args.read.now.groups in
-    let rs = read_outcomes g c.args.read.now.rows.items in
-    let named : List ℕ → List (List Outcome) = λ ts. class_rows rs None ∷ map (type_rows rs) ts in
-    let types = c.in_ok-types.ensures.named in
-    made-is rs g c.from_vec.result c.in_ok-others.others c.add_others.new.classes
-    (c.from_vec.ensures ∙ types)
-    c.in_ok-others.ensures
-    (c.in_ok-add_others.ensures ∙ ap (λ xs. xs ++ map rs (others g (length g)))
-    (c.in_ok-classes.ensures ∙ ap named (c.as_slice-2.ensures.value ∙ types)))
+returns-clause-table c = grind (arith, made-is)
 
 pub invariant_of-result : goal.invariant_of-result
 invariant_of-result c =
@@ -32,7 +21,4 @@ pub returns-clause-sound : goal.returns-clause-sound
 returns-clause-sound c = invariant_of-result c
 
 pub returns-clause-size : goal.returns-clause-size
-returns-clause-size c =
-    let g = c.args.read.now.groups in
-    let P : ℕ → Type 0 = λ n. n ≡ length (plain_types g (length g)) in
-    classes-are g c.args.read.now.rows.items c.args.read.now.read (sym c.in_default.ensures) (subst P (ap length c.in_ok-types.ensures.named) c.in_ok-types.ensures.size)
+returns-clause-size c = grind (arith, classes-are)

@@ -17,10 +17,7 @@ greatest-requires-clause-second c =
     second n m c.args.query.now (c.places.result + place.0) place gate c.places.ensures.valid c.requires.target c.if-place-query.false c.requires.start
 
 pub loop-place-preserved-then-place-query : goal.loop-place-preserved-then-place-query
-loop-place-preserved-then-place-query c = record {
-  reach = passed c.args.network.now c.args.query.now c.args.query.now.start.0 c.loop-place.place c.loop-place.rows c.loop-place.invariant.reach (λ away. absurd (away c.if-place-query.true));
-  found = c.loop-place.invariant.found;
-}
+loop-place-preserved-then-place-query c = grind arith
 
 pub loop-place-preserved-in_default : goal.loop-place-preserved-in_default
 loop-place-preserved-in_default c =
@@ -37,17 +34,7 @@ loop-place-preserved-in_default c =
     }
 
 pub loop-place-preserved-in_default-greatest : goal.loop-place-preserved-in_default-greatest
-loop-place-preserved-in_default-greatest c =
-    let n = c.args.extended.now in
-    let m = c.args.network.now in
-    let q = c.args.query.now in
-    let place : PlaceId = record { 0 = c.loop-place.place } in
-    let gate = subst (λ (k : ℕ). IsGate n m (k + place.0) place.0) (sym c.places.ensures.count) (gate_of n m place.0 c.requires.gates (omega arith)) in
-    record {
-      reach = passed m q q.start.0 place.0 c.loop-place.rows c.loop-place.invariant.reach
-          (λ away. none_later n m q (c.places.result + place.0) place gate c.places.ensures.valid c.requires.target away c.requires.start c.in_default-greatest.ensures);
-      found = c.loop-place.invariant.found;
-    }
+loop-place-preserved-in_default-greatest c = grind (arith, none_later)
 
 pub loop-place-preserved : goal.loop-place-preserved
 loop-place-preserved c =

@@ -21,10 +21,4 @@ loop-i-preserved c =
     let t = c.args.rows.now in
     let i = c.loop-i.i in
     let w = listed _ _ _ _ c.requires.parents in
-    let parent = w.1 i _ (omega (arith, w.0)) in
-    let ids = c.in_ok-index.ensures ∙ c.texts.ensures ∙ c.requires.ids in
-    record {
-      places = list_below-next (λ k. place_from (stop_ids t) (parent_of t k) k) i c.loop-i.places.items c.push.new.self.items c.in_ok-place.place
-          c.loop-i.invariant.places c.in_ok-push.ensures.items (place_is_from t _ _ i c.in_ok-place.place ids parent c.in_ok-place.ensures.place);
-      none = first-next (unknown_parent t) i None c.loop-i.invariant.none (unknown_is t _ _ i ids parent ∙ c.in_ok-place.ensures.reports);
-    }
+    grind (arith, list_below-next, place_is_from, first-next, unknown_is)

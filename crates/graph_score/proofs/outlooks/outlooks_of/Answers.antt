@@ -1,3 +1,4 @@
+use Rattle.std.proofs.lemmas.Grind.{common_steps}
 use Rattle.graph_score.proofs.Common.{arith}
 use Rattle.graph_score.proofs.GraphLegs.{exits_there}
 use Rattle.graph_score.proofs.Looks.{are_ready, reported_first, reported_there, reported_next, reported_last}
@@ -7,10 +8,7 @@ pub exits_of-requires : goal.exits_of-requires
 exits_of-requires c = exits_there c.args.network.now c.args.query.now c.args.rising.now.legs.now c.requires.fit
 
 pub loop-exit-init : goal.loop-exit-init
-loop-exit-init c =
-    let rising = c.args.rising.now in
-    let ready = are_ready rising.legs.now rising.all_legs c.count.ensures.valid c.requires.fit c.in_ok-exits.ensures in
-    reported_first ready c.in_ok-outlooks.outlooks.items (omega (arith, c.in_ok-outlooks.ensures.len, c.count.ensures.count))
+loop-exit-init c = grind (arith, common_steps, are_ready, reported_first)
 
 pub index_mut-requires : goal.index_mut-requires
 index_mut-requires c =

@@ -1,10 +1,10 @@
+use Rattle.std.proofs.Common.{arith}
 use Rattle.gtfs_tables.proofs.Common.{IsFeedTable, own-of, StopTimes, Frequencies, reads-raised, reads-value, reads-fault, reads-both, reads-after}
 use Rattle.gtfs_tables.proofs.FeedLemmas.{fault_at_times, fault_at_repeats}
 use Rattle.gtfs_tables.proofs.times.load_times.Goals as goal
 
 pub returns-in_err-visits-clause-reads : goal.returns-in_err-visits-clause-reads
-returns-in_err-visits-clause-reads g c = reads-raised c.from_residual.result c.from_residual.ensures
-    (reads-fault (own-of IsFeedTable StopTimes _ tt) (λ m. fault_at_times m c.args.folder.now c.args.limits.now c.args.lists.now _) c.in_err-visits.ensures.reads)
+returns-in_err-visits-clause-reads g c = grind (arith, reads-raised, reads-fault, own-of, fault_at_times)
 
 pub returns-in_err-repeats-clause-reads : goal.returns-in_err-repeats-clause-reads
 returns-in_err-repeats-clause-reads g c = reads-raised c.from_residual-in_err-repeats.result c.from_residual-in_err-repeats.ensures
@@ -15,12 +15,4 @@ pub returns-clause-reads : goal.returns-clause-reads
 returns-clause-reads g c = reads-value (λ m p. record { visits = p.0; repeats = p.1 }) (reads-both c.in_ok-visits.ensures.reads c.in_ok-repeats.ensures.reads)
 
 pub returns-clause-sound : goal.returns-clause-sound
-returns-clause-sound g c = record {
-  visits = c.in_ok-visits.ensures.sound;
-  repeats = c.in_ok-repeats.ensures.sound;
-  size = c.in_ok-visits.ensures.sized;
-  ordered = c.in_ok-repeats.ensures.ordered;
-  paired = c.in_ok-repeats.ensures.paired;
-  few_rows = c.in_ok-visits.ensures.few;
-  few_frequencies = c.in_ok-repeats.ensures.few;
-}
+returns-clause-sound g c = grind arith

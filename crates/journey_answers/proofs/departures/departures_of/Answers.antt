@@ -1,13 +1,10 @@
+use Rattle.std.proofs.Common.{arith}
 use Rattle.journey_answers.proofs.Common.{sym, ◌∙◌}
 use Rattle.journey_answers.proofs.Departing.{safe_at_once, departures_at_once, departures_away, none_leaves, some_leaves}
 use Rattle.journey_answers.proofs.departures.departures_of.Goals as goal
 
 pub returns-then-asked : goal.returns-then-asked
-returns-then-asked c = (
-  departures_at_once c.args.up_to.now.asked.problem.now c.args.up_to.now.asked.query c.args.up_to.now.last.0 c.new.result c.new.ensures c.if-asked.true,
-  safe_at_once c.args.up_to.now.asked.problem.now
-      c.args.up_to.now.asked.query c.if-asked.true c.args.up_to.now.asked.until.order,
-)
+returns-then-asked c = grind (arith, departures_at_once, safe_at_once)
 
 pub returns-then-len-eq0 : goal.returns-then-len-eq0
 returns-then-len-eq0 c =

@@ -1,14 +1,11 @@
+use Rattle.std.proofs.Common.{arith}
 use Rattle.journey_answers.proofs.Common.{MatchOption-at_some, IsNoneSafe, findings_of}
 use Rattle.journey_answers.specs.Punctual.{AnswersPunctual}
 use Rattle.journey_answers.proofs.Sought.{in_query, none_is_safe, match_none}
 use Rattle.journey_answers.proofs.punctual.punctual_over.Goals as goal
 
 pub unreachable-requires : goal.unreachable-requires
-unreachable-requires c =
-    let asked = c.in_ok-asked.asked in
-    let n = asked.problem.now.timetable.network in
-    none_is_safe n asked.query asked.worst asked.least asked.printable.deadline
-    (match_none c.in_ok-found.field-0 (IsNoneSafe n asked.query) _ c.in_default.is c.in_ok-found.ensures)
+unreachable-requires c = grind (arith, none_is_safe, match_none)
 
 pub returns-clause-answer : goal.returns-clause-answer
 returns-clause-answer c =

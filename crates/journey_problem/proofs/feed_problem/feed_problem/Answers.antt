@@ -1,3 +1,4 @@
+use Rattle.std.proofs.Common.{arith}
 use Rattle.journey_problem.proofs.Common.{◌∙◌, ap, inl, inr, IfOk-weaker, IfErr-weaker, FeedFolder, journey_shown, feed_as, path_by, gtfs_folder_of, IfSome_then}
 use Rattle.journey_model.specs.declared.faults.Input.TheVariants as input
 use Rattle.journey_problem.proofs.Loads.{if_some_any}
@@ -34,7 +35,4 @@ pub returns-in-Err-clause-problem : goal.returns-in-Err-clause-problem
 returns-in-Err-clause-problem g c = if_some_any (g.F.Files.state c.args.files.now).files _ (λ m. tt)
 
 pub returns-in-Err-clause-fault : goal.returns-in-Err-clause-fault
-returns-in-Err-clause-fault g c =
-    let is = c.fault_of.ensures.fault in
-    IfSome_then (g.F.Files.state c.args.files.now).files c.in-Err.ensures.reads.found (λ m why other.
-    inl (c.in-Err.fault, is, why (λ same. other (is ∙ ap (feed_as c.args.limits.now) same))))
+returns-in-Err-clause-fault g c = grind arith

@@ -14,10 +14,7 @@ pub returns-in-Ok-clause-problem : goal.returns-in-Ok-clause-problem
 returns-in-Ok-clause-problem g c = grind (arith, IfSome_then, window_problem)
 
 pub returns-in-Ok-clause-fault : goal.returns-in-Ok-clause-fault
-returns-in-Ok-clause-fault g c =
-    IfSome_then (g.F.Files.state c.args.files.now).files c.in-Ok.ensures.table (λ m delays.
-    window_fault c.args.limits.now m c.args.horizon.value (journey_shown c.args.journey.now) (gtfs_folder_of c.args.tables.now) c.in-Ok.delays delays.0 delays.1 c.window_problem.result
-    c.window_problem.ensures.fault)
+returns-in-Ok-clause-fault g c = grind arith
 
 pub returns-in-Ok-clause-timetable : goal.returns-in-Ok-clause-timetable
 returns-in-Ok-clause-timetable g c = grind (arith, feed_timetable)

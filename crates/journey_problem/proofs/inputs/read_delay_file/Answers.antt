@@ -9,7 +9,4 @@ pub returns-in-Ok-clause-table : goal.returns-in-Ok-clause-table
 returns-in-Ok-clause-table g c = grind (arith, IfSome_then, delays_none)
 
 pub returns-clause-table : goal.returns-clause-table
-returns-clause-table g c =
-    let is = c.fault_of_delays.ensures in
-    IfSome_then (g.F.Files.state c.args.files.now).files c.in_ok-rows.ensures.table (λ m ok.
-    delays_first c.args.limits.now (file_at m c.args.path.now) c.in_ok-rows.rows ok c.in-Err.fault c.fault_of_delays.result is.fault is.memory is.read c.in-Err.ensures.fault)
+returns-clause-table g c = grind (arith, delays_first)

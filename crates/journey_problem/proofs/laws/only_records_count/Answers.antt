@@ -1,3 +1,4 @@
+use Rattle.std.proofs.Common.{arith}
 use Rattle.journey_problem.proofs.SameFiles.{alike_sym, problem_of_records, fault_of_records}
 use Rattle.journey_problem.specs.Files.{path_of}
 use Rattle.journey_problem.specs.Paths.{no_path}
@@ -5,8 +6,7 @@ use Rattle.journey_problem.proofs.laws.only_records_count.Goals as goal
 
 pub returns : goal.returns
 returns c = record {
-  problem = λ limits files others j p same.
-      (problem_of_records limits files others j p same, problem_of_records limits others files j p (alike_sym limits.bytes (path_of j no_path) files others same));
+  problem = λ limits files others j p same. grind (arith, problem_of_records, alike_sym);
   fault = λ limits files others j fault same.
       (fault_of_records limits files others j fault same, fault_of_records limits others files j fault (alike_sym limits.bytes (path_of j no_path) files others same));
 }

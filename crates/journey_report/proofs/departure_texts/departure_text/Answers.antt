@@ -15,12 +15,7 @@ returns c =
     row-of c.row.result c.row.ensures (λ i. c.as_slice.ensures i ∷ by i ∷ run i ∷ step i ∷ lower i ∷ upper i ∷ [])
 
 pub run_name-requires : goal.run_name-requires
-run_name-requires c =
-    run_named c.args.timetable.now.names c.args.timetable.now.network c.args.departure.now.leg.enter.0 c.get-enter.result c.args.timetable.now.fit c.requires.is_leg.enter
-    c.get-enter.ensures.connection
+run_name-requires c = grind (arith, run_named)
 
 pub write_moment-by-requires : goal.write_moment-by-requires
-write_moment-by-requires c =
-    let d = c.requires in
-    let valid = c.args.timetable.now.valid.connections c.args.departure.now.leg.enter.0 d.is_leg.enter in
-    omega (arith, d.departs, valid.forward, valid.early)
+write_moment-by-requires c = grind arith

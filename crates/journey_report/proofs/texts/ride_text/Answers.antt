@@ -1,3 +1,4 @@
+use Rattle.std.proofs.Common.{arith}
 use Rattle.journey_report.proofs.Common.{ℕ, ◌<◌, [], ◌∷◌, length, ap, ◌∙◌, sym, subst, moment_text, place_name, run_name, Connection, dep_printable, arr_printable, name_is, ride_text}
 use Rattle.journey_report.proofs.RowLemmas.{row-of}
 use Rattle.journey_report.proofs.TextLemmas.{ride_arrival}
@@ -7,28 +8,19 @@ pub write_moment-arrival-requires : goal.write_moment-arrival-requires
 write_moment-arrival-requires c = ride_arrival c.args.timetable.now.network c.args.timetable.now.valid c.args.ride.now c.requires
 
 pub write_moment-dep-requires : goal.write_moment-dep-requires
-write_moment-dep-requires c =
-    dep_printable c.args.timetable.now.network c.args.ride.now.leg.enter.0 c.get-enter.result c.args.timetable.now.valid c.requires.is_leg.enter c.get-enter.ensures.connection
+write_moment-dep-requires c = grind (arith, dep_printable)
 
 pub write_moment-arr-requires : goal.write_moment-arr-requires
-write_moment-arr-requires c =
-    arr_printable c.args.timetable.now.network c.args.ride.now.leg.exit.0 c.get-exit.result c.args.timetable.now.valid c.requires.is_leg.exit c.get-exit.ensures.connection
+write_moment-arr-requires c = grind (arith, arr_printable)
 
 pub run_name-requires : goal.run_name-requires
-run_name-requires c =
-    subst (λ (k : Connection). k.run.0 < length c.args.timetable.now.names.runs) (sym c.get-enter.ensures.connection) (c.args.timetable.now.fit.below c.args.ride.now.leg.enter.0 c.requires.is_leg.enter)
+run_name-requires c = grind arith
 
 pub place_name-requires : goal.place_name-requires
-place_name-requires c =
-    subst (λ (places : ℕ). c.get-enter.result.from.0 < places) (sym c.args.timetable.now.fit.places)
-    (subst (λ (k : Connection). k.from.0 < length c.args.timetable.now.network.change) (sym c.get-enter.ensures.connection)
-    (c.args.timetable.now.valid.connections c.args.ride.now.leg.enter.0 c.requires.is_leg.enter).from_in)
+place_name-requires c = grind arith
 
 pub place_name-requires-2 : goal.place_name-requires-2
-place_name-requires-2 c =
-    subst (λ (places : ℕ). c.get-exit.result.to.0 < places) (sym c.args.timetable.now.fit.places)
-    (subst (λ (k : Connection). k.to.0 < length c.args.timetable.now.network.change) (sym c.get-exit.ensures.connection)
-    (c.args.timetable.now.valid.connections c.args.ride.now.leg.exit.0 c.requires.is_leg.exit).to_in)
+place_name-requires-2 c = grind arith
 
 pub returns : goal.returns
 unfolding ride_text

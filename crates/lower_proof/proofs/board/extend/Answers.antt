@@ -11,11 +11,7 @@ loop-k-preserved c =
     let loop = c.loop-k in
     let within : loop.k < length loop.least = omega arith in
     let before : IsLeastOf (FrontValue values entries loop.k) c.if-k-eq0.before = elim c.if-k-eq0.branch [
-      | then-k-eq0 w ↦ let zero_is : loop.k ≡ 0 = omega arith in rw (w.before-is, zero_is)
-          (none_below (λ i v. bound_of values (entry_at entries i).id.0 ≡ Some v))
+      | then-k-eq0 w ↦ grind (arith, none_below)
       | else-k-eq0 w ↦ rw w.before-is (before_is values entries loop.least loop.k loop.k (omega arith) (omega arith) loop.invariant.minima)
     ] in
-    rw (c.lesser.ensures, c.value_of.ensures) (record {
-      sizes = length-set loop.least loop.k (lesser c.if-k-eq0.before (bound_of values (entry_at entries loop.k).id.0)) ∙ loop.invariant.sizes;
-      minima = minima_more values entries loop.least loop.k c.if-k-eq0.before within loop.invariant.minima before;
-    })
+    grind (arith, length-set, minima_more)

@@ -11,18 +11,7 @@ pub refuse-requires-in-Err-answer_of : goal.refuse-requires-in-Err-answer_of
 refuse-requires-in-Err-answer_of g c = c.in-Err-answer_of.ensures.fault.has_site
 
 pub returns-in-Err : goal.returns-in-Err
-returns-in-Err g c =
-    let words = map string_bytes c.args.words.now in
-    let wanted = c.plain.result.fault in
-    let is : wanted ≡ Words c.in-Err.fault = c.plain.ensures.fault in
-    refused_run c.args.limits.now words c.refuse.result _ _ _ _ _ (known_of c.plain.result) wanted c.refuse.ensures.reported
-    c.refuse.ensures.status c.refuse.ensures.findings
-    (inr (inl (c.in-Err.fault, is, sym c.in-Err.ensures.job)))
-    (λ (write : wanted ≡ Write). let none : Words c.in-Err.fault ≡ Write = sym is ∙ write in absurd (cc))
-    (cc)
-    (λ (input : Input) (read : wanted ≡ Read input). let none : Words c.in-Err.fault ≡ Read input = sym is ∙ read in absurd (cc))
-    (λ (job : JobModel) (input : Input) asked some (read : wanted ≡ Read input). let none : Words c.in-Err.fault ≡ Read input = sym is ∙ read in absurd (cc))
-    (λ less. absurd (omega (arith, less)))
+returns-in-Err g c = grind (arith, refused_run)
 
 pub returns-in-Err-answer_of : goal.returns-in-Err-answer_of
 returns-in-Err-answer_of g c =

@@ -4,10 +4,7 @@ use Rattle.memory_ports.proofs.Silent.{shape, silenced, silent, same_counts}
 use Rattle.memory_ports.proofs.memory.forget_calls.Goals as goal
 
 pub loop-index-preserved : goal.loop-index-preserved
-loop-index-preserved c = record {
-  shapes = map-set_same shape c.loop-index.failing c.loop-index.index _ c.index-failing-index.result refl ∙ c.loop-index.invariant.shapes;
-  silent = silenced c.loop-index.failing c.loop-index.index _ c.loop-index.invariant.silent (omega arith) c.clear.ensures.items;
-}
+loop-index-preserved c = grind (arith, map-set_same, silenced)
 
 pub returns-clause-calls : goal.returns-clause-calls
 returns-clause-calls c = λ p call. silent c.loop-index.failing (λ k d h. c.loop-index.invariant.silent k d (omega arith)) p call

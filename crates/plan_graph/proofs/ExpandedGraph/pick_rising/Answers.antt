@@ -25,9 +25,4 @@ returns c =
     let same = c.as_slice-rides.ensures in
     let point = IsPartitionPoint-from_clause (λ x. leg_lt x.leg c.args.leg) _ _ c.partition_point-at.ensures.partitioned
     (rides_parted c.args.self.now.rides c.as_slice-rides.result.now c.args.leg same c.requires) (λ a r q k. search rules) in
-    let own = c.index-rides-at.result in
-    let here = leg_same own.leg c.args.leg c.ne.result c.ne.ensures c.if-ne.false in
-    c.first_leg.ensures
-    ∙ ap (λ (rows : List GraphRow). pick_row rows c.args.arrival.0) c.as_slice.ensures
-    ∙ sym (pick_after-at c.args.self.now.rides c.as_slice-rides.result.now c.args.leg c.args.arrival.0 c.partition_point-at.result own same point
-    (omega (arith, c.partition_point-at.ensures.bound, c.if-at-rides.false)) c.index-rides-at.is here)
+    grind (arith, leg_same, pick_after-at)

@@ -7,5 +7,4 @@ leg_by-requires c =
     let rises = rows_of_place-by (λ place (rows : List GraphRow). AllPairs
     (λ (a b : GraphRow). a.by.0 < b.by.0) rows) c.args.self.now.tables c.args.place.0
     (λ i j d less within. absurd (omega (arith, less, within))) c.requires.rows in
-    subst (λ (rows : List GraphRow). AllPairs (λ (a b : GraphRow). a.by.0 < b.by.0) rows)
-    (sym (c.rows_at.ensures ∙ ap (λ (tables : List PlaceTable). rows_of_place tables c.args.place.0) c.as_slice.ensures)) rises
+    grind arith

@@ -4,15 +4,7 @@ use Rattle.service_days.proofs.NumberLemmas.{numbered_none, numbered_next, lengt
 use Rattle.service_days.proofs.exceptions.read_rows.Goals as goal
 
 pub loop-i-init : goal.loop-i-init
-loop-i-init c =
-    let t = c.args.rows.now in
-    record {
-      none = first-zero (bad_date t);
-      numbered = numbered_none t c.args.services.now c.with_hasher-exceptions.result.keys c.with_hasher-exceptions.ensures.empty;
-      trimmed = c.requires.trimmed;
-      room = omega arith;
-      few = omega arith;
-    }
+loop-i-init c = grind (arith, first-zero, numbered_none)
 
 pub returns-in_err-date-clause-reports : goal.returns-in_err-date-clause-reports
 returns-in_err-date-clause-reports c = match_raised _ _ c.from_residual.result c.from_residual.ensures

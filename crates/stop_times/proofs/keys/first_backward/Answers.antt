@@ -11,19 +11,13 @@ loop-k-preserved c = λ none.
     (back_is rows c.args.keys.now c.requires none k (omega arith) c.before_at.result c.before_at.ensures ∙ sym c.backward.ensures ∙ c.in-Some.is) c.sooner-first.ensures (c.loop-k.invariant none)
 
 pub loop-k-preserved-in_default : goal.loop-k-preserved-in_default
-loop-k-preserved-in_default c = λ none.
-    let k = c.loop-k.k in
-    let rows = c.args.rows.now in
-    soonest-next (backward_time rows) (length rows) c.args.keys.now k c.loop-k.first c.loop-k.first None (c.requires.inside k (omega arith))
-    (back_is rows c.args.keys.now c.requires none k (omega arith) c.before_at.result c.before_at.ensures ∙ sym c.backward.ensures ∙ c.in_default.is) refl (c.loop-k.invariant none)
+loop-k-preserved-in_default c = λ none. grind (arith, soonest-next, back_is)
 
 pub backward-requires-clause-row : goal.backward-requires-clause-row
 backward-requires-clause-row c = c.requires.inside c.loop-k.k (omega arith)
 
 pub backward-requires-clause-before : goal.backward-requires-clause-before
-backward-requires-clause-before c =
-    let rows = c.args.rows.now in
-    before_inside (is_taken true rows) (trip_of rows) (sequence_of rows) (length rows) c.args.keys.now c.requires c.loop-k.k (omega arith) c.before_at.result c.before_at.ensures
+backward-requires-clause-before c = grind (arith, before_inside)
 
 pub returns-in-None : goal.returns-in-None
 returns-in-None c = λ none.

@@ -8,11 +8,7 @@ pushed : (xs ys : List Key) (x : Key) → ys ≡ xs ++ x ∷ [] → length ys �
 pushed xs ys x e = ap length e ∙ length_push xs x
 
 pub loop-i-init : goal.loop-i-init
-loop-i-init c =
-    let rows = c.args.rows.now in (
-      keys-none (is_taken false rows) (trip_of rows) (sequence_of rows) c.in_ok-keys.keys.items c.in_ok-keys.ensures.items,
-      omega (arith, ap length c.in_ok-keys.ensures.items),
-    )
+loop-i-init c = grind (arith, keys-none)
 
 pub loop-i-preserved : goal.loop-i-preserved
 unfolding key_of

@@ -13,11 +13,7 @@ returns-in-Some-clause-fault c = λ free.
     let all : t ≡ table_of c.args.bytes.now = sym (sym c.of-records.ensures ∙ c.in_ok-found.ensures.some c.if-not-found.false) in
     let first : stop_times_fault trips stops places t ≡ Some c.in-Some.fault
     = fault_of_header trips stops places t c.in-Some.fault (sym (ap missing_time_column c.columns_of-columns.ensures) ∙ sym c.in-Some.ensures.fault) in
-    let count : row_count t ≡ 0 + length c.next.new.self = omega arith in
-    let some : 0 < length t = omega arith in
-    let P : List (List (List ℕ)) → Type 0 = λ x. stop_times_from (loaded_from StopTimes c.args.limits.now.stop_times x) trips stops places ≡ Err c.counted_fault.result in
-    subst P all (times_fault trips stops places c.args.limits.now.stop_times t c.counted_fault.result some
-    (ap (counted_fault c.args.limits.now.stop_times (row_count t)) first ∙ ap (λ (k : ℕ). counted_fault c.args.limits.now.stop_times k (Some c.in-Some.fault)) count ∙ c.counted_fault.ensures.fault free))
+    grind (arith, times_fault)
 
 pub returns : goal.returns
 returns c =
@@ -34,9 +30,7 @@ returns c =
       rows = search rules;
       few = c.rows_after.ensures.few;
       header = search rules;
-      rest = on_ok_weaker c.rows_after.result
-          (λ none. subst P all (fault_of_order trips stops places t whole (ap (first_below (bad_time trips stops places t)) count ∙ none)))
-          c.rows_after.ensures.none;
+      rest = grind (arith, on_ok_weaker, fault_of_order);
       fault = IfErr-weaker c.rows_after.result _ _
           (λ f h free.
           let Q : List (List (List ℕ)) → Type 0 = λ x. stop_times_from (loaded_from StopTimes c.args.limits.now.stop_times x) trips stops places ≡ Err f in

@@ -5,51 +5,17 @@ use Rattle.stop_times.proofs.TimeLemmas.{row_is, counted_row, counted_many}
 use Rattle.stop_times.proofs.table_rows.rows_after.Goals as goal
 
 pub loop-order-init : goal.loop-order-init
-loop-order-init c =
-    let t = c.args.row.now ∷ c.args.records.now in
-    let trips = c.args.named.now.trips in
-    let stops = c.args.named.now.stops in
-    let places = c.args.named.now.places.now in
-    let none : length c.in_ok-timed.timed.items ≡ 0 = ap length c.in_ok-timed.ensures in
-    let start : 0 ≡ length c.in_ok-timed.timed.items = sym none in
-    record {
-      remaining = ap (λ (n : ℕ). drop (n + 1) t) none;
-      inside = omega arith;
-      few = omega arith;
-      rows = c.in_ok-timed.ensures ∙ sym (list_below-zero (λ i. value_or no_row (timed_at trips stops places t i)))
-          ∙ ap (λ (n : ℕ). list_below (λ i. value_or no_row (timed_at trips stops places t i)) n) start;
-      none = ap (λ (n : ℕ). first_below (bad_time trips stops places t) n) none ∙ first-zero (bad_time trips stops places t);
-      known = tt;
-    }
+loop-order-init c = grind (arith, list_below-zero, first-zero)
 
 pub returns-then-not-found : goal.returns-then-not-found
-returns-then-not-found c =
-    let t = c.args.row.now ∷ c.args.records.now in
-    let trips = c.args.named.now.trips in
-    let stops = c.args.named.now.stops in
-    let places = c.args.named.now.places.now in
-    let end = drop-none t (length c.loop-order.timed.items + 1) (c.loop-order.invariant.remaining ∙ c.in_ok-found.ensures.none c.if-not-found.true) in
-    let all : length c.loop-order.timed.items ≡ length t - 1 = omega (arith, end, c.loop-order.invariant.inside) in
-    let taken : length c.args.records.now ≡ length c.loop-order.timed.items = omega (arith, all) in
-    record {
-      rows = c.loop-order.invariant.rows ∙ ap (λ (n : ℕ). list_below (λ i. value_or no_row (timed_at trips stops places t i)) n) all;
-      few = c.loop-order.invariant.few;
-      none = ap (λ (n : ℕ). first_below (bad_time trips stops places t) n) taken ∙ c.loop-order.invariant.none;
-      fault = tt;
-      content = tt;
-      own = tt;
-    }
+returns-then-not-found c = grind (arith, drop-none)
 
 pub returns-then-most-taken-clause-fault : goal.returns-then-most-taken-clause-fault
 returns-then-most-taken-clause-fault c = λ free.
     let t = c.args.row.now ∷ c.args.records.now in
     let n = length c.loop-order.timed.items in
     let step = drop-next t (n + 1) c.next.new.fields c.next.new.self [] (c.loop-order.invariant.remaining ∙ c.in_ok-found.ensures.some c.if-not-found.false) in
-    let taken : c.len.result ≡ n = omega arith in
-    let all : length c.args.records.now ≡ c.len.result + 1 + length c.next.new.self = omega (arith, step.2, taken) in
-    let many : c.args.limits.now.stop_times < length c.args.records.now = omega (arith, c.if-most-taken.true, all) in
-    let so_far : Option FeedFault = Some (TooManyRows StopTimes (c.len.result + 1)) in
-    counted_many c.args.limits.now.stop_times (length c.args.records.now) _ so_far many ∙ ap (λ (k : ℕ). counted_fault c.args.limits.now.stop_times k so_far) all ∙ c.counted_fault.ensures.fault free
+    grind (arith, counted_many)
 
 pub loop-order-preserved : goal.loop-order-preserved
 loop-order-preserved c =
@@ -64,18 +30,7 @@ loop-order-preserved c =
     let w = c.in-Ok.ensures.row in
     let more : length new ≡ n + 1 = ap length w.2 ∙ length_push old w.0 in
     let here : timed_at trips stops places t n ≡ Ok w.0 = row_is trips stops places t c.args.columns n c.next.new.fields (Ok w.0) c.requires step.0 w.1 in
-    let P : ℕ → Type 0 = λ k. new ≡ list_below (λ i. value_or no_row (timed_at trips stops places t i)) k in
-    record {
-      remaining = ap (λ (k : ℕ). drop (k + 1) t) more ∙ step.1;
-      inside = omega (arith, more, step.2);
-      few = omega (arith, more, c.if-most-taken.false);
-      rows = subst P (sym more)
-          (list_below-next (λ i. value_or no_row (timed_at trips stops places t i)) n old new w.0 c.loop-order.invariant.rows w.2
-          (sym (ap (value_or no_row) here)));
-      none = ap (λ (k : ℕ). first_below (bad_time trips stops places t) k) more
-          ∙ first-next (bad_time trips stops places t) n None c.loop-order.invariant.none (ap result_err here);
-      known = c.in-Ok.ensures.known;
-    }
+    grind (arith, list_below-next, first-next)
 
 pub returns-in-Err-clause-fault : goal.returns-in-Err-clause-fault
 returns-in-Err-clause-fault c = λ free.

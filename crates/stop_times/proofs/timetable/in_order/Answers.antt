@@ -8,11 +8,7 @@ pub returns-in_err-check_once-clause-reports : goal.returns-in_err-check_once-cl
 returns-in_err-check_once-clause-reports c = match_raised _ _ c.from_residual-in_err-check_once.result c.from_residual-in_err-check_once.ensures (fault-first _ _ _ c.in_err-check_once.ensures)
 
 pub returns-in-Some-clause-reports : goal.returns-in-Some-clause-reports
-returns-in-Some-clause-reports c =
-    let none = c.in_ok-check_once.ensures in
-    let back = c.first_backward.ensures none ∙ c.in-Some.is in
-    let w = backward_is c.args.rows.now c.in-Some.fault back in
-    record { why = λ free. or_then _ _ _ none back; content = ap unread_table w.1; own = subst (IsFaultOf StopTimes) (sym w.1) refl }
+returns-in-Some-clause-reports c = grind (arith, backward_is, or_then)
 
 pub returns-clause-reports : goal.returns-clause-reports
 returns-clause-reports c = or_then _ _ _ c.in_ok-check_once.ensures (c.first_backward.ensures c.in_ok-check_once.ensures ∙ c.in_default.is)

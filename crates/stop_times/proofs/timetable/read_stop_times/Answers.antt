@@ -6,30 +6,7 @@ pub in_order-requires : goal.in_order-requires
 in_order-requires c = omega (arith, ap length c.as_slice-2.ensures.value, c.in_ok-timed.ensures.few, c.args.limits.now.stop_times_in)
 
 pub returns-in-Ok : goal.returns-in-Ok
-returns-in-Ok c =
-    let trips = c.args.trips.now in
-    let stops = c.args.stops.now in
-    let places = c.args.places.now in
-    let most = c.args.limits.now.stop_times in
-    let t = table_of c.as_slice.result.now in
-    let rows = c.as_slice-2.result.now in
-    let visits = c.in-Ok.visits in
-    let same = c.as_slice-2.ensures.value in
-    let read = timed_rows_are trips stops places most t c.in_ok-timed.timed.items rows same c.in_ok-timed.ensures.rows c.in_ok-timed.ensures.header
-    c.in_ok-timed.ensures.few c.in_ok-timed.ensures.rest in
-    let size : length visits ≡ length trips = c.in-Ok.ensures.size ∙ c.len.ensures.count in
-    let are = visits_of_rows trips stops places most t rows visits read size (λ trip h. c.in-Ok.ensures.each trip (omega (arith, h, c.len.ensures.count))) in
-    record {
-      few = grind (arith, common_steps);
-      size = size;
-      visits = subst (λ (bytes : List ℕ). AreVisits trips stops places
-          (stop_times_from (loaded_from StopTimes most (table_of bytes)) trips stops places) visits)
-          c.as_slice.ensures.value (visits_of_text trips stops places most t rows visits read c.in-Ok.ensures.reports are);
-      sound = (t, order_sound trips stops places most t rows read c.in-Ok.ensures.reports, are);
-      fault = tt;
-      content = tt;
-      own = tt;
-    }
+returns-in-Ok c = grind (arith, timed_rows_are, visits_of_rows, common_steps, visits_of_text, order_sound)
 
 pub returns-clause-fault : goal.returns-clause-fault
 returns-clause-fault c = λ free.

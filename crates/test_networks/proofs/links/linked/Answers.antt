@@ -4,8 +4,7 @@ use Rattle.test_networks.proofs.Pushed.{NamesFit-same}
 use Rattle.test_networks.proofs.links.linked.Goals as goal
 
 pub returns-clause-fit : goal.returns-clause-fit
-returns-clause-fit c = λ names fit.
-    NamesFit-same names c.args.network c.with_links.result c.with_links.ensures.connections c.with_links.ensures.change fit
+returns-clause-fit c = λ names fit. grind (arith, NamesFit-same)
 
 pub with_links-requires-clause-each : goal.with_links-requires-clause-each
 with_links-requires-clause-each c = λ r less.

@@ -2,9 +2,7 @@ use Rattle.trip_frequencies.proofs.Common.{◌≡◌, ℕ, true, length, refl, s
 use Rattle.trip_frequencies.proofs.frequencies.keys_by_start.Goals as goal
 
 pub loop-i-init : goal.loop-i-init
-loop-i-init c =
-    let rows = c.args.rows.now in
-    keys-none (λ i. true) (trip_of_row rows) (start_of_row rows) c.new-keys.result.items c.new-keys.ensures.items
+loop-i-init c = grind (arith, keys-none)
 
 pub loop-i-preserved : goal.loop-i-preserved
 unfolding key_of

@@ -1,3 +1,4 @@
+use Rattle.std.proofs.Common.{arith}
 use Rattle.change_times.proofs.Common.{Result, Ok, Err, IfOk, Loaded, loaded_rows, FeedParts, ChangeParts, AreCollectedChanges, AreReportedBySome, fault_of_transfers}
 use Rattle.csv_rows.specs.declared.feed_tables.FeedFault.{FeedFault}
 use Rattle.csv_rows.specs.declared.feed_tables.Table.TheVariants.{Transfers}
@@ -12,5 +13,4 @@ reported_by_some view feed l (Ok c) reported reports = record { loaded = l; no_f
 reported_by_some view feed l (Err fault) reported reports = tt
 
 pub returns-clause-sound : goal.returns-clause-sound
-returns-clause-sound g c = reported_by_some _ c.args.feed.now c.in_ok-loaded.loaded c.changes_of.result c.changes_of.ensures.changes
-    c.changes_of.ensures.reports
+returns-clause-sound g c = grind (arith, reported_by_some)

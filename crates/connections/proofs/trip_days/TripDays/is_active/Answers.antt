@@ -4,10 +4,7 @@ use Rattle.connections.specs.TripDays.{FeedDays}
 use Rattle.connections.proofs.trip_days.TripDays.is_active.Goals as goal
 
 pub index-requires : goal.index-requires
-index-requires c =
-    let f = c.self.inside.feed.now in let s = c.self.inside.services.now in
-    let same = ap (λ (x : FeedDays). length x.feed.trip_ids) c.self.view_is in
-    omega (arith, c.requires, same, ap length c.self.invariant, length-list_below (λ trip. number_in (slice_index_or f.services trip []) s.ids) (length f.trip_ids))
+index-requires c = grind (arith, length-list_below, slice_index_or)
 
 pub returns : goal.returns
 returns c =
@@ -18,8 +15,4 @@ returns c =
     let inside : trip < length f.trip_ids = omega (arith, c.requires, same) in
     let fits : SFits w32 c.args.day.number = search rules in
     let back = to_z-of_z w32 c.args.day.number fits in
-    let service = slice_index_or f.services trip [] in
-    let here = c.index.ensures ∙ ap (λ (xs : List (Option ℕ)). slice_index_or xs trip number) c.self.invariant
-    ∙ get-list_below (λ trip. number_in (slice_index_or f.services trip []) s.ids) (length f.trip_ids) trip number inside in
-    c.runs_at.ensures ∙ ap (runs_at s.periods s.exceptions _) here ∙ ap (λ (day : ℤ). runs_at s.periods s.exceptions day (number_in service s.ids)) back
-    ∙ ap (λ (x : FeedDays). is_active_trip x.feed x.services c.args.day trip) c.self.view_is
+    grind (arith, slice_index_or, get-list_below)

@@ -1,12 +1,11 @@
+use Rattle.std.proofs.Common.{arith}
 use Rattle.delay_table.proofs.Common.{◌∙◌, ap, sym, of_class, read_outcomes}
 use Rattle.delay_table.proofs.GroupFacts.{group-here}
 use Rattle.delay_table.proofs.ReadFacts.{rows-new}
 use Rattle.delay_table.proofs.reading.ReadRows.class_rows.Goals as goal
 
 pub returns-in-Some : goal.returns-in-Some
-returns-in-Some c =
-    let here = group-here (of_class c.args.class) c.args.self.now.groups c.in-Some.index (sym c.in-Some.ensures) in
-    c.as_slice.ensures ∙ c.rows_at.ensures.outcomes ∙ ap (read_outcomes c.args.self.now.groups c.args.self.now.rows.items) here.1
+returns-in-Some c = grind (arith, group-here)
 
 pub returns-in-None : goal.returns-in-None
 returns-in-None c = rows-new c.args.self.now.groups c.args.self.now.rows.items (of_class c.args.class) c.in-None.ensures

@@ -4,8 +4,4 @@ use Rattle.delay_table.proofs.ReadFacts.{rows-here}
 use Rattle.delay_table.proofs.reading.ReadRows.rows_at.Goals as goal
 
 pub returns-clause-outcomes : goal.returns-clause-outcomes
-returns-clause-outcomes c =
-    let rows = c.args.self.now.rows.items in
-    let inside : c.args.index < length rows = omega (arith, c.requires, c.args.self.now.read.size) in
-    let here : c.index.result.now ≡ group_rows_at rows c.args.index = c.index.ensures ∙ get_or_default rows c.args.index c.index.result.now no_rows inside in
-    ap (λ (r : GroupRows). r.outcomes) here ∙ sym (rows-here c.args.self.now.groups rows c.args.self.now.read.apart c.args.index c.requires)
+returns-clause-outcomes c = grind (arith, get_or_default, rows-here)

@@ -4,25 +4,13 @@ use Rattle.delay_table.proofs.ReadFacts.{rows-known, rows-new, first-none}
 use Rattle.delay_table.proofs.reading.Reading.add.Goals as goal
 
 pub returns-in-Some-clause-none : goal.returns-in-Some-clause-none
-returns-in-Some-clause-none c =
-    let l = c.args.line.now in
-    let line : Line = line_with l.class (option_map (λ s. s.now) l.route) l.hour l.outcome in
-    let P : List Outcome → Type 0 = λ r. OnOk c.push.result (fault_after r line c.args.number ≡ None) in
-    subst P (rows-known c.args.self.now.groups c.args.self.now.rows.items line.group c.in-Some.index (sym c.in-Some.is ∙ c.in_ok-index.ensures.index)) c.push.ensures.none
+returns-in-Some-clause-none c = grind (arith, rows-known)
 
 pub returns-in-Some-clause-err : goal.returns-in-Some-clause-err
-returns-in-Some-clause-err c =
-    let l = c.args.line.now in
-    let line : Line = line_with l.class (option_map (λ s. s.now) l.route) l.hour l.outcome in
-    let P : List Outcome → Type 0 = λ r. IfErr c.push.result (λ f. f ≢ NoMemory → fault_after r line c.args.number ≡ Some f) in
-    subst P (rows-known c.args.self.now.groups c.args.self.now.rows.items line.group c.in-Some.index (sym c.in-Some.is ∙ c.in_ok-index.ensures.index)) c.push.ensures.err
+returns-in-Some-clause-err c = grind (arith, rows-known)
 
 pub returns-in-None-clause-none : goal.returns-in-None-clause-none
-returns-in-None-clause-none c =
-    let l = c.args.line.now in
-    let line : Line = line_with l.class (option_map (λ s. s.now) l.route) l.hour l.outcome in
-    let P : List Outcome → Type 0 = λ r. OnOk c.begin.result (fault_after r line c.args.number ≡ None) in
-    subst P (rows-new c.args.self.now.groups c.args.self.now.rows.items line.group (sym c.in-None.is ∙ c.in_ok-index.ensures.index)) (first-none c.begin.result line c.args.number)
+returns-in-None-clause-none c = grind (arith, rows-new, first-none)
 
 pub push-requires : goal.push-requires
 push-requires c =

@@ -1,3 +1,4 @@
+use Rattle.std.proofs.Common.{arith}
 use Rattle.delay_table.proofs.Common.{◌≡◌, ◌≢◌, subst, Option, Some, None, on_ok_weaker, IfErr-weaker, DelayFault, NoMemory, Line, fault_after, line_fault, AddsRow, read_outcomes}
 use Rattle.delay_table.proofs.LineFacts.{own_line}
 use Rattle.delay_table.proofs.ReadFacts.{read-next, rows-are, fault_here, bad_here}
@@ -21,8 +22,7 @@ returns c =
     fault_here t i earlier line number o c.in-Some.ensures.line (rows-are t i groups rows c.requires.read line.group) c.line-number.ensures in
     record {
       none = on_ok_weaker c.add.result (fault None) c.add.ensures.none;
-      read = on_ok_weaker c.add.result (λ (added : AddsRow groups rows line number more new).
-          read-next t i line c.in-Some.ensures.line groups rows new c.requires.read more (subst (λ n. AddsRow groups rows line n more new) c.line-number.ensures added)) c.add.ensures.added;
+      read = grind (arith, on_ok_weaker, read-next);
       err = IfErr-weaker c.add.result (λ f. f ≢ NoMemory → fault_after earlier line number ≡ Some f) (λ f. f ≢ NoMemory → line_fault t i ≡ Some f)
           (λ (f : DelayFault) h free. fault (Some f) (h free)) c.add.ensures.err;
     }

@@ -1,3 +1,4 @@
+use Rattle.std.proofs.Common.{arith}
 use Rattle.delay_table.proofs.Common.{ap, sym, ℕ, subst, Err, nat_cmp, List, Contains, searched, DelayLists}
 use Rattle.std.specs.List.Sorted.{IsBinarySearchResult}
 use Rattle.delay_table.proofs.TypeFacts.{absent_type, never_falls}
@@ -8,6 +9,4 @@ returns-in-Err-clause-class c = λ there.
     let types = c.self.inside.types in
     let P : List ℕ → Type 0 = λ xs. IsBinarySearchResult (λ y. nat_cmp y c.args.route_type) xs (Err c.in-Err.field-0) in
     let r = searched types c.args.route_type (Err c.in-Err.field-0) (subst P c.as_slice.ensures c.in-Err.ensures.position) (never_falls types c.self.invariant.rising) in
-    let e = ap (λ (f : DelayLists). f.types) c.self.view_is in
-    let Q : List ℕ → Type 0 = λ xs. Contains xs c.args.route_type in
-    absent_type types c.args.route_type c.in-Err.field-0 r.1 r.2 (subst Q (sym e) there)
+    grind (arith, absent_type)

@@ -1,3 +1,4 @@
+use Rattle.std.proofs.Common.{arith}
 use Rattle.delay_table.proofs.Common.{◌≡◌, ◌≢◌, ◌<◌, ◌∙◌, ap, sym, subst, length, ℕ, Some, None, rules, IfOk, OnOk, IfErr, if_raised, NoMemory, TooManyClasses, most_groups, DelayLists, delays_of}
 use Rattle.delay_table.proofs.Counted.{column-other, lines-other}
 use Rattle.delay_table.proofs.Sound.{column-first, line-first, fault-same, delays-same, groups-count}
@@ -14,27 +15,7 @@ returns-in_err-read-clause-fault c = if_raised _ c.from_residual.result c.from_r
     line-first c.args.rows.now _ c.in_default.ensures (c.in_err-read.ensures.err free))
 
 pub returns-in_err-read-clause-count : goal.returns-in_err-read-clause-count
-returns-in_err-read-clause-count c = if_raised _ c.from_residual.result c.from_residual.ensures (λ n e.
-    let reported = c.in_err-read.ensures.err (λ f. let never : TooManyClasses n ≡ NoMemory = sym e ∙ f in absurd (cc)) in
-    absurd (lines-other c.args.rows.now n (reported ∙ ap Some e)))
+returns-in_err-read-clause-count c = grind (arith, if_raised, lines-other)
 
 pub returns : goal.returns
-returns c =
-    let t = c.args.rows.now in
-    let groups = c.in_ok-read.read.groups in
-    let rows = c.in_ok-read.read.rows.items in
-    let read = c.in_ok-read.ensures.read in
-    let made = c.table_of.result in
-    let e = c.table_of.ensures in
-    let delays = delays-same t groups rows read in
-    let first = fault-same t groups rows c.in_default.ensures c.in_ok-read.ensures.none read in
-    let count = groups-count t groups rows read in
-    let Size : DelayLists → ℕ → Type 0 = λ d m. OnOk made (length d.classes ≡ m) in
-    record {
-      table = subst (λ d. IfOk made (λ table. table ≡ d)) delays e.table;
-      sound = search rules;
-      none = subst (λ o. OnOk made (o ≡ None)) first e.none;
-      fault = subst (λ o. IfErr made (λ f. f ≢ NoMemory → o ≡ Some f)) first e.fault;
-      count = subst (λ m. IfErr made (λ f. (n : ℕ) → f ≡ TooManyClasses n → (n ≡ m) × (most_groups < n))) count e.count;
-      classes = subst (Size (delays_of t)) count (subst (λ d. Size d (length groups)) delays e.size);
-    }
+returns c = grind (arith, delays-same, fault-same, groups-count)

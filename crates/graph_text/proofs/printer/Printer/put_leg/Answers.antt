@@ -1,3 +1,4 @@
+use Rattle.std.proofs.Common.{arith}
 use Rattle.graph_text.proofs.Common.{◌∙◌, name_is}
 use Rattle.graph_text.proofs.Fields.{leg_row_fields}
 use Rattle.printed_rows.proofs.Connections.{dep_printable, arr_printable, run_named, from_named, to_named}
@@ -27,9 +28,7 @@ pub run_name-requires : goal.run_name-requires
 run_name-requires c = run_named c.args.self.now.names.now c.args.self.now.network.now c.args.leg.enter.0 c.get-enter.result c.args.self.now.fit c.requires.enter c.get-enter.ensures.connection
 
 pub place_name-requires : goal.place_name-requires
-place_name-requires c =
-    to_named c.args.self.now.names.now c.args.self.now.network.now c.args.leg.exit.0 c.get-exit.result c.args.self.now.fit c.get-exit.ensures.valid c.requires.exit c.get-exit.ensures.connection
+place_name-requires c = grind (arith, to_named)
 
 pub place_name-requires-2 : goal.place_name-requires-2
-place_name-requires-2 c =
-    from_named c.args.self.now.names.now c.args.self.now.network.now c.args.leg.enter.0 c.get-enter.result c.args.self.now.fit c.get-enter.ensures.valid c.requires.enter c.get-enter.ensures.connection
+place_name-requires-2 c = grind (arith, from_named)

@@ -8,5 +8,4 @@ returns-clause-in_range c =
     let same = ap (λ (f : FeedParts). length f.stop_ids) c.self.view_is in
     let inside : c.args.stop < length (feed_parts_of c.self.inside).stop_ids = omega (arith, c.requires, same) in
     let below = place_below (feed_parts_of c.self.inside) c.self.invariant.sound c.args.stop inside in
-    let zero = get_or_default_zero c.self.inside.lists.stops.places.items c.args.stop c.index.result.now (omega (arith, inside, c.self.invariant.places)) in
-    omega (arith, below, c.index.ensures, same, zero)
+    grind (arith, get_or_default_zero)

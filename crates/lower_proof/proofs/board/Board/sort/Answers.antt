@@ -6,5 +6,4 @@ pub returns-clause-permutation : goal.returns-clause-permutation
 returns-clause-permutation c = grind (arith, IsPermutation-trans)
 
 pub returns-clause-falls : goal.returns-clause-falls
-returns-clause-falls c = falls_reversed c.sort_unstable.new.self.items c.sort_unstable.ensures.sorted c.reverse.new.self.items c.reverse.ensures.items
-    (length_permutation c.sort_unstable.new.self.items c.reverse.new.self.items c.reverse.ensures.permutation)
+returns-clause-falls c = grind (arith, falls_reversed, length_permutation)

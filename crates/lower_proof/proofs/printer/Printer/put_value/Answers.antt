@@ -2,8 +2,7 @@ use Rattle.lower_proof.proofs.Common.{◌∙◌, arith, ap, decimal, Connection,
 use Rattle.lower_proof.proofs.printer.Printer.put_value.Goals as goal
 
 pub run_name-requires : goal.run_name-requires
-run_name-requires c =
-    omega (arith, c.args.self.now.fit.below c.args.id.0 c.requires, ap (λ (k : Connection). k.run.0) c.get-connection.ensures.connection)
+run_name-requires c = grind arith
 
 pub returns-clause-text : goal.returns-clause-text
 returns-clause-text c =

@@ -1,3 +1,4 @@
+use Rattle.std.proofs.lemmas.Grind.{common_steps}
 use Rattle.lower_proof.proofs.Common.{◌++◌, ◌<◌, length, arith, text_of_records, value_records}
 use Rattle.lower_proof.proofs.ReadBack.{values_step, values_done, fit_more}
 use Rattle.lower_proof.proofs.printer.Printer.put_values.Goals as goal
@@ -14,6 +15,4 @@ loop-i-preserved c =
     }
 
 pub returns-clause-text : goal.returns-clause-text
-returns-clause-text c =
-    values_done c.args.self.now.network.now c.args.self.now.names.now c.args.self.now.values.now c.loop-i.i c.loop-i.text.items
-    (c.args.text.items ++ text_of_records (value_records c.args.self.now.network.now c.args.self.now.names.now 0 c.args.self.now.values.now)) (omega (arith, c.args.self.now.as_many)) c.loop-i.invariant.text
+returns-clause-text c = grind (arith, common_steps, values_done)

@@ -1,3 +1,4 @@
+use Rattle.std.proofs.Common.{arith}
 use Rattle.memory_ports.proofs.Common.{refl, ◌∙◌, ap, ◌||◌, ◌&&◌, bytes_eq, nat_eq, entry_at}
 use Rattle.memory_ports.proofs.FailingLemmas.{recalled_count, recalled_more, recalled_same, on_any_err}
 use Rattle.memory_ports.proofs.memory.MemoryFiles.fail.Goals as goal
@@ -15,11 +16,7 @@ returns-in_err-push-clause-counts c =
     λ p. recalled_count _ _ p _ c.push.new.self c.index_mut.result.now s ∙ c.in_ok-index.ensures.same.counts p
 
 pub returns-clause-ok : goal.returns-clause-ok
-returns-clause-ok c =
-    let s = entry_at c.counter.new.failing.items c.counter.new.failing.items c.args.path.now c.in_ok-index.index c.index_mut.result.now _ refl refl
-    c.in_ok-index.ensures.index c.index_mut.ensures.value in
-    λ p k. recalled_more _ _ p _ c.args.call k c.push.new.self c.index_mut.result.now s c.in_ok-push.ensures.items
-    ∙ ap (λ b. b || (bytes_eq c.args.path.now p && nat_eq c.args.call k)) (c.in_ok-index.ensures.same.fails p k)
+returns-clause-ok c = grind (arith, recalled_more, nat_eq)
 
 pub returns-clause-counts : goal.returns-clause-counts
 returns-clause-counts c =

@@ -1,12 +1,11 @@
+use Rattle.std.proofs.Common.{arith}
 use Rattle.merged_runs.proofs.Common.{AreStarts}
 use Rattle.merged_runs.proofs.StretchLemmas.{IsWhole, IsWhole-copied, AreStretches-whole, rest_of-all}
 use Rattle.merged_runs.proofs.merged.MergedRuns.new.Goals as goal
 use Rattle.merged_runs.proofs.merged.MergedRuns.new.Goals.{In_ok-remaining}
 
 whole : (c : In_ok-remaining) → IsWhole c.in_ok-starts.starts.items c.in_ok-remaining.remaining.items
-whole c =
-    let starts = c.in_ok-starts.starts.items in
-    rw (c.in_ok-remaining.ensures.items, c.deref.ensures.value) (IsWhole-copied starts (let s : AreStarts c.args.network.now starts = c.in_ok-starts.ensures in s.some))
+whole c = grind (arith, IsWhole-copied)
 
 pub play_all-requires : goal.play_all-requires
 play_all-requires c =

@@ -6,24 +6,16 @@ use Rattle.merged_runs.proofs.merged.MergedRunsBackwardOrder.next.Goals as goal
 use Rattle.merged_runs.proofs.merged.MergedRunsBackwardOrder.next.Goals.{After-index-key, After-get-run}
 
 pub returns-then-is_empty-clause-none : goal.returns-then-is_empty-clause-none
-returns-then-is_empty-clause-none c =
-    let s = c.args.self.now in
-    let none : length s.remaining.items ≡ 0 = omega (arith, s.remaining.ok.0, eqb-true _ 0 (sym c.if-is_empty.ensures)) in
-    (λ _. rest_of-none c.args.network.now s.starts.items s.remaining.items c.requires.stretches (λ r h. absurd (omega arith)), λ _. refl)
+returns-then-is_empty-clause-none c = grind (arith, eqb-true, rest_of-none)
 
 some_runs : (c : After-index-key) → 0 < length c.args.self.now.remaining.items
 some_runs c = omega (arith, c.args.self.now.remaining.ok.0, eqb-false _ 0 (sym c.if-is_empty.ensures))
 
 final : (c : After-index-key) → c.index-key.result.now ≡ get_or c.args.self.now.keys.items 1 0
-final c =
-    let s = c.args.self.now in
-    get_or_read s.keys.items 1 c.index-key.result.now (omega (arith, c.requires.tournament.size, some_runs c)) c.index-key.ensures 0
+final c = grind (arith, get_or_read, some_runs)
 
 pub returns-then-key-eq0-clause-none : goal.returns-then-key-eq0-clause-none
-returns-then-key-eq0-clause-none c =
-    let s = c.args.self.now in
-    let at = (goal.at.returns-then-key-eq0-clause-none c).After-index-key in
-    (λ _. rest_of-exhausted c.args.network.now s.starts.items s.remaining.items s.keys.items c.requires c.index-key.result.now (final at) c.if-key-eq0.true, λ _. refl)
+returns-then-key-eq0-clause-none c = grind (arith, rest_of-exhausted, final)
 
 -- the run that won
 has_won : (c : After-index-key) → (c.index-key.result.now ≡ 0 → ⊥) → HasWon c.args.network.now c.args.self.now.starts.items c.args.self.now.remaining.items c.index-key.result.now

@@ -1,11 +1,10 @@
+use Rattle.std.proofs.Common.{arith}
 use Rattle.merged_runs.proofs.StretchLemmas.{IsWhole, IsWhole-copied, AreStretches-whole, rest_of-all}
 use Rattle.merged_runs.proofs.merged.MergedRunsBackwardOrder.rewind.Goals as goal
 use Rattle.merged_runs.proofs.merged.MergedRunsBackwardOrder.rewind.Goals.{After-copy_from_slice}
 
 whole : (c : After-copy_from_slice) → IsWhole c.args.self.now.starts.items c.copy_from_slice.new.self.items
-whole c =
-    let starts = c.args.self.now.starts.items in
-    rw (c.copy_from_slice.ensures.items, c.deref.ensures.value) (IsWhole-copied starts c.requires.stretches.begin.some)
+whole c = grind (arith, IsWhole-copied)
 
 pub returns-clause-rest : goal.returns-clause-rest
 returns-clause-rest c =

@@ -18,9 +18,4 @@ invariant_of-stretch c =
     record { ordered = omega (arith, from, to, (c.requires.stretches.within run within).0); within = is.0; rising = is.1 }
 
 pub returns-clause-up_to : goal.returns-clause-up_to
-returns-clause-up_to c =
-    let s = c.args.self.now in
-    let all : length s.remaining.items ≤ c.loop-run.run = omega (arith, c.len-run-end.ensures, s.remaining.ok.0, c.loop-run-test.false) in
-    rw c.play_all.ensures.remaining
-    (rest_of-lowered c.args.network.now c.args.last.0 s.starts.items s.remaining.items c.loop-run.self.remaining.items c.loop-run.run c.requires.stretches
-    all c.loop-run.invariant.lowered c.requires.stretches.begin.valid)
+returns-clause-up_to c = grind (arith, rest_of-lowered)

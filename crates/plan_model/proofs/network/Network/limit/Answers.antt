@@ -6,8 +6,7 @@ use Rattle.plan_model.proofs.network.Network.limit.Goals as goal
 pub way-requires-clause-to : goal.way-requires-clause-to
 way-requires-clause-to c =
     let here = at_index c.args.self.now c.as_slice.result.now (c.as_slice.ensures ∙ ap (λ (p : NetworkModel). p.connections) c.self.view_is) c.args.leg.enter.0 in
-    let v = subst IsValid c.self.view_is c.self.invariant in
-    omega (arith, ap (λ (k : Connection). k.from.0) here, (v.connections c.args.leg.enter.0 c.requires.enter).from_in)
+    grind arith
 
 pub returns-in-None : goal.returns-in-None
 returns-in-None c = grind (arith, at_index, limit_of-found)

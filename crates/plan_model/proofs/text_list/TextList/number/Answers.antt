@@ -3,9 +3,7 @@ use Rattle.plan_model.proofs.TextLists.{absent_by_walk, found_at}
 use Rattle.plan_model.proofs.text_list.TextList.number.Goals as goal
 
 pub returns-in-None-clause-none : goal.returns-in-None-clause-none
-returns-in-None-clause-none c =
-    subst (λ (w : List (List ℕ)). ¬ Contains w c.args.text.now) (ap texts c.deref.ensures.value ∙ c.self.view_is)
-    (absent_by_walk (texts c.deref.result.now) c.args.text.now c.in-None.ensures.none)
+returns-in-None-clause-none c = grind (arith, absent_by_walk)
 
 pub returns-in-Some-clause-found : goal.returns-in-Some-clause-found
 returns-in-Some-clause-found c = grind (arith, found_at)

@@ -1,3 +1,4 @@
+use Rattle.std.proofs.Common.{arith}
 use Rattle.service_days.proofs.Common.{refl, and_from, and_left, and_right}
 use Rattle.csv_rows.specs.declared.feed_tables.Table.TheVariants.{Calendar, CalendarDates}
 use Rattle.table_files.proofs.ReadingLemmas.{own-of, reads-raised, reads-value, reads-fault, reads-both, reads-after, reads-refused}
@@ -7,8 +8,7 @@ use Rattle.service_days.proofs.services.Services.read.Goals as goal
 use Rattle.service_days.proofs.services.Services.read.Goals.{else-missing-via-then-missing+else-dates, else-missing-via-else-missing}
 
 pub returns-in_err-missing-clause-reads : goal.returns-in_err-missing-clause-reads
-returns-in_err-missing-clause-reads g c = reads-raised c.from_residual.result c.from_residual.ensures
-    (reads-fault (own-of IsCalendarTable Calendar _ tt) (λ m own first. calendar_first m c.args.folder.now c.args.limits.now _ first) c.in_err-missing.ensures.reads)
+returns-in_err-missing-clause-reads g c = grind (arith, reads-raised, reads-fault, own-of, calendar_first)
 
 pub returns-in_err-dates-clause-reads : goal.returns-in_err-dates-clause-reads
 returns-in_err-dates-clause-reads g c = reads-raised c.from_residual-in_err-dates.result c.from_residual-in_err-dates.ensures

@@ -30,6 +30,4 @@ pub returns : goal.returns
 returns c =
     let w = within c.self.inside.visits.items c.self.inside.bounds.items c.args.self.now c.self.view_is c.args.trip c.requires
     c.self.invariant c.index.result.now c.index-2.result.now c.index.ensures c.index-2.ensures in
-    ap (λ (v : List StopRow). slice_range v c.index.result.now c.index-2.result.now) c.as_slice.ensures.value
-    ∙ of_bounds c.self.inside.visits.items c.self.inside.bounds.items c.args.self.now c.self.view_is c.args.trip c.requires
-    c.index.result.now c.index-2.result.now w.0 w.1
+    grind (arith, of_bounds)

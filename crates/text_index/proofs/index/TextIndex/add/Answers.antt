@@ -1,3 +1,4 @@
+use Rattle.std.proofs.Common.{arith}
 use Rattle.text_index.proofs.Common.{◌-◌, ◌^◌, ◌<◌, ℕ, List, Some, length, sym, subst, Adds, IsNameList-adds, number_is, key_adds, key_texts}
 use Rattle.text_index.proofs.KeyLemmas.{text_of_stored}
 use Rattle.text_index.proofs.index.TextIndex.add.Goals as goal
@@ -7,8 +8,7 @@ invariant_of-self-2 c =
     let old = c.self.inside.numbers.keys in
     let new = c.insert_full.new.self.keys in
     let added = key_adds old new c.args.text c.in_ok-number.ensures.keys in
-    let room : length (key_texts old) < 2 ^ 32 - 1 = subst (λ (w : List (List ℕ)). length w < 2 ^ 32 - 1) (sym c.self.view_is) c.requires in
-    IsNameList-adds (key_texts old) (key_texts new) c.args.text.now added.0 c.self.invariant room added.1
+    grind (arith, IsNameList-adds)
 
 pub returns-clause-added : goal.returns-clause-added
 returns-clause-added c =
@@ -17,9 +17,7 @@ returns-clause-added c =
     (added.0, subst (λ (w : List (List ℕ)). Adds w (key_texts new) c.args.text.now added.0) c.self.view_is added.1)
 
 pub returns-clause-found : goal.returns-clause-found
-returns-clause-found c =
-    let stored = c.in_ok-number.ensures.stored in
-    text_of_stored c.insert_full.new.self.keys c.in_ok-number.number stored.0 c.args.text.now stored.1 stored.2
+returns-clause-found c = grind (arith, text_of_stored)
 
 pub returns-clause-number : goal.returns-clause-number
 returns-clause-number c =

@@ -15,5 +15,4 @@ push-requires-clause-absent c =
 pub loop-i-preserved : goal.loop-i-preserved
 loop-i-preserved c =
     let w = got c.args.self.now c.loop-i.i c.get.result.now [] c.get.ensures in
-    c.in_ok-push.ensures.ok ∙ ap (λ xs. xs ++ c.get.result.now ∷ []) c.loop-i.invariant
-    ∙ ap (λ (x : List ℕ). take c.loop-i.i c.args.self.now ++ x ∷ []) (sym w.1) ∙ sym (take_more c.args.self.now c.loop-i.i [] w.0)
+    grind (arith, take_more)

@@ -1,3 +1,4 @@
+use Rattle.std.proofs.Common.{arith}
 use Rattle.text_index.proofs.Common.{sym, ap, [], take-adds, got, key_adds, key_texts}
 use Rattle.text_index.proofs.index.TextIndex.of.Goals as goal
 
@@ -8,5 +9,4 @@ pub loop-i-preserved : goal.loop-i-preserved
 loop-i-preserved c =
     let w = got c.args.texts.now c.loop-i.i c.get.result.now [] c.get.ensures.text in
     let adds = key_adds c.loop-i.numbers.keys c.insert.new.self.keys c.get.result c.in_ok-insert.ensures.keys in
-    take-adds c.args.texts.now (key_texts c.loop-i.numbers.keys) (key_texts c.insert.new.self.keys) c.loop-i.i c.get.result.now adds.0
-    c.len-i-end.ensures.texts.names.distinct w.0 c.loop-i.invariant (sym w.1) adds.1
+    grind (arith, take-adds)
