@@ -12,11 +12,11 @@ pub use Rattle.gtfs_tables.specs.Feeds.{FeedParts}
 pub use Rattle.plan_model.specs.Network.{AreLinksInto}
 pub use Rattle.plan_model.specs.declared.model.Way.{Way}
 pub use Rattle.table_files.specs.Loading.{loaded_rows}
-pub use Rattle.table_files.specs.Required.{Records}
+pub use Rattle.table_files.specs.Loading.{Records}
 pub use Rattle.table_files.specs.declared.loading.Loaded.{Loaded}
 pub use Rattle.change_times.specs.Changes.{AreCollectedChanges, AreReportedBySome, ChangeParts, change_seconds, fault_of_transfers, greatest_link, links_of}
-pub use Rattle.change_times.specs.Greatest.{greater}
-unfoldable pub use Rattle.change_times.specs.Greatest.{greatest_below}
+pub use Rattle.change_times.specs.Walks.{greater}
+unfoldable pub use Rattle.change_times.specs.Walks.{greatest_below}
 pub use Rattle.change_times.specs.Links.{ComeBefore, link_from, ways_at}
 unfoldable pub use Rattle.change_times.specs.Links.{ways_below}
 pub use Rattle.change_times.specs.Transfers.{bad_transfer, transfer_columns, transfer_in, transfer_reported_by}

@@ -13,10 +13,10 @@ use Rattle.csv_rows.specs.Lists.{list_below}
 use Rattle.csv_rows.specs.Tables.{row_count}
 use Rattle.table_files.specs.Loading.{load_in, loaded_rows}
 use Rattle.plan_model.specs.declared.model.Way.{Way}
-use Rattle.table_files.specs.Required.{Records}
+use Rattle.table_files.specs.Loading.{Records}
 use Rattle.gtfs_tables.specs.Feeds.{FeedParts}
 use Rattle.change_times.specs.Transfers.{transfer_reported_by, transfers_fault}
-use Rattle.change_times.specs.Greatest.{greatest_below}
+use Rattle.change_times.specs.Walks.{greatest_below}
 use Rattle.change_times.specs.Links.{ways_at, ways_below}
 use Rattle.change_times.specs.Walks.{seconds_between, link_between}
 

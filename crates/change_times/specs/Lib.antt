@@ -1,6 +1,4 @@
-pub mod TransferForms
 pub mod Transfers
-pub mod Greatest
 pub mod Links
 pub mod Walks
 pub mod Changes

@@ -1,5 +1,6 @@
--- The rows of `transfers.txt`: their transfers between places, and their faults. Row i is line i + 2.
-use Rattle.std.specs.Prelude.{ℕ, ◌+◌, ◌==◌, ◌&&◌, Bool, List, length, slice_index, Option, None, Result, Ok, option_map, if◌then◌else◌, [], ◌∷◌}
+-- The rows of `transfers.txt`: the forms of their fields (GTFS Schedule reference), their transfers between places, and their faults. Row i is line i + 2.
+use Rattle.std.specs.Prelude.{ℕ, ◌==◌, Bool, true, false, ◌||◌, List, length, Option, Some, None, if◌then◌else◌, codes, ◌+◌, ◌&&◌, slice_index, Result, Ok, option_map, [], ◌∷◌}
+use Rattle.std.specs.Str.{bytes_eq}
 use Rattle.std.specs.Option.{option_or}
 use Rattle.std.specs.Result.{result_err}
 use Rattle.plan_model.specs.Results.{and_then, require, value_or}
@@ -9,14 +10,20 @@ use Rattle.csv_rows.specs.declared.columns.Column.TheVariants.{FromStopId, ToSto
 use Rattle.csv_rows.specs.declared.feed_tables.Table.TheVariants.{Transfers}
 use Rattle.csv_rows.specs.declared.feed_tables.FeedFault.{FeedFault}
 use Rattle.csv_rows.specs.declared.feed_tables.FeedFault.TheVariants.{BadField, UnknownKey}
-use Rattle.csv_rows.specs.First.{first_below}
-use Rattle.csv_rows.specs.Names.{name_in}
+use Rattle.csv_rows.specs.Lists.{first_below}
+use Rattle.csv_rows.specs.Ids.{name_in}
 use Rattle.csv_rows.specs.RowFaults.{first_missing}
 use Rattle.csv_rows.specs.Tables.{row_count, number_in, index_of, field_at}
 use Rattle.gtfs_tables.specs.Feeds.{FeedParts}
 use Rattle.change_times.specs.declared.transfers.Transfer.{Transfer}
 use Rattle.change_times.specs.declared.transfers.TransferColumns.{TransferColumns}
-use Rattle.change_times.specs.TransferForms.{is_timed_in}
+
+-- whether a transfer wants a time at least: type 2 does, and an empty type is 0
+abbrev pub is_timed_in : List ℕ → Option Bool
+is_timed_in text =
+    if bytes_eq text (codes "2") then Some true
+    else if length text == 0 || (bytes_eq text (codes "0") || (bytes_eq text (codes "1") || (bytes_eq text (codes "3") || (bytes_eq text (codes "4") || bytes_eq text (codes "5"))))) then Some false
+    else None
 
 -- the place of the stop of this id
 abbrev pub place_of_stop : FeedParts → List ℕ → Option ℕ

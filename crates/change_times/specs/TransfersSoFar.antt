@@ -2,7 +2,7 @@
 use Rattle.std.specs.Prelude.{◌≡◌, ℕ, ◌≤◌, nat_eq, length, IfSome}
 use Rattle.plan_model.specs.Bounds.{seconds_per_day}
 use Rattle.std.specs.HashMap.{get}
-use Rattle.table_files.specs.Required.{Records}
+use Rattle.table_files.specs.Loading.{Records}
 use Rattle.gtfs_tables.specs.Feeds.{FeedParts}
 use Rattle.change_times.specs.declared.changes.TransfersSoFar.{TransfersSoFar}
 use Rattle.change_times.specs.Walks.{walks_of, most_to}

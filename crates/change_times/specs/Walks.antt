@@ -1,8 +1,18 @@
--- What transfers say for changes and for links.
-use Rattle.std.specs.Prelude.{ℕ, ◌==◌, ◌&&◌, List, [], ◌∷◌, slice_index_or, Option, None, Some, if◌then◌else◌}
+-- What transfers say for changes and for links, and the greatest of it.
+use Rattle.std.specs.Prelude.{ℕ, zero, suc, max, Option, None, Some, ◌==◌, ◌&&◌, List, [], ◌∷◌, slice_index_or, if◌then◌else◌}
 use Rattle.change_times.specs.declared.links.Walk.{Walk}
 use Rattle.change_times.specs.declared.transfers.Transfer.{Transfer}
-use Rattle.change_times.specs.Greatest.{greater}
+
+-- the greater of two, where they are there
+abbrev pub greater : Option ℕ → Option ℕ → Option ℕ
+greater None b = b
+greater (Some a) None = Some a
+greater (Some a) (Some b) = Some (max a b)
+
+-- the greatest of what is there at 0, 1 and on below n
+unfoldable pub greatest_below : (ℕ → Option ℕ) → ℕ → Option ℕ
+greatest_below f zero = None
+greatest_below f (suc n) = greater (greatest_below f n) (f n)
 
 -- the seconds of a walk to this place
 abbrev pub walk_to : ℕ → Walk → Option ℕ

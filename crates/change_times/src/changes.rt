@@ -3,17 +3,15 @@ ghost use Rattle.std.specs.Prelude.{◌≡◌, ◌<◌, ◌≤◌, ◌+◌, ◌-
 ghost use Rattle.plan_model.specs.Bounds.{seconds_per_day};
 ghost use Rattle.std.specs.HashMap.{get};
 ghost use Rattle.csv_rows.specs.declared.feed_tables.Table.TheVariants.{Transfers as TransfersTable};
-ghost use Rattle.csv_rows.specs.First.{first_below};
+ghost use Rattle.csv_rows.specs.Lists.{first_below};
 ghost use Rattle.csv_rows.specs.RowFaults.{ReportsFirst};
-ghost use Rattle.table_files.specs.Loading.{loaded_rows};
+ghost use Rattle.table_files.specs.Loading.{loaded_rows, Records};
 ghost use Rattle.table_files.specs.Reading.{ReadsTable};
 ghost use Rattle.csv_rows.specs.Tables.{row_count};
-ghost use Rattle.table_files.specs.Required.{Records};
 ghost use Rattle.gtfs_tables.specs.Feeds.{FeedParts};
 ghost use Rattle.change_times.specs.Transfers.{bad_transfer, transfers_fault};
-ghost use Rattle.change_times.specs.Greatest.{greater};
+ghost use Rattle.change_times.specs.Walks.{greater, walks_of, most_to, seconds_between, link_between};
 ghost use Rattle.plan_model.specs.Network.{AreLinksInto};
-ghost use Rattle.change_times.specs.Walks.{walks_of, most_to, seconds_between, link_between};
 ghost use Rattle.change_times.specs.TransfersSoFar.{AreCollected};
 ghost use Rattle.change_times.specs.Changes.{fault_of_transfers, place_seconds, links_of, transfers_from, AreCollectedChanges, AreReportedBySome, LinksComeFrom};
 

@@ -1,6 +1,6 @@
 //! The forms of the fields of transfers (GTFS Schedule reference).
 ghost use Rattle.std.specs.Prelude.{◌≡◌};
-ghost use Rattle.change_times.specs.TransferForms.{is_timed_in};
+ghost use Rattle.change_times.specs.Transfers.{is_timed_in};
 
 /// Whether a transfer wants a time at least: type 2 does, and an empty type is 0.
 pub(crate) fn read_is_timed(text: &[u8]) -> Option<bool>

@@ -1,9 +1,8 @@
 //! The links between the places of a feed.
 ghost use Rattle.std.specs.Prelude.{◌≡◌, ◌<◌, ◌++◌, ℕ, List as Sequence, Option, Some, length, [], IfOk, OnOk};
 ghost use Rattle.plan_model.specs.declared.model.Way.{Way as WayParts};
-ghost use Rattle.change_times.specs.Greatest.{greater};
+ghost use Rattle.change_times.specs.Walks.{greater, walk_to, walks_of, most_to, link_between};
 ghost use Rattle.change_times.specs.Links.{link_from, ways_at, ways_below, ComeBefore};
-ghost use Rattle.change_times.specs.Walks.{walk_to, walks_of, most_to, link_between};
 
 use crate::transfers::Transfer;
 use plan_model::{List, NoMemory, PlaceId, Way};

@@ -1,7 +1,6 @@
--- What a line of words asks for, or why it is refused.
-use Rattle.std.specs.Prelude.{ℕ, List, [], ◌∷◌, Option, Some, None, Result, Ok, Err, if◌then◌else◌, option_map, option_and_then, unwrap_or, find}
+-- The jobs that words ask for, the moments that they may name, and the words of each.
+use Rattle.std.specs.Prelude.{ℕ, List, [], ◌∷◌, Option, Some, None, Result, Ok, Err, if◌then◌else◌, option_map, option_and_then, unwrap_or, find, ◌≤◌, ◌+◌}
 use Rattle.command_line.specs.declared.options.Command.{Command}
-use Rattle.command_line.specs.declared.options.Command.TheVariants as command
 use Rattle.command_line.specs.declared.options.OptionName.{OptionName}
 use Rattle.command_line.specs.declared.options.OptionName.TheVariants.{Cut, Feed, Delays, From, To, Alpha, Horizon, Graph, Late, Size, Proof, Until, Last}
 use Rattle.command_line.specs.declared.job.WordsFault.{WordsFault}
@@ -9,7 +8,8 @@ use Rattle.command_line.specs.declared.job.WordsFault.TheVariants.{Line, Unknown
 use Rattle.command_line.specs.Options.{all_options, option_number, command_named}
 use Rattle.command_line.specs.Settings.{value_of, text_of, are_settings}
 use Rattle.command_line.specs.Uses.{is_useless, is_missing}
-use Rattle.command_line.specs.Values.{default_alpha, default_horizon, least_size, start_of, promise_at, later_at, alpha_at, horizon_at, size_at, late_at, is_bad}
+use Rattle.command_line.specs.Values.{default_alpha, default_horizon, least_size, start_of, promise_at, later_at, alpha_at, horizon_at, size_at, late_at, is_bad, last_until, longest_promise}
+use Rattle.command_line.specs.declared.options.Command.TheVariants as command
 
 -- where the connections come from: a cut file, or the folder of a feed, with the hours of departures that are looked at
 pub data SourceModel : Type 0 where
@@ -142,3 +142,26 @@ job_by (Some command) settings =
 abbrev pub job_of : List (List ℕ) → Result JobModel WordsFault
 job_of [] = Err Line
 job_of (command ∷ settings) = if are_settings settings then job_by (command_named command) settings else Err Line
+
+-- a deadline, or the last moment of departures, is not before the start, and is at most 2400-12-31T23:59:59
+abbrev pub IsLater : ℕ → ℕ → Type 0
+IsLater start moment = (start ≤ moment) × (moment ≤ last_until)
+
+-- what is asked about a journey that begins at this moment names moments within reach of it; a promise is at most a week after it
+abbrev pub IsInTime : ℕ → AskModel → Type 0
+IsInTime start (Safe alpha) = Unit {0}
+IsInTime start (Expand alpha) = Unit {0}
+IsInTime start (Plan alpha) = Unit {0}
+IsInTime start (Replay graph late) = Unit {0}
+IsInTime start (Certify alpha) = Unit {0}
+IsInTime start (CheckProof proof) = Unit {0}
+IsInTime start (CheckGraph graph) = Unit {0}
+IsInTime start (Punctual alpha promise) = (start ≤ promise) × (promise ≤ start + longest_promise)
+IsInTime start (Departures until last) = IsLater start until × IsLater start last
+IsInTime start (Latest until) = IsLater start until
+IsInTime start (Reach until) = IsLater start until
+
+-- so does a job
+abbrev pub IsJobInTime : JobModel → Type 0
+IsJobInTime (Ask j a) = IsInTime j.start a
+IsJobInTime (Sample size) = Unit {0}

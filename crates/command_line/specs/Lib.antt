@@ -4,5 +4,4 @@ pub mod Settings
 pub mod Uses
 pub mod Values
 pub mod Jobs
-pub mod Ranges
 pub mod Shown

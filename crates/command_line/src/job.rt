@@ -1,7 +1,6 @@
 //! What a line of words asks for.
 ghost use Rattle.std.specs.Prelude.{◌≡◌, ◌≤◌, ◌+◌, map, string_bytes, option_map, option_and_then, unwrap_or, Some, IfOk, IfSome};
-ghost use Rattle.command_line.specs.Jobs.{promise_of, later_of, alpha_of, horizon_of, size_of, source_of, journey_of, check_of, source_or_target, ask_of, wanted_of, job_of};
-ghost use Rattle.command_line.specs.Ranges.{IsInTime, IsJobInTime};
+ghost use Rattle.command_line.specs.Jobs.{promise_of, later_of, alpha_of, horizon_of, size_of, source_of, journey_of, check_of, source_or_target, ask_of, wanted_of, job_of, IsInTime, IsJobInTime};
 ghost use Rattle.command_line.specs.Settings.{value_of};
 ghost use Rattle.command_line.specs.Shown.{source_shown, journey_shown, ask_shown, wanted_job, answer_shown};
 ghost use Rattle.command_line.specs.Values.{start_of, number_at, last_until, longest_promise};

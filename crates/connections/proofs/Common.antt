@@ -27,13 +27,13 @@ pub use Rattle.delay_table.specs.DelayLists.{DelayLists, class_for}
 pub use Rattle.delay_table.specs.Groups.{numbered_route, routes_of}
 pub use Rattle.gtfs_tables.specs.Feeds.{FeedParts}
 pub use Rattle.gtfs_tables.specs.Timed.{AreTimed, IsTimed, kept_at, rows_of}
-pub use Rattle.gtfs_tables.specs.TripRepeats.{AreRepeating, AreRepeats, IsFrequency, IsSmall, repeat_at}
+pub use Rattle.gtfs_tables.specs.Timed.{AreRepeating, AreRepeats, IsFrequency, IsSmall, repeat_at}
 pub use Rattle.plan_model.proofs.Lists.{AllPairs-append, AllPairs-first, AllPairs-map, AllPairs-nil, AllPairs-one, AllPairs-tail}
 pub use Rattle.plan_model.specs.Bounds.{end_of_arrivals, end_of_steps, first_start, most_connections}
 pub use Rattle.plan_model.specs.NameLists.{IsTrimmed, NameLists, NamesFit}
 pub use Rattle.plan_model.specs.Network.{AreLinksInto, IsValid, no_connection}
 unfoldable pub use Rattle.plan_model.specs.Network.{change_of, connection, row_of}
-pub use Rattle.plan_model.specs.NetworkModel.{NetworkModel, plain_network}
+pub use Rattle.plan_model.specs.Network.{NetworkModel, plain_network}
 pub use Rattle.plan_model.specs.declared.model.Connection.{Connection}
 pub use Rattle.plan_model.specs.declared.model.PlaceId.{PlaceId}
 pub use Rattle.plan_model.specs.declared.model.Way.{Way}
@@ -50,7 +50,7 @@ pub use Rattle.connections.specs.FeedRuns.{AreRunsOf, HaveConnections, IsDay, Is
 pub use Rattle.connections.specs.Joins.{only_if}
 unfoldable pub use Rattle.connections.specs.Joins.{join_below, sum_below}
 pub use Rattle.connections.specs.Origins.{moment_of, origin_of_day}
-pub use Rattle.connections.specs.Reach.{AreOverBy, NoneRuns}
+pub use Rattle.connections.specs.FeedRuns.{AreOverBy, NoneRuns}
 pub use Rattle.connections.specs.RepeatedRuns.{in_order, is_repeat, origin_at, repeat_of, repeat_precedes, with_repeat}
 unfoldable pub use Rattle.connections.specs.RepeatedRuns.{row_repeats, rows_repeats}
 pub use Rattle.connections.specs.RouteNumbers.{IsClassOfHour, route_number}

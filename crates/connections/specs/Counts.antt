@@ -5,7 +5,7 @@ use Rattle.trip_frequencies.specs.declared.frequencies.FrequencyRow.{FrequencyRo
 use Rattle.stop_times.specs.declared.rows.StopRow.{StopRow}
 use Rattle.gtfs_tables.specs.Feeds.{FeedParts}
 use Rattle.stop_times.specs.StopTimeBounds.{end_of_times}
-use Rattle.gtfs_tables.specs.TripRepeats.{repeat_at}
+use Rattle.gtfs_tables.specs.Timed.{repeat_at}
 use Rattle.gtfs_tables.specs.Timed.{rows_of, kept_at}
 use Rattle.run_repeat.specs.Runs.{departure}
 use Rattle.service_days.specs.Services.{ServiceParts}

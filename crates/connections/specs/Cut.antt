@@ -1,18 +1,25 @@
--- The network of a feed from a start on, this many hours long.
-use Rattle.std.specs.Prelude.{ℕ, length, Option}
+-- The network of a feed from a start on, this many hours long, and when there is none.
+use Rattle.std.specs.Prelude.{ℕ, nat_lt, Option, Some, None, if◌then◌else◌, length}
+use Rattle.std.specs.Option.{option_or}
 use Rattle.csv_rows.specs.declared.limits.Limits.{Limits}
+use Rattle.connections.specs.declared.cuts.WindowFault.{WindowFault}
+use Rattle.connections.specs.declared.cuts.WindowFault.TheVariants.{TooMany, TooManyEntries}
 use Rattle.csv_rows.specs.Lists.{list_below}
 use Rattle.plan_model.specs.NameLists.{NameLists}
-use Rattle.plan_model.specs.NetworkModel.{NetworkModel}
+use Rattle.plan_model.specs.Network.{NetworkModel}
 use Rattle.change_times.specs.Changes.{ChangeParts, place_seconds, links_of}
 use Rattle.delay_table.specs.DelayLists.{DelayLists}
 use Rattle.gtfs_tables.specs.Feeds.{FeedParts}
 use Rattle.service_days.specs.Services.{ServiceParts}
-use Rattle.connections.specs.declared.cuts.WindowFault.{WindowFault}
 use Rattle.connections.specs.Window.{window_of}
-use Rattle.connections.specs.Faults.{window_fault}
 use Rattle.connections.specs.Counts.{count_in, entries_in}
 use Rattle.connections.specs.FeedNetworks.{IsNetworkOf}
+
+-- the first fault of a window with this many connections and entries
+abbrev pub window_fault : Limits → (count entries : ℕ) → Option WindowFault
+window_fault limits count entries = option_or
+    (if nat_lt limits.connections count then Some (TooMany count) else None)
+    (if nat_lt limits.entries entries then Some (TooManyEntries entries) else None)
 
 -- its connections are those of the window, its change seconds and links are those of the feed's transfers, and its classes
 -- those of the delays

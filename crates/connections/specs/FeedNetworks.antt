@@ -5,7 +5,7 @@ use Rattle.clock_text.specs.Times.{date_at}
 use Rattle.plan_model.specs.declared.model.Connection.{Connection}
 use Rattle.plan_model.specs.declared.model.Way.{Way}
 use Rattle.plan_model.specs.NameLists.{NameLists}
-use Rattle.plan_model.specs.NetworkModel.{NetworkModel}
+use Rattle.plan_model.specs.Network.{NetworkModel}
 use Rattle.delay_table.specs.DelayLists.{DelayLists, class_for}
 use Rattle.stop_times.specs.declared.rows.StopRow.{StopRow}
 use Rattle.gtfs_tables.specs.Feeds.{FeedParts}

@@ -1,12 +1,15 @@
--- What holds of the runs of a feed.
-use Rattle.std.specs.Prelude.{◌≡◌, ℕ, pos, ◌+ℤ◌, ◌≤ℤ◌, ◌<◌, ◌^◌, List, length, Option, Some, None}
+-- What holds of the runs of a feed, and the service days on which its trips may run in a window.
+use Rattle.std.specs.Prelude.{◌≡◌, ℕ, pos, ◌+ℤ◌, ◌≤ℤ◌, ◌<◌, ◌^◌, List, length, Option, Some, None, ◌≤◌, []}
 use Rattle.clock_text.specs.Civil.{last_day}
 use Rattle.gtfs_tables.specs.Feeds.{FeedParts}
 use Rattle.connections.specs.declared.origins.ServiceDay.{ServiceDay}
 use Rattle.connections.specs.declared.repeats.Repeat.{Repeat}
 use Rattle.connections.specs.declared.runs.Run.{Run}
 use Rattle.connections.specs.declared.window.Window.{Window}
-use Rattle.connections.specs.TripRuns.{run_at, run_steps}
+use Rattle.connections.specs.TripRuns.{run_at, run_steps, frequencies_of}
+use Rattle.gtfs_tables.specs.Timed.{rows_of, kept_at}
+use Rattle.connections.specs.Origins.{origin_of_day}
+use Rattle.connections.specs.Steps.{steps_of}
 
 -- a day of the windows: from 1969-12-25 to 9999-12-31
 pub record IsDay (day : ServiceDay) : Type 0 where
@@ -32,3 +35,13 @@ pub record AreRunsOf (f : FeedParts) (rs : List Run) : Type 0 where
 -- each has a connection in the window
 abbrev pub HaveConnections : FeedParts → Window → List Run → Type 0
 HaveConnections f w rs = (r : ℕ) → r < length rs → 0 < length (run_steps f w (run_at rs r))
+
+-- the first n trips do not repeat, and none of them departs after this second of its service day
+pub record AreOverBy (f : FeedParts) (n latest : ℕ) : Type 0 where
+  pub once : (trip : ℕ) → trip < n → frequencies_of f trip ≡ []
+  pub over : (trip k : ℕ) → trip < n → k < length (rows_of f trip) → (kept_at (rows_of f trip) k).departure ≤ latest
+
+-- no trip repeats, or departs in the window on this service day
+pub record NoneRuns (f : FeedParts) (w : Window) (day : ServiceDay) : Type 0 where
+  pub once : (trip : ℕ) → trip < length f.trip_ids → frequencies_of f trip ≡ []
+  pub none : (trip : ℕ) → trip < length f.trip_ids → steps_of w (rows_of f trip) (origin_of_day day) ≡ []

@@ -6,9 +6,7 @@ pub mod TripDays
 pub mod RepeatedRuns
 pub mod TripRuns
 pub mod FeedRuns
-pub mod Reach
 pub mod Counts
 pub mod FeedNetworks
 pub mod RouteNumbers
-pub mod Faults
 pub mod Cut

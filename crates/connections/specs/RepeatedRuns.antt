@@ -3,7 +3,7 @@ use Rattle.std.specs.Prelude.{ℕ, pos, ◌-ℤ◌, ◌&&◌, ◌||◌, ◌==◌
 use Rattle.trip_frequencies.specs.declared.frequencies.FrequencyRow.{FrequencyRow}
 use Rattle.stop_times.specs.declared.rows.StopRow.{StopRow}
 use Rattle.stop_times.specs.StopTimeBounds.{end_of_times}
-use Rattle.gtfs_tables.specs.TripRepeats.{repeat_at}
+use Rattle.gtfs_tables.specs.Timed.{repeat_at}
 use Rattle.gtfs_tables.specs.Timed.{kept_at}
 use Rattle.run_repeat.specs.Runs.{departure}
 use Rattle.connections.specs.declared.origins.ServiceDay.{ServiceDay}

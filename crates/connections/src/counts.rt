@@ -1,6 +1,6 @@
 //! What the connections of a window add up to, before any of them is made.
 ghost use Rattle.std.specs.Prelude.{◌≡◌, ◌^◌, ◌-◌, length, min};
-ghost use Rattle.gtfs_tables.specs.TripRepeats.{IsFrequency};
+ghost use Rattle.gtfs_tables.specs.Timed.{IsFrequency};
 ghost use Rattle.connections.specs.Counts.{each_of, steps_sum, row_sum, rows_sum, runs_sum, trip_sum, day_sum, window_sum, HaveWays};
 
 use crate::feed_window::{DAYS, FeedTrip, FeedWindow, TripWindow};

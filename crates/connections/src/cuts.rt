@@ -7,8 +7,7 @@ ghost use Rattle.plan_model.specs.Bounds.{first_start, last_start, most_connecti
 ghost use Rattle.plan_model.specs.NameLists.{NamesFit};
 ghost use Rattle.connections.specs.Window.{most_hours};
 ghost use Rattle.connections.specs.FeedNetworks.{connections_below, AreChanges, AreRunNames, IsNetworkOf};
-ghost use Rattle.connections.specs.Cut.{IsNetworkFrom, connection_count, fault_from};
-ghost use Rattle.connections.specs.Faults.{window_fault};
+ghost use Rattle.connections.specs.Cut.{IsNetworkFrom, connection_count, fault_from, window_fault};
 ghost use Rattle.connections.specs.Counts.{count_in, entries_in};
 
 use crate::counts::{Counted, most_ways, sum_window};

@@ -5,12 +5,11 @@ ghost use Rattle.csv_rows.specs.Ids.{AreIds};
 ghost use Rattle.plan_model.specs.Network.{AreLinksInto};
 ghost use Rattle.csv_rows.specs.Limits.{standard};
 ghost use Rattle.change_times.specs.Changes.{links_of};
-ghost use Rattle.gtfs_tables.specs.TripRepeats.{AreRepeats, AreRepeating, IsSmall};
-ghost use Rattle.gtfs_tables.specs.Timed.{IsTimed, rows_of};
+ghost use Rattle.gtfs_tables.specs.Timed.{AreRepeats, AreRepeating, IsSmall, IsTimed, rows_of};
 ghost use Rattle.connections.specs.Window.{IsWindow, window_of, day_at};
 ghost use Rattle.connections.specs.Steps.{DepartOnDay, is_active_trip};
 ghost use Rattle.connections.specs.TripRuns.{frequencies_of};
-ghost use Rattle.connections.specs.Reach.{AreOverBy};
+ghost use Rattle.connections.specs.FeedRuns.{AreOverBy};
 
 use crate::origins::ServiceDay;
 use crate::reach::latest_of;

@@ -2,7 +2,7 @@
 ghost use Rattle.std.specs.Prelude.{◌≡◌, ℕ, ◌<◌, ◌≤◌, length, false, IfSome};
 ghost use Rattle.gtfs_tables.specs.Timed.{kept_at};
 ghost use Rattle.connections.specs.Steps.{DepartOnDay};
-ghost use Rattle.connections.specs.Reach.{AreOverBy, NoneRuns};
+ghost use Rattle.connections.specs.FeedRuns.{AreOverBy, NoneRuns};
 
 use crate::feed_window::FeedWindow;
 use crate::origins::{Origin, ServiceDay};

@@ -2,7 +2,7 @@
 ghost use Rattle.std.specs.Prelude.{◌≡◌, ℕ, ◌+◌, ◌-◌, ◌<◌, ◌≤◌, ◌++◌, ◌<ℤ◌, ◌≤ℤ◌, pos, length, OnOk, IfOk};
 ghost use Rattle.csv_rows.specs.Lists.{list_below};
 ghost use Rattle.stop_times.specs.StopTimeBounds.{end_of_times};
-ghost use Rattle.gtfs_tables.specs.TripRepeats.{IsFrequency};
+ghost use Rattle.gtfs_tables.specs.Timed.{IsFrequency};
 ghost use Rattle.run_repeat.specs.Runs.{AreBelow, IsRunOf, departure};
 ghost use Rattle.connections.specs.Steps.{departs};
 ghost use Rattle.connections.specs.RepeatedRuns.{repeat_of, origin_at, row_repeats, rows_repeats, in_order};

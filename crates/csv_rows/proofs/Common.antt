@@ -22,11 +22,11 @@ unfoldable pub use Rattle.csv.specs.Reading.{Reached, records_from}
 pub use Rattle.csv.specs.Records.{fields_of}
 unfoldable pub use Rattle.csv.specs.Records.{Rising, last_end, prev}
 pub use Rattle.plan_model.specs.NameLists.{Adds, AreDistinct, IsTrimmed}
-unfoldable pub use Rattle.csv_rows.specs.First.{any_below, first_below}
+unfoldable pub use Rattle.csv_rows.specs.Lists.{any_below, first_below}
 pub use Rattle.csv_rows.specs.Keys.{AreSorted, IsAtMost, IsBefore, IsRising, has_twin, just_precedes, key_at, no_key, precedes, repeated, sooner}
 unfoldable pub use Rattle.csv_rows.specs.Keys.{twin_at}
 unfoldable pub use Rattle.csv_rows.specs.Lists.{list_below}
-pub use Rattle.csv_rows.specs.Names.{name_in, text_in}
+pub use Rattle.csv_rows.specs.Ids.{name_in, text_in}
 pub use Rattle.csv_rows.specs.Parts.{Fills}
 unfoldable pub use Rattle.csv_rows.specs.Parts.{parts_from}
 pub use Rattle.csv_rows.specs.RowFaults.{IsFirstFault, ReportsFirst, first_missing}

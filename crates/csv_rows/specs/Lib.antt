@@ -2,15 +2,12 @@ pub mod Columns
 pub mod Fields
 pub mod FaultTexts
 pub mod FeedTables
-pub mod First
+pub mod Lists
 pub mod Forms
 pub mod Ids
 pub mod Keys
 pub mod Limits
-pub mod Lists
-pub mod Names
 pub mod Parts
-pub mod Records
 pub mod RowFaults
 pub mod Rows
 pub mod Spaces

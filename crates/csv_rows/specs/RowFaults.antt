@@ -7,7 +7,7 @@ use Rattle.csv_rows.specs.declared.feed_tables.Table.{Table}
 use Rattle.csv_rows.specs.declared.feed_tables.FeedFault.{FeedFault}
 use Rattle.csv_rows.specs.declared.feed_tables.FeedFault.TheVariants.{MissingColumn, DuplicateKey, NoMemory}
 use Rattle.csv_rows.specs.FeedTables.{unread_table, IsFaultOf}
-use Rattle.csv_rows.specs.First.{any_below}
+use Rattle.csv_rows.specs.Lists.{any_below}
 use Rattle.csv_rows.specs.Tables.{index_of}
 
 -- a required column is not in the header

@@ -1,11 +1,16 @@
 -- A table: its records, the header first, and its fields by row and column.
-use Rattle.std.specs.Prelude.{ℕ, ◌+◌, ◌-◌, List, [], map, length, slice_index_or, Option, Some, None, if◌then◌else◌}
+use Rattle.std.specs.Prelude.{ℕ, List, [], slice_index_or, Option, Some, None, ◌+◌, ◌-◌, map, length, if◌then◌else◌}
 use Rattle.std.specs.Str.{bytes_eq}
 use Rattle.csv.specs.Reading.{default_config, records, strip_bom}
 use Rattle.csv_rows.specs.declared.columns.Column.{Column}
 use Rattle.csv_rows.specs.Columns.{name_of}
-use Rattle.csv_rows.specs.First.{first_below}
+use Rattle.csv_rows.specs.Lists.{first_below}
 use Rattle.csv_rows.specs.Spaces.{trimmed_text}
+
+-- the field of a record at an index: empty past its end, and where there is no index
+abbrev pub field_of : List (List ℕ) → Option ℕ → List ℕ
+field_of fields None = []
+field_of fields (Some k) = slice_index_or fields k []
 
 -- the records of a text: those of RFC 4180 as the csv crate takes them from the text without its byte-order mark, with no
 -- ASCII space round a field

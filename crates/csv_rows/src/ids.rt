@@ -1,12 +1,10 @@
 //! Ids, numbered in the order in which they are in a table.
 ghost use Rattle.std.specs.Prelude.{◌≡◌, ◌<◌, ◌-◌, ◌^◌, ◌++◌, ◌∷◌, ℕ, [], length, None, Some, IfOk, IfErr, IfSome, OnOk, OnErr, All, Contains, slice_get};
-ghost use Rattle.csv_rows.specs.First.{first_below};
-ghost use Rattle.csv_rows.specs.Names.{name_in};
+ghost use Rattle.csv_rows.specs.Lists.{first_below, list_below};
+ghost use Rattle.csv_rows.specs.Ids.{name_in, AreIds};
 ghost use Rattle.csv_rows.specs.Tables.{row_count, number_in, field, field_at};
 ghost use Rattle.plan_model.specs.NameLists.{Adds, IsTrimmed};
-ghost use Rattle.csv_rows.specs.Ids.{AreIds};
 ghost use Rattle.csv_rows.specs.RowFaults.{repeated_id, ReportsFirst};
-ghost use Rattle.csv_rows.specs.Lists.{list_below};
 
 use crate::columns::Column;
 use crate::feed_tables::{FeedFault, Table};

@@ -1,7 +1,7 @@
 //! The rows of a table by group, order and row number in the file.
 ghost use Rattle.std.specs.Prelude.{◌≡◌, ◌<◌, ℕ, true, length, Some, None};
 ghost use Rattle.std.specs.List.Sorted.{IsPermutation};
-ghost use Rattle.csv_rows.specs.First.{first_below};
+ghost use Rattle.csv_rows.specs.Lists.{first_below};
 ghost use Rattle.csv_rows.specs.Keys.{IsRising, AreSorted, IsBefore, twin_at, repeated, sooner};
 
 /// A row of a table by its group, its order in the group and its row number in the file.

@@ -1,7 +1,6 @@
 //! How much is read.
 ghost use Rattle.std.specs.Prelude.{◌≡◌, ◌≤◌};
-ghost use Rattle.csv_rows.specs.declared.limits.TheConstants.{MOST_BYTES, MOST_STOPS, MOST_ROUTES, MOST_TRIPS, MOST_STOP_TIMES, MOST_FREQUENCIES};
-ghost use Rattle.csv_rows.specs.declared.limits.TheConstants.{MOST_CALENDAR, MOST_CALENDAR_DATES, MOST_TRANSFERS, MOST_CUT_ROWS, MOST_CONNECTIONS, MOST_ENTRIES};
+ghost use Rattle.csv_rows.specs.declared.limits.TheConstants.{MOST_BYTES, MOST_STOPS, MOST_ROUTES, MOST_TRIPS, MOST_STOP_TIMES, MOST_FREQUENCIES, MOST_CALENDAR, MOST_CALENDAR_DATES, MOST_TRANSFERS, MOST_CUT_ROWS, MOST_CONNECTIONS, MOST_ENTRIES};
 
 use crate::feed_tables::Table;
 

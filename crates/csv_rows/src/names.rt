@@ -1,6 +1,6 @@
 //! Fields that name something, and texts.
 ghost use Rattle.std.specs.Prelude.{◌≡◌, option_map};
-ghost use Rattle.csv_rows.specs.Names.{name_in, text_in};
+ghost use Rattle.csv_rows.specs.Ids.{name_in, text_in};
 
 /// The text of a field that is a name; `None` if it is empty or not UTF-8.
 pub fn read_name(text: &[u8]) -> Option<&str>

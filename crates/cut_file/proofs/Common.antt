@@ -13,7 +13,7 @@ pub use Rattle.csv_rows.proofs.KeyLemmas.{AreApart, asked, asked_before, before_
 pub use Rattle.csv_rows.proofs.SoonestLemmas.{IsSoonest, soonest-first, soonest-next}
 pub use Rattle.csv_rows.proofs.SortLemmas.{AreKeys, keys-none, keys-taken, sorted_are}
 unfoldable pub use Rattle.csv_rows.proofs.SortLemmas.{key_of}
-pub use Rattle.csv_rows.specs.First.{any_below, first_below}
+pub use Rattle.csv_rows.specs.Lists.{any_below, first_below}
 pub use Rattle.csv_rows.specs.Keys.{AreSorted, IsBefore, has_twin, key_at}
 unfoldable pub use Rattle.csv_rows.specs.Keys.{twin_at}
 pub use Rattle.csv_rows.specs.Tables.{field, index_of, row_count}
@@ -26,10 +26,10 @@ pub use Rattle.delay_table.specs.Slots.{AreDelays}
 pub use Rattle.plan_model.specs.NameLists.{Adds, AreDistinct, IsTrimmed, NameLists, NamesFit}
 pub use Rattle.plan_model.specs.Network.{AreLinks, IsValid, IsValidConnection, count}
 unfoldable pub use Rattle.plan_model.specs.Network.{change_of, connection}
-pub use Rattle.plan_model.specs.NetworkModel.{NetworkModel, plain_network}
+pub use Rattle.plan_model.specs.Network.{NetworkModel, plain_network}
 pub use Rattle.cut_file.specs.CutKeys.{AreCutKeys, cut_row, fault_after, run_of, step_of}
-pub use Rattle.cut_file.specs.CutNetwork.{IsCutNetwork, IsRide}
-unfoldable pub use Rattle.cut_file.specs.CutNetwork.{largest}
+pub use Rattle.cut_file.specs.CutNetworks.{IsCutNetwork, IsRide}
+unfoldable pub use Rattle.cut_file.specs.CutNetworks.{largest}
 pub use Rattle.cut_file.specs.CutNetworks.{AreConnections, IsConnection, IsNetwork, change_by, change_from, change_seconds_of}
 unfoldable pub use Rattle.cut_file.specs.CutNetworks.{longest}
 pub use Rattle.cut_file.specs.CutRows.{Row, named, row_from}
@@ -39,7 +39,7 @@ unfoldable pub use Rattle.cut_file.specs.Faults.{bad_field, first_cut_fault, rep
 pub use Rattle.cut_file.specs.NumberedRows.{AreCutColumns, IsNumbered, missing_in}
 unfoldable pub use Rattle.cut_file.specs.NumberedRows.{add_new, place_names, run_names}
 pub use Rattle.cut_file.specs.Read.{Cut, IsCutRead}
-pub use Rattle.cut_file.specs.Sound.{IsFaultless}
+pub use Rattle.cut_file.specs.Read.{IsFaultless}
 pub use Rattle.cut_file.specs.declared.faults.CutFault.{CutFault}
 pub use Rattle.cut_file.specs.declared.faults.CutFault.TheVariants.{Backward, BadField, Broken, DuplicateStep, TooManyRows}
 pub use Rattle.cut_file.specs.declared.rows.CutRow.{CutRow}

@@ -5,8 +5,8 @@ use Rattle.clock_text.proofs.DigitLemmas.{whole_bound}
 use Rattle.csv_rows.proofs.RowLemmas.{name_text, optional-each}
 use Rattle.clock_text.specs.Digits.{optional_seconds_of, whole_of}
 use Rattle.clock_text.specs.Times.{moment_at}
-use Rattle.csv_rows.specs.Names.{name_in}
-use Rattle.cut_file.specs.CutForms.{before_end, moment_before_end, class_in, flag_in}
+use Rattle.csv_rows.specs.Ids.{name_in}
+use Rattle.cut_file.specs.CutRows.{before_end, moment_before_end, class_in, flag_in}
 use Rattle.cut_file.specs.declared.lines.TheConstants.{MOST_STEP}
 use Rattle.plan_model.specs.Bounds.{end_of_arrivals}
 use Rattle.plan_model.proofs.Results.{require-each}

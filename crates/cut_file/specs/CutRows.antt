@@ -1,15 +1,34 @@
--- The rows of a cut file.
-use Rattle.std.specs.Prelude.{ℕ, Bool, List, Option, Result, Ok, Err}
+-- The rows of a cut file, and the forms of their fields.
+use Rattle.std.specs.Prelude.{ℕ, ◌==◌, nat_lt, Bool, true, false, ◌||◌, List, length, Option, Some, None, option_map, if◌then◌else◌, codes, Result, Ok, Err}
+use Rattle.std.specs.Str.{bytes_eq}
+use Rattle.clock_text.specs.Digits.{whole_of, optional_seconds_of}
+use Rattle.clock_text.specs.Times.{moment_at}
+use Rattle.plan_model.specs.Bounds.{end_of_arrivals}
+use Rattle.cut_file.specs.declared.fields.TheConstants.{LAST_TYPE}
 use Rattle.plan_model.specs.Results.{require}
-use Rattle.clock_text.specs.Digits.{optional_seconds_of, whole_of}
 use Rattle.csv_rows.specs.declared.columns.Column.{Column}
 use Rattle.csv_rows.specs.declared.columns.Column.TheVariants.{Class, Run, Step, From, To, Dep, Arr, Board, Exit, Change}
 use Rattle.csv_rows.specs.Tables.{field}
-use Rattle.csv_rows.specs.Names.{name_in}
+use Rattle.csv_rows.specs.Ids.{name_in}
 use Rattle.cut_file.specs.declared.lines.TheConstants.{MOST_STEP}
 use Rattle.cut_file.specs.declared.lines.Fields.{Fields}
 use Rattle.cut_file.specs.declared.lines.NamedRow.{NamedRow}
-use Rattle.cut_file.specs.CutForms.{moment_before_end, class_in, flag_in}
+
+abbrev pub before_end : Option ℕ → Option ℕ
+before_end None = None
+before_end (Some m) = if nat_lt m end_of_arrivals then Some m else None
+
+-- a moment before 2401-01-01
+abbrev pub moment_before_end : List ℕ → Option ℕ
+moment_before_end text = before_end (moment_at text)
+
+-- a route type, and none for `*`, also for an empty field
+abbrev pub class_in : List ℕ → Option (Option ℕ)
+class_in text = if length text == 0 || bytes_eq text (codes "*") then Some None else option_map Some (whole_of LAST_TYPE text)
+
+-- 0 or 1, and 1 for an empty field
+abbrev pub flag_in : List ℕ → Option Bool
+flag_in text = if length text == 0 || bytes_eq text (codes "1") then Some true else if bytes_eq text (codes "0") then Some false else None
 
 -- a row with its names; the class is a route type, and none for `*`
 pub record Row : Type 0 where

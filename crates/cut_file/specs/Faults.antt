@@ -4,7 +4,7 @@ use Rattle.std.specs.Str.{bytes_eq}
 use Rattle.std.specs.Option.{option_or}
 use Rattle.csv_rows.specs.declared.columns.Column.{Column}
 use Rattle.csv_rows.specs.declared.columns.Column.TheVariants.{Run, Step, From, To, Dep, Arr}
-use Rattle.csv_rows.specs.First.{first_below, any_below}
+use Rattle.csv_rows.specs.Lists.{first_below, any_below}
 use Rattle.csv_rows.specs.Tables.{index_of, row_count}
 use Rattle.cut_file.specs.declared.faults.CutFault.{CutFault}
 use Rattle.cut_file.specs.declared.faults.CutFault.TheVariants.{MissingColumn, TooManyRows, BadField, DuplicateStep, Backward, Broken}

@@ -1,11 +1,13 @@
--- A cut file that is read.
-use Rattle.std.specs.Prelude.{◌≡◌, ℕ, ◌<◌, List, length}
+-- A cut file that is read, and one with no fault.
+use Rattle.std.specs.Prelude.{◌≡◌, ℕ, ◌<◌, List, length, ◌≤◌, None}
 use Rattle.csv_rows.specs.Tables.{row_count}
 use Rattle.cut_file.specs.declared.rows.CutRow.{CutRow}
 use Rattle.csv_rows.specs.declared.keys.Key.{Key}
-use Rattle.cut_file.specs.Faults.{row}
+use Rattle.cut_file.specs.Faults.{row, first_cut_fault}
 use Rattle.cut_file.specs.NumberedRows.{run_names, place_names, IsNumbered}
 use Rattle.cut_file.specs.CutKeys.{cut_row, AreCutKeys}
+use Rattle.csv_rows.specs.Spaces.{AreTrimmed}
+use Rattle.plan_model.specs.Bounds.{most_connections}
 
 -- its names in the order in which they first occur, its rows with their numbers, and the order of the rows by run and step
 pub record IsCutRead (t : List (List (List ℕ))) (runs places : List (List ℕ)) (rows : List CutRow) (keys : List Key) : Type 0 where
@@ -22,3 +24,12 @@ pub record Cut : Type 0 where
   pub places : List (List ℕ)
   pub rows : List CutRow
   pub keys : List Key
+
+-- it was read from a table of trimmed fields with no fault
+pub record IsFaultless (c : Cut) : Type 0 where
+  pub table : List (List (List ℕ))
+  pub limit : ℕ
+  pub few : limit ≤ most_connections
+  pub trimmed : AreTrimmed table
+  pub none : first_cut_fault table limit ≡ None
+  pub read : IsCutRead table c.runs c.places c.rows c.keys

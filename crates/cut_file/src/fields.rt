@@ -1,6 +1,6 @@
 //! The forms of the fields.
 ghost use Rattle.std.specs.Prelude.{◌≡◌, option_map};
-ghost use Rattle.cut_file.specs.CutForms.{moment_before_end, class_in, flag_in};
+ghost use Rattle.cut_file.specs.CutRows.{moment_before_end, class_in, flag_in};
 
 use clock_text::{read_moment, read_whole};
 

@@ -1,7 +1,7 @@
 //! The rows of a cut file by the numbers of their names.
 ghost use Rattle.std.specs.Prelude.{◌≡◌, ◌≢◌, ℕ, ◌-◌, ◌<◌, ◌≤◌, ◌^◌, [], length, slice_index_or, Some, None, OnOk, IfOk, IfErr, IfSome};
 ghost use Rattle.csv_rows.specs.declared.columns.Column.TheVariants.{Class, Run, Step, From, To, Dep, Arr, Board, Exit, Change};
-ghost use Rattle.csv_rows.specs.First.{first_below};
+ghost use Rattle.csv_rows.specs.Lists.{first_below};
 ghost use Rattle.csv_rows.specs.Limits.{standard};
 ghost use Rattle.csv_rows.specs.Tables.{row_count, field};
 ghost use Rattle.cut_file.specs.declared.rows.CutRow.{CutRow};

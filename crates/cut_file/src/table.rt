@@ -3,8 +3,7 @@ ghost use Rattle.std.specs.Prelude.{◌≡◌, ◌≢◌, ℕ, List, Some, None,
 ghost use Rattle.plan_model.specs.NameLists.{NamesFit};
 ghost use Rattle.cut_file.specs.Faults.{first_cut_fault};
 ghost use Rattle.cut_file.specs.Read.{IsCutRead};
-ghost use Rattle.cut_file.specs.CutNetworks.{IsNetwork};
-ghost use Rattle.cut_file.specs.CutNetwork.{IsCutNetwork};
+ghost use Rattle.cut_file.specs.CutNetworks.{IsNetwork, IsCutNetwork};
 
 use crate::checked::{Checked, read_checked};
 use crate::faults::CutFault;
@@ -35,7 +34,7 @@ impl Model for CutTable {
 
     ghost Value = { Cut };
 
-    ghost use Rattle.cut_file.specs.Sound.{IsFaultless};
+    ghost use Rattle.cut_file.specs.Read.{IsFaultless};
 
     ghost view = { λ c. record {
       runs = c.names.runs;

@@ -2,9 +2,9 @@
 use Rattle.decision_graph.proofs.Common.{◌≡◌, ℕ, ◌<◌, ◌≤◌, [], Option, Some, None, MatchOption, MatchOption-at_some, true, refl, sym, subst, arith, ◌==◌, nat_tests, Scoring, ScoreLaws, Leg, Query, NetworkModel, Tree, Done, Ride, Stuck}
 use Rattle.decision_graph.proofs.Common.{IsSafeFor, ExpandedGraph, RideTable, IsBestBy, IsNoneSafe, IsExpandedBy, HasSteadyChoice}
 use Rattle.std.proofs.lemmas.List.Elements.{All-nil}
-use Rattle.decision_graph.specs.Expanded.{no_rides}
+use Rattle.decision_graph.specs.Planned.{no_rides}
 use Rattle.plan_model.specs.Unfold.{unfolding_of}
-use Rattle.plan_graph.specs.PickedRows.{Precedes, pick_after}
+use Rattle.plan_graph.specs.Unfold.{Precedes, pick_after}
 use Rattle.plan_graph.specs.Ready.{Stands}
 use Rattle.plan_model.proofs.Lists.{Contains-nil, AllPairs-nil}
 

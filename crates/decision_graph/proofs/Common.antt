@@ -2,7 +2,7 @@
 pub use Rattle.std.proofs.Common.{List, MatchOption, None, Option, Some, [], ap, arith, inl, inr, mul-le-mul_right, nat_le, refl, subst, sym, true, ℕ, ◌*◌, ◌+◌, ◌<◌, ◌==◌, ◌^◌, ◌∙◌, ◌≡◌, ◌≢◌, ◌≤◌}
 pub use Rattle.std.proofs.lemmas.Bool.Decides.{nat_tests}
 pub use Rattle.std.proofs.lemmas.Option.{MatchOption-at_some}
-pub use Rattle.decision_graph.specs.Expanded.{HasSteadyChoice, IsExpanded, IsExpandedBy, IsNoneSafe}
+pub use Rattle.decision_graph.specs.Planned.{HasSteadyChoice, IsExpanded, IsExpandedBy, IsNoneSafe}
 pub use Rattle.decision_graph.specs.GraphValues.{IsBest, IsBestBy}
 pub use Rattle.decision_graph.specs.LeastChances.{IsLeastChance}
 pub use Rattle.decision_graph.specs.Planned.{IsPlanned, IsPlannedBy}
@@ -12,7 +12,7 @@ pub use Rattle.plan_graph.specs.Unfold.{unfold_expanded, unfold_plan}
 pub use Rattle.plan_graph.specs.declared.ExpandedGraph.{ExpandedGraph}
 pub use Rattle.plan_graph.specs.declared.PlanGraph.{PlanGraph}
 pub use Rattle.plan_graph.specs.declared.Ride.{Ride as RideTable}
-pub use Rattle.plan_model.specs.NetworkModel.{NetworkModel}
+pub use Rattle.plan_model.specs.Network.{NetworkModel}
 pub use Rattle.plan_model.specs.Strategy.{IsLeastWorst, IsSafeFor}
 pub use Rattle.plan_model.specs.Tree.{Done, Ride, Stuck, Tree, height, worst}
 pub use Rattle.plan_model.specs.declared.model.Leg.{Leg}

@@ -4,11 +4,11 @@ use Rattle.plan_model.specs.Bounds.{nanos_per_second}
 use Rattle.interval_fixed.specs.Interval.{Interval}
 use Rattle.plan_model.specs.Expected.{Below, Encloses, arrival}
 use Rattle.plan_model.specs.declared.model.Query.{Query}
-use Rattle.plan_model.specs.NetworkModel.{NetworkModel}
+use Rattle.plan_model.specs.Network.{NetworkModel}
 use Rattle.plan_model.specs.Network.{count}
 use Rattle.plan_model.specs.Tree.{Tree}
 use Rattle.plan_model.specs.Strategy.{IsSafeFor}
-use Rattle.value_laws.specs.Rounded.{rounded_up, rounded_down}
+use Rattle.value_laws.specs.Spans.{rounded_up, rounded_down}
 use Rattle.value_laws.specs.ScoreLaws.{Scoring}
 
 -- the strategy is safe; the value covers it and is below every safe strategy, this one too;

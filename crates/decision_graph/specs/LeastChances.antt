@@ -2,7 +2,7 @@
 use Rattle.std.specs.Prelude.{◌≡◌, ◌≢◌, ℕ}
 use Rattle.interval_fixed.specs.Interval.{Interval}
 use Rattle.plan_model.specs.declared.model.Query.{Query}
-use Rattle.plan_model.specs.NetworkModel.{NetworkModel}
+use Rattle.plan_model.specs.Network.{NetworkModel}
 use Rattle.plan_graph.specs.declared.PlanGraph.{PlanGraph}
 use Rattle.plan_graph.specs.Unfold.{unfold_plan}
 use Rattle.meat_scan.specs.Rules.{IsByRules}

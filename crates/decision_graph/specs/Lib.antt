@@ -1,4 +1,3 @@
 pub mod GraphValues
-pub mod Expanded
 pub mod Planned
 pub mod LeastChances

@@ -4,7 +4,7 @@ ghost use Rattle.interval_fixed.specs.Interval.{end_of_nanos};
 ghost use Rattle.plan_model.specs.Bounds.{end_of_time};
 ghost use Rattle.plan_model.specs.Order.{IsScanOrder};
 ghost use Rattle.value_laws.specs.Means.{mean_scoring};
-ghost use Rattle.decision_graph.specs.Expanded.{no_rides, IsNoneSafe, IsExpanded, IsExpandedBy, HasSteadyChoice};
+ghost use Rattle.decision_graph.specs.Planned.{no_rides, IsNoneSafe, IsExpanded, IsExpandedBy, HasSteadyChoice};
 
 use crate::found::Found;
 use interval_fixed::Span;

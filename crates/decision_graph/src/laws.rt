@@ -1,7 +1,7 @@
 //! What two plans of one problem have to do with each other.
 ghost use Rattle.std.specs.Prelude.{◌≡◌, ◌≤◌, Some};
 ghost use Rattle.interval_fixed.specs.Interval.{Interval};
-ghost use Rattle.plan_model.specs.NetworkModel.{NetworkModel};
+ghost use Rattle.plan_model.specs.Network.{NetworkModel};
 ghost use Rattle.plan_model.specs.declared.model.Query.{Query as Asked};
 ghost use Rattle.plan_model.specs.Strategy.{IsLeastWorst};
 ghost use Rattle.plan_model.specs.Tree.{Tree, worst};

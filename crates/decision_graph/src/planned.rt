@@ -3,8 +3,7 @@ ghost use Rattle.std.specs.Prelude.{◌≡◌, ◌<◌, IfOk, MatchOption};
 ghost use Rattle.interval_fixed.specs.Interval.{end_of_nanos};
 ghost use Rattle.plan_model.specs.Bounds.{end_of_time};
 ghost use Rattle.plan_model.specs.Order.{IsScanOrder};
-ghost use Rattle.decision_graph.specs.Expanded.{IsNoneSafe, IsExpandedBy, HasSteadyChoice};
-ghost use Rattle.decision_graph.specs.Planned.{IsPlanned, IsPlannedBy};
+ghost use Rattle.decision_graph.specs.Planned.{IsNoneSafe, IsExpandedBy, HasSteadyChoice, IsPlanned, IsPlannedBy};
 
 use crate::expanded::{expand_by, expand_means};
 use crate::found::Found;

@@ -3,7 +3,7 @@ ghost use Rattle.std.specs.Prelude.{◌≡◌, ◌<◌, ◌≤◌, ◌+◌, leng
 ghost use Rattle.plan_model.specs.Bounds.{end_of_time};
 ghost use Rattle.plan_model.specs.Network.{IsValid};
 ghost use Rattle.plan_model.specs.Propositions.{IsValid-prop};
-ghost use Rattle.decision_graph.specs.Expanded.{IsNoneSafe};
+ghost use Rattle.decision_graph.specs.Planned.{IsNoneSafe};
 ghost use Rattle.late_chance.specs.Chances.{seconds_per_week};
 ghost use Rattle.late_chance.specs.Punctual.{IsPunctual, asked_for, seen_for};
 ghost use Rattle.decision_graph.specs.LeastChances.{IsLeastChance, IsSeenLater};

@@ -17,7 +17,7 @@ pub use Rattle.std.specs.Option.{option_or}
 pub use Rattle.csv_rows.proofs.FaultLemmas.{if_raised}
 pub use Rattle.csv_rows.proofs.FirstLemmas.{absent_by, first-at, first-is, first-next, first-same, first-zero, found_by, index_by-none, index_by-some, none-both, none-each}
 pub use Rattle.csv_rows.proofs.IdLemmas.{got, number-contained, number-here}
-pub use Rattle.csv_rows.specs.First.{first_below}
+pub use Rattle.csv_rows.specs.Lists.{first_below}
 pub use Rattle.csv_rows.specs.Tables.{field, field_at, index_of, number_in, row_count}
 pub use Rattle.csv_rows.specs.declared.columns.Column.TheVariants.{Class, Delay, Hour, RouteId, Weight}
 pub use Rattle.plan_model.specs.Bounds.{seconds_per_day}

@@ -12,8 +12,8 @@ use Rattle.delay_table.specs.declared.faults.ClassName.{ClassName}
 use Rattle.delay_table.specs.declared.faults.ClassName.TheVariants.{Any, Route}
 use Rattle.delay_table.specs.declared.faults.DelayFault.{DelayFault}
 use Rattle.delay_table.specs.declared.faults.DelayFault.TheVariants.{MissingColumn, BadField, TooManyRows, GroupRows, NotRising, TooManyClasses, WeightSum, GroupSum, NoDefault}
-use Rattle.csv_rows.specs.First.{first_below}
-use Rattle.csv_rows.specs.Names.{name_in}
+use Rattle.csv_rows.specs.Lists.{first_below}
+use Rattle.csv_rows.specs.Ids.{name_in}
 use Rattle.csv_rows.specs.Tables.{index_of, field, row_count}
 use Rattle.delay_table.specs.DelayBounds.{most_rows, most_groups, last_type, end_of_types, whole_weight}
 use Rattle.delay_table.specs.declared.lines.TheConstants.{LAST_HOUR}

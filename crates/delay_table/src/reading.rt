@@ -1,6 +1,6 @@
 //! The outcomes of each group, row by row.
 ghost use Rattle.std.specs.Prelude.{◌≡◌, ◌≢◌, ◌+◌, ◌<◌, ◌++◌, ◌∷◌, [], length, Some, None, OnOk, IfOk, IfErr, option_map};
-ghost use Rattle.csv_rows.specs.First.{first_below};
+ghost use Rattle.csv_rows.specs.Lists.{first_below};
 ghost use Rattle.csv_rows.specs.Tables.{row_count};
 ghost use Rattle.delay_table.specs.Groups.{group_in, of_class, group_index};
 ghost use Rattle.delay_table.specs.Delays.{fault_after, line_fault, line_with, too_many};

@@ -1,6 +1,6 @@
 //! The faults of the groups of a whole delay file.
 ghost use Rattle.std.specs.Prelude.{◌≡◌, ◌≤◌, length};
-ghost use Rattle.csv_rows.specs.First.{first_below};
+ghost use Rattle.csv_rows.specs.Lists.{first_below};
 ghost use Rattle.delay_table.specs.DelayBounds.{end_of_types, most_rows};
 ghost use Rattle.delay_table.specs.Delays.{class_sum, group_sum_at, groups_fault, route_types_below, no_default_of, other_sum, too_many_classes, type_sum_at};
 ghost use Rattle.delay_table.specs.Read.{line_at, read_outcomes};

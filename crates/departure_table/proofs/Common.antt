@@ -7,7 +7,7 @@ pub use Rattle.std.specs.List.{range_with_len}
 pub use Rattle.plan_model.specs.Bounds.{end_of_arrivals}
 pub use Rattle.plan_model.specs.Gates.{FitGates, HasGates, IsGate, extended_by, links_with_gates, places_with, source_at, way_from, way_if_to, ways_from_gates}
 pub use Rattle.plan_model.specs.Network.{AreLinksInto, IsValid, arr_of, count, dep_of, from_of, links_into}
-pub use Rattle.plan_model.specs.NetworkModel.{NetworkModel, plain_network}
+pub use Rattle.plan_model.specs.Network.{NetworkModel, plain_network}
 pub use Rattle.plan_model.specs.Strategy.{IsLeastWorst, IsLeg}
 pub use Rattle.plan_model.specs.Tree.{Done, Kids, Ride, Stuck, Tree}
 pub use Rattle.plan_model.specs.Ways.{own_way, way_in, way_of, ways_into}

@@ -3,7 +3,7 @@ use Rattle.departure_table.proofs.Common.{◌≡◌, ℕ, zero, suc, ◌<◌, �
 use Rattle.departure_table.proofs.Common.{slice_index_or, cases_lt, cases_order, nat_tests, Query, Moment, NetworkModel, Tree, Done, Ride, Stuck, IsLeastWorst, DepartureRow, SafeFrom}
 use Rattle.departure_table.proofs.Common.{IsBestFrom, IsDepartureRow, IsTable, IsGreatestMoment, first_row_by}
 use Rattle.plan_model.proofs.Laws.{reaches_from_safe, safe_exists}
-use Rattle.departure_table.specs.Latest.{IsOfLastRow, AgreesWithLeastWorst}
+use Rattle.departure_table.specs.Departures.{IsOfLastRow, AgreesWithLeastWorst}
 
 -- a row by a moment, that is the first
 record IsFirst (moment : ℕ) (rows : List DepartureRow) : Type 0 where

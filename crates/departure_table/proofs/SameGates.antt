@@ -16,7 +16,7 @@ use Rattle.value_laws.specs.Means.{mean_scoring}
 use Rattle.meat_scan.specs.Rules.{Kept, kept_after, kept_next, FollowsRules}
 use Rattle.meat_scan.specs.ScanResult.{ScanResult, found_rows}
 use Rattle.meat_scan.specs.Step.{exits_with}
-use Rattle.meat_scan.specs.Values.{values_after}
+use Rattle.meat_scan.specs.Step.{values_after}
 use Rattle.plan_model.proofs.GateWays.{same_ways, from_the_gate}
 use Rattle.departure_table.specs.Looked.{asked_at}
 use Rattle.departure_table.specs.Reach.{BeginsWithBounds, FirstAlike, places_of}

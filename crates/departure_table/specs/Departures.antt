@@ -1,16 +1,16 @@
--- What a table of departures says.
-use Rattle.std.specs.Prelude.{◌≡◌, ◌≢◌, ℕ, ◌-◌, ◌<◌, ◌≤◌, ◌↔◌, List, [], Option, Some, MatchOption, All, AllPairs, find, length, nat_le}
+-- What a table of departures says, and what the greatest moment has to do with it and with the least worst arrival.
+use Rattle.std.specs.Prelude.{◌≡◌, ◌≢◌, ℕ, ◌-◌, ◌<◌, ◌≤◌, ◌↔◌, List, [], Option, Some, MatchOption, All, AllPairs, find, length, nat_le, None, IsSome}
 use Rattle.plan_model.specs.declared.model.Leg.{Leg}
 use Rattle.plan_model.specs.declared.model.Query.{Query}
 use Rattle.plan_model.specs.declared.model.Moment.{Moment}
 use Rattle.plan_model.specs.Bounds.{nanos_per_second}
-use Rattle.plan_model.specs.NetworkModel.{NetworkModel}
+use Rattle.plan_model.specs.Network.{NetworkModel}
 use Rattle.plan_model.specs.Network.{IsValid, count, from_of, dep_of}
 use Rattle.plan_model.specs.Ways.{way_of}
 use Rattle.plan_model.specs.Tree.{Tree, Ride, Kids}
 use Rattle.plan_model.specs.Expected.{Below, Covers, arrival}
-use Rattle.plan_model.specs.Strategy.{IsLeg, IsSafeFromStart}
-use Rattle.value_laws.specs.Rounded.{rounded_up, rounded_down}
+use Rattle.plan_model.specs.Strategy.{IsLeg, IsSafeFromStart, IsLeastWorst}
+use Rattle.value_laws.specs.Spans.{rounded_up, rounded_down}
 use Rattle.value_laws.specs.declared.MeanSpan.{MeanSpan}
 use Rattle.value_laws.specs.Means.{mean_scoring}
 use Rattle.meat_scan.specs.ScanResult.{ScanResult, choice_of}
@@ -95,3 +95,20 @@ pub record SaysOfSource (network : NetworkModel) (query : Query) (m : NetworkMod
   pub empty_exactly : (first last : ℕ) (rows : List DepartureRow) → 1 ≤ first → first ≤ last → IsTable network (SafeAfter network query) first last rows →
       (rows ≡ []) ↔ IsNoneSafeFrom (SafeFrom m source query) first
   pub greatest : (first : ℕ) (result : Option Moment) → 1 ≤ first → IsGreatestMoment (SafeAfter network query) first result → IsGreatestMoment (SafeFrom m source query) first result
+
+-- no row is by a later moment, and one is by this moment, if the table goes on so far
+pub record IsOfLastRow (last : ℕ) (rows : List DepartureRow) (greatest : Moment) : Type 0 where
+  pub each : All (λ row. row.by.0 ≤ greatest.0) rows
+  pub one : greatest.0 ≤ last → (row : DepartureRow) × (first_row_by greatest.0 rows ≡ Some row) × (row.by.0 ≡ greatest.0)
+
+-- there is a greatest moment from a first one on exactly if the least worst arrival from the first one is by the deadline; from
+-- the greatest moment the least worst arrival is by the deadline, and from each later one after it
+pub record AgreesWithLeastWorst (network : NetworkModel) (source : ℕ) (query : Query) (first : ℕ) : Type 0 where
+  pub in_time : (worst : Moment) (result : Option Moment) → IsLeastWorst network source query.target.0 first (Some worst)
+      → IsGreatestMoment (SafeFrom network source query) first result → worst.0 ≤ query.deadline.0 → IsSome result
+  pub too_late : (worst : Moment) (result : Option Moment) → IsLeastWorst network source query.target.0 first (Some worst)
+      → IsGreatestMoment (SafeFrom network source query) first result → query.deadline.0 < worst.0 → result ≡ None
+  pub at : (greatest worst : Moment) → IsGreatestMoment (SafeFrom network source query) first (Some greatest)
+      → IsLeastWorst network source query.target.0 greatest.0 (Some worst) → worst.0 ≤ query.deadline.0
+  pub past : (moment : ℕ) (greatest worst : Moment) → IsGreatestMoment (SafeFrom network source query) first (Some greatest) → greatest.0 < moment
+      → IsLeastWorst network source query.target.0 moment (Some worst) → query.deadline.0 < worst.0

@@ -1,4 +1,3 @@
 pub mod Departures
-pub mod Latest
 pub mod Looked
 pub mod Reach

@@ -4,7 +4,7 @@ use Rattle.std.specs.List.{range_with_len}
 use Rattle.interval_fixed.specs.Interval.{Interval}
 use Rattle.plan_model.specs.declared.model.PlaceId.{PlaceId}
 use Rattle.plan_model.specs.declared.model.Query.{Query}
-use Rattle.plan_model.specs.NetworkModel.{NetworkModel}
+use Rattle.plan_model.specs.Network.{NetworkModel}
 use Rattle.departure_table.specs.Departures.{SafeFrom, IsNoneSafeFrom, IsGreatestMoment, IsBestFrom}
 use Rattle.value_laws.specs.declared.MeanSpan.{MeanSpan}
 use Rattle.value_laws.specs.Means.{mean_scoring}

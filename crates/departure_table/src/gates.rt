@@ -1,8 +1,7 @@
 //! The network with gates: for each of some sources one more place, from which one is at the source a second later.
 ghost use Rattle.std.specs.Prelude.{◌≡◌, ◌++◌, IfOk, map, replicate};
 ghost use Rattle.std.specs.List.{range_with_len};
-ghost use Rattle.plan_model.specs.Network.{IsValid, links_into};
-ghost use Rattle.plan_model.specs.NetworkModel.{NetworkModel};
+ghost use Rattle.plan_model.specs.Network.{IsValid, links_into, NetworkModel};
 ghost use Rattle.plan_model.specs.Gates.{FitGates, HasGates, extended_by as with_gates};
 
 use plan_model::{List, Network, NoMemory, PlaceId, Way};

@@ -1,16 +1,14 @@
 //! The greatest moment, the table and the least worst arrival say one thing.
 ghost use Rattle.std.specs.Prelude.{◌≡◌, ℕ, ◌<◌, ◌≤◌, List as Rows, [], ◌∷◌, Some, length};
-ghost use Rattle.plan_model.specs.Network.{IsValid};
-ghost use Rattle.plan_model.specs.NetworkModel.{NetworkModel};
+ghost use Rattle.plan_model.specs.Network.{IsValid, NetworkModel};
 ghost use Rattle.plan_model.specs.declared.model.Query.{Query as Asked};
 ghost use Rattle.plan_model.specs.declared.model.PlaceId.{PlaceId as Place};
 ghost use Rattle.plan_model.specs.declared.model.Moment.{Moment as When};
 ghost use Rattle.departure_table.specs.declared.DepartureRow.{DepartureRow as Row};
-ghost use Rattle.departure_table.specs.Departures.{SafeFrom, IsTable, IsGreatestMoment};
+ghost use Rattle.departure_table.specs.Departures.{SafeFrom, IsTable, IsGreatestMoment, IsOfLastRow, AgreesWithLeastWorst};
 ghost use Rattle.plan_model.specs.Gates.{FitGates, source_at};
 ghost use Rattle.departure_table.specs.Looked.{FindAlike};
 ghost use Rattle.departure_table.specs.Reach.{FirstAlike, places_of};
-ghost use Rattle.departure_table.specs.Latest.{IsOfLastRow, AgreesWithLeastWorst};
 
 /// A law, with no code: no row is by a later moment than the greatest, and if the table goes on so far, one
 /// row is by it.

@@ -8,7 +8,7 @@
 #![tactic(auto)]
 
 ghost use Rattle.std.specs.Prelude.{◌≡◌, ◌≢◌, ℕ, ◌+◌, ◌<◌, ◌≤◌, IfOk};
-ghost use Rattle.plan_model.specs.NetworkModel.{NetworkModel};
+ghost use Rattle.plan_model.specs.Network.{NetworkModel};
 ghost use Rattle.departure_table.specs.Departures.{SolvesArrivals, IsASecondAway, SafeAfter, IsExtendedFor, IsTable, IsGreatestMoment, SaysOfSource};
 ghost use Rattle.departure_table.specs.Looked.{row_found, AreLooked};
 ghost use Rattle.plan_model.specs.declared.model.Query.{Query as Asked};

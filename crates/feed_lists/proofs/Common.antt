@@ -6,9 +6,9 @@ pub use Rattle.csv_rows.proofs.FaultLemmas.{fault-at, match_raised}
 pub use Rattle.csv_rows.proofs.FirstLemmas.{first-next, first-zero, none-each}
 pub use Rattle.csv_rows.proofs.ListLemmas.{get-list_below, length-list_below, list_below-next, list_below-zero}
 pub use Rattle.csv_rows.proofs.RowLemmas.{name_is}
-pub use Rattle.csv_rows.specs.First.{first_below}
+pub use Rattle.csv_rows.specs.Lists.{first_below}
 pub use Rattle.csv_rows.specs.Lists.{list_below}
-pub use Rattle.csv_rows.specs.Names.{name_in}
+pub use Rattle.csv_rows.specs.Ids.{name_in}
 pub use Rattle.csv_rows.specs.Tables.{field, row_count}
 pub use Rattle.csv_rows.specs.declared.columns.Column.TheVariants.{RouteId, ServiceId, StopId, TripId}
 pub use Rattle.feed_lists.specs.Routes.{bad_route, route_columns, route_in, route_or_none}

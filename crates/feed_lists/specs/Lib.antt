@@ -1,5 +1,4 @@
 pub mod ListBounds
-pub mod StopForms
 pub mod Stops
 pub mod Routes
 pub mod Trips

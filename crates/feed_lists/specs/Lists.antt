@@ -6,7 +6,7 @@ use Rattle.csv_rows.specs.declared.columns.Column.TheVariants.{StopId, RouteId}
 use Rattle.csv_rows.specs.declared.feed_tables.Table.TheVariants.{Stops as StopsTable, Routes as RoutesTable, Trips as TripsTable}
 use Rattle.csv_rows.specs.declared.feed_tables.FeedFault.{FeedFault}
 use Rattle.table_files.specs.declared.loading.Loaded.{Loaded}
-use Rattle.table_files.specs.Required.{Records, required, IsOfSomeTable}
+use Rattle.table_files.specs.Loading.{Records, required, IsOfSomeTable}
 use Rattle.feed_lists.specs.declared.routes.Routes.{Routes}
 use Rattle.feed_lists.specs.declared.stops.Stops.{Stops}
 use Rattle.feed_lists.specs.declared.trips.Trips.{Trips}

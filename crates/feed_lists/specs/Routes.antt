@@ -8,8 +8,8 @@ use Rattle.csv_rows.specs.declared.columns.Column.TheVariants.{RouteId, RouteTyp
 use Rattle.csv_rows.specs.declared.feed_tables.Table.TheVariants.{Routes}
 use Rattle.csv_rows.specs.declared.feed_tables.FeedFault.{FeedFault}
 use Rattle.csv_rows.specs.declared.feed_tables.FeedFault.TheVariants.{BadField}
-use Rattle.csv_rows.specs.First.{first_below}
-use Rattle.csv_rows.specs.Names.{name_in}
+use Rattle.csv_rows.specs.Lists.{first_below}
+use Rattle.csv_rows.specs.Ids.{name_in}
 use Rattle.csv_rows.specs.Tables.{row_count, index_of, field_at, field}
 use Rattle.feed_lists.specs.declared.routes.RouteColumns.{RouteColumns}
 use Rattle.csv_rows.specs.RowFaults.{first_missing, repeated_id}

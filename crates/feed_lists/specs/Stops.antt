@@ -1,5 +1,7 @@
--- The stops of a feed: their ids, and the place of each.
-use Rattle.std.specs.Prelude.{ℕ, ◌+◌, ◌==◌, List, [], ◌∷◌, length, Option, Some, None, Result, Ok, is_some, unwrap_or, if◌then◌else◌}
+-- The stops of a feed: their ids, the place of each, and the forms of their fields (GTFS Schedule reference).
+use Rattle.std.specs.Prelude.{ℕ, ◌==◌, Bool, true, false, ◌||◌, List, [], length, Option, Some, None, if◌then◌else◌, codes, ◌+◌, ◌∷◌, Result, Ok, is_some, unwrap_or}
+use Rattle.std.specs.Str.{bytes_eq}
+use Rattle.csv_rows.specs.Ids.{text_in, name_in}
 use Rattle.std.specs.Option.{option_or}
 use Rattle.std.specs.Result.{result_err}
 use Rattle.plan_model.specs.Results.{require, value_or}
@@ -7,13 +9,23 @@ use Rattle.csv_rows.specs.declared.columns.Column.TheVariants.{StopId, LocationT
 use Rattle.csv_rows.specs.declared.feed_tables.Table.TheVariants.{Stops}
 use Rattle.csv_rows.specs.declared.feed_tables.FeedFault.{FeedFault}
 use Rattle.csv_rows.specs.declared.feed_tables.FeedFault.TheVariants.{BadField, UnknownKey}
-use Rattle.csv_rows.specs.First.{first_below}
-use Rattle.csv_rows.specs.Names.{name_in}
+use Rattle.csv_rows.specs.Lists.{first_below}
 use Rattle.csv_rows.specs.Tables.{row_count, number_in, index_of, field_at, field}
 use Rattle.feed_lists.specs.declared.stops.StopColumns.{StopColumns}
 use Rattle.csv_rows.specs.RowFaults.{first_missing, repeated_id}
-use Rattle.feed_lists.specs.StopForms.{is_stop_in, parent_in}
 use Rattle.csv_rows.specs.Lists.{list_below}
+
+-- whether a location is a stop or a platform; else it is a station, an entrance, a node or a boarding area
+abbrev pub is_stop_in : List ℕ → Option Bool
+is_stop_in text =
+    if length text == 0 || bytes_eq text (codes "0") then Some true
+    else if bytes_eq text (codes "1") || (bytes_eq text (codes "2") || (bytes_eq text (codes "3") || bytes_eq text (codes "4"))) then Some false
+    else None
+
+-- the parent station, at which only stops and platforms are looked at; an empty text is none
+abbrev pub parent_in : Bool → List ℕ → Option (List ℕ)
+parent_in true text = text_in text
+parent_in false text = Some []
 
 -- a stop by its id and its parent station, which is empty where it has none
 pub record Stop : Type 0 where

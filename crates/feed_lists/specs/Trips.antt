@@ -7,8 +7,8 @@ use Rattle.csv_rows.specs.declared.columns.Column.TheVariants.{RouteId, ServiceI
 use Rattle.csv_rows.specs.declared.feed_tables.Table.TheVariants.{Trips}
 use Rattle.csv_rows.specs.declared.feed_tables.FeedFault.{FeedFault}
 use Rattle.csv_rows.specs.declared.feed_tables.FeedFault.TheVariants.{BadField, UnknownKey}
-use Rattle.csv_rows.specs.First.{first_below}
-use Rattle.csv_rows.specs.Names.{name_in}
+use Rattle.csv_rows.specs.Lists.{first_below}
+use Rattle.csv_rows.specs.Ids.{name_in}
 use Rattle.csv_rows.specs.Tables.{row_count, number_in, index_of, field_at, field}
 use Rattle.feed_lists.specs.declared.trips.TripColumns.{TripColumns}
 use Rattle.csv_rows.specs.RowFaults.{first_missing, repeated_id}

@@ -1,6 +1,6 @@
 //! The forms of the fields of stops (GTFS Schedule reference).
 ghost use Rattle.std.specs.Prelude.{◌≡◌, option_map};
-ghost use Rattle.feed_lists.specs.StopForms.{is_stop_in, parent_in};
+ghost use Rattle.feed_lists.specs.Stops.{is_stop_in, parent_in};
 
 use csv_rows::read_text;
 

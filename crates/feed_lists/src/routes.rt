@@ -3,7 +3,7 @@ ghost use Rattle.std.specs.Prelude.{◌≡◌, ◌<◌, ◌≤◌, Ok, IfOk, len
 ghost use Rattle.std.specs.Result.{result_err};
 ghost use Rattle.clock_text.specs.Digits.{whole_of};
 ghost use Rattle.csv_rows.specs.declared.feed_tables.Table.TheVariants.{Routes as RoutesTable};
-ghost use Rattle.csv_rows.specs.First.{first_below};
+ghost use Rattle.csv_rows.specs.Lists.{first_below};
 ghost use Rattle.csv_rows.specs.Tables.{row_count};
 ghost use Rattle.csv_rows.specs.RowFaults.{ReportsFirst};
 ghost use Rattle.feed_lists.specs.ListBounds.{most_routes};

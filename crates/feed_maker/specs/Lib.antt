@@ -1,7 +1,4 @@
-pub mod HubLines
-pub mod Names
 pub mod MadeTables
-pub mod Made
-pub mod Pieces
+pub mod Names
 pub mod StopTimes
 pub mod Files

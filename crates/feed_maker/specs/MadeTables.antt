@@ -1,8 +1,9 @@
--- The tables of the feed and the delay file, by the number of lines.
-use Rattle.std.specs.Prelude.{ℕ, ◌+◌, ◌%◌, List, ◌++◌, codes, decimal, flat_map}
+-- The tables of the feed and the delay file of a made timetable, by the number of lines, and its files.
+use Rattle.std.specs.Prelude.{ℕ, ◌+◌, ◌%◌, List, ◌++◌, codes, decimal, flat_map, ◌≡◌, [], ◌∷◌}
 use Rattle.std.specs.List.{range_with_len}
-use Rattle.feed_maker.specs.HubLines.{seconds_at}
+use Rattle.feed_maker.specs.Names.{seconds_at}
 use Rattle.feed_maker.specs.Names.{hub_name, own_name, route_name, trip_name, name_at, time_text}
+use Rattle.file_ports.specs.Ports.{FileMap, file_at}
 
 -- the pieces of the numbers below `count`, one after another
 unfoldable pub joined : (ℕ → List ℕ) → ℕ → List ℕ
@@ -62,3 +63,28 @@ calendar_text =
 unfoldable pub delays_text : List ℕ
 delays_text =
     codes "class,delay,weight\n*,0,8000\n*,300,1500\n*,900,500\n1,0,9000\n1,60,1000\n2,0,7000\n2,120,2000\n2,600,1000\n"
+
+-- the files of this number of lines by their paths
+unfoldable pub made : ℕ → FileMap
+made lines =
+    (codes "feed/stops.txt", stops_text lines)
+    ∷ (codes "feed/routes.txt", routes_text lines)
+    ∷ (codes "feed/trips.txt", trips_text lines)
+    ∷ (codes "feed/stop_times.txt", stop_times_text lines)
+    ∷ (codes "feed/calendar.txt", calendar_text)
+    ∷ (codes "delays.csv", delays_text)
+    ∷ []
+
+-- all of them but the stop times
+unfoldable pub other_files : ℕ → FileMap
+other_files lines =
+    (codes "feed/stops.txt", stops_text lines)
+    ∷ (codes "feed/routes.txt", routes_text lines)
+    ∷ (codes "feed/trips.txt", trips_text lines)
+    ∷ (codes "feed/calendar.txt", calendar_text)
+    ∷ (codes "delays.csv", delays_text)
+    ∷ []
+
+-- both have the same files, each with the same bytes
+abbrev pub SameFolder : FileMap → FileMap → Type 0
+SameFolder folder other = (path : List ℕ) → file_at other path ≡ file_at folder path

@@ -1,8 +1,23 @@
--- How hubs, stops, routes, trips and times are written.
-use Rattle.std.specs.Prelude.{ℕ, ◌/◌, ◌%◌, List, ◌++◌, codes, decimal, nat_eq, if◌then◌else◌}
-use Rattle.feed_maker.specs.HubLines.{first_hub, last_hub}
+-- Lines between ten hubs, how hubs, stops, routes, trips and times are written, and the pieces that rows of stop times have in common.
+use Rattle.std.specs.Prelude.{ℕ, ◌+◌, ◌*◌, ◌/◌, ◌%◌, List, ◌++◌, codes, decimal, nat_eq, if◌then◌else◌, ◌≡◌, ◌<◌, length, slice_get, IfSome}
 use Rattle.feed_maker.specs.declared.names.Stop.{Stop}
 use Rattle.feed_maker.specs.declared.names.Stop.TheVariants.{Hub, Own}
+use Rattle.arrayvec.specs.ArrayString.{ArrayString}
+
+-- the hubs where a line starts and ends
+abbrev pub first_hub : ℕ → ℕ
+first_hub line = line % 10
+
+abbrev pub last_hub : ℕ → ℕ
+last_hub line = (line + 1 + (line / 10) % 3) % 10
+
+-- seconds from one place of a line to the next
+unfoldable pub hop_of : ℕ → ℕ
+hop_of line = 60 + 5 * (line % 7)
+
+-- seconds of the service day at which a run is at a place of its line: a line has a run every 15 minutes
+unfoldable pub seconds_at : ℕ → ℕ → ℕ → ℕ
+seconds_at line run place = 900 * run + (35 * line) % 900 + place * hop_of line
 
 abbrev pub hub_name : ℕ → List ℕ
 hub_name hub = codes "H" ++ decimal hub
@@ -35,3 +50,16 @@ two_digits number = decimal (number / 10) ++ decimal (number % 10)
 unfoldable pub time_text : ℕ → List ℕ
 time_text seconds =
     two_digits (seconds / 3600) ++ (codes ":" ++ (two_digits (seconds / 60 % 60) ++ (codes ":" ++ two_digits (seconds % 60))))
+
+-- the front of the rows of a run
+abbrev pub run_piece : ℕ → ℕ → List ℕ
+run_piece line run = trip_name line run ++ codes ","
+
+-- the end of the rows at a place of a line
+abbrev pub place_piece : ℕ → ℕ → List ℕ
+place_piece line place = name_at line place ++ (codes "," ++ (decimal (place + 1) ++ codes "\n"))
+
+-- the ends at the 21 places of a line
+pub record ArePlacePieces (line : ℕ) (ends : List ArrayString) : Type 0 where
+  pub size : length ends ≡ 21
+  pub each : (place : ℕ) → place < length ends → IfSome (slice_get ends place) (λ end. end.bytes ≡ place_piece line place)

@@ -20,7 +20,7 @@ pub struct MadeFiles {
 impl MadeFiles {
     ghost use Rattle.std.specs.Prelude.{None, IfOk};
     ghost use Rattle.feed_maker.specs.Files.{folder_of, open_of};
-    ghost use Rattle.feed_maker.specs.Made.{made, SameFolder};
+    ghost use Rattle.feed_maker.specs.MadeTables.{made, SameFolder};
 
     /// The files that `make` gives, none of them open. `NoMemory` comes only if there is no memory, and no read of
     /// the files takes any.

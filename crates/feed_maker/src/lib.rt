@@ -6,7 +6,7 @@
 
 ghost use Rattle.std.specs.Prelude.{◌≡◌, ◌≤◌, None, IfOk};
 ghost use Rattle.file_ports.specs.Steady.{folder_of, open_of, piece_of};
-ghost use Rattle.feed_maker.specs.Made.{made, other_files, SameFolder};
+ghost use Rattle.feed_maker.specs.MadeTables.{made, other_files, SameFolder};
 
 mod files;
 mod lines;

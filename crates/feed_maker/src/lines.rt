@@ -1,7 +1,6 @@
 //! Lines between hubs, and when their runs are at their places.
 ghost use Rattle.std.specs.Prelude.{◌≡◌, ◌*◌, ◌<◌, ◌≤◌};
-ghost use Rattle.feed_maker.specs.HubLines.{hop_of, seconds_at};
-ghost use Rattle.feed_maker.specs.Names.{name_at, stop_name};
+ghost use Rattle.feed_maker.specs.Names.{hop_of, seconds_at, name_at, stop_name};
 
 use crate::names::{Stop, Trip};
 
@@ -55,7 +54,7 @@ pub fn stop_at(line: Line, place: Place) -> Stop
 }
 
 /// The seconds from one place of a line to the next.
-#[tactic(auto, unfolding(crate::specs::HubLines::hop_of))]
+#[tactic(auto, unfolding(crate::specs::Names::hop_of))]
 fn hop_of(line: u32) -> u32
     ensures value { result ≡ hop_of line }
     ensures bound { result ≤ 90 }
@@ -72,7 +71,7 @@ fn ride_to(line: u32, place: Place) -> u32
 }
 
 /// The seconds of the service day at which a run is at a position of its line.
-#[tactic(auto, unfolding(crate::specs::HubLines::seconds_at))]
+#[tactic(auto, unfolding(crate::specs::Names::seconds_at))]
 pub fn seconds_at(trip: Trip, place: Place) -> u32
     ensures value { result ≡ seconds_at trip.line.number trip.run place.number }
     ensures bound { result < 90000 }

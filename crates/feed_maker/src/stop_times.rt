@@ -1,8 +1,7 @@
 //! The stop times of a made timetable, made line by line as they are read.
 ghost use Rattle.std.specs.Prelude.{◌≡◌, ◌+◌, ◌<◌, ◌≤◌, ◌++◌, min, length, take, vec_len, vec_capacity, IfOk};
 ghost use Rattle.arrayvec.specs.ArrayString.{array_string_len};
-ghost use Rattle.feed_maker.specs.Names.{stop_name};
-ghost use Rattle.feed_maker.specs.Pieces.{run_piece, place_piece, ArePlacePieces};
+ghost use Rattle.feed_maker.specs.Names.{stop_name, run_piece, place_piece, ArePlacePieces};
 ghost use Rattle.feed_maker.specs.MadeTables.{stop_time_row, run_rows, line_rows, stop_times_text};
 
 use crate::lines::{Line, Lines, PLACES, Place, RUNS, seconds_at, stop_at};

@@ -9,11 +9,11 @@ pub use Rattle.std.proofs.lemmas.Map.Lookups.{CmpEqualImpliesEq, exact_pairs, ex
 pub use Rattle.graph_compact.specs.RowsByPlace.{gathered_rows, lists_of, put_rows, row_cmp, rows_in, tables_of, with_ride, with_table}
 pub use Rattle.plan_graph.proofs.Orders.{leg_cmp-Less, leg_cmp-exact, leg_cmp-total, nat_cmp-Less, ordering_then-Less}
 pub use Rattle.plan_graph.specs.Ready.{IsByLimits, IsFirstInTime, IsLegOf, IsPickedAfter, IsPruned, IsReadyRide, IsReadyRow, IsSafeForSome, Stands}
-pub use Rattle.plan_graph.specs.WalkTables.{leg_cmp, row_by}
+pub use Rattle.plan_graph.specs.Walked.{leg_cmp, row_by}
 pub use Rattle.plan_graph.specs.declared.GraphRow.{GraphRow}
 pub use Rattle.plan_graph.specs.declared.PlaceTable.{PlaceTable}
 pub use Rattle.plan_graph.specs.declared.Ride.{Ride}
 pub use Rattle.plan_model.proofs.Lists.{All-from_contains, AllPairs-head, AllPairs-nil, AllPairs-tail, Contains-cons_cases, Contains-head, Contains-nil, Contains-tail}
-pub use Rattle.plan_model.specs.NetworkModel.{NetworkModel}
+pub use Rattle.plan_model.specs.Network.{NetworkModel}
 pub use Rattle.plan_model.specs.Unfold.{arrival_of, by_place, end_of, outcomes_of, unfolding_of}
 pub use Rattle.plan_model.specs.declared.model.Leg.{Leg}

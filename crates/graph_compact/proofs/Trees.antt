@@ -14,12 +14,12 @@ use Rattle.plan_model.specs.Tree.{Tree}
 use Rattle.plan_model.specs.Ways.{limit_of}
 use Rattle.plan_graph.specs.declared.ExpandedGraph.{ExpandedGraph}
 use Rattle.plan_graph.specs.declared.PlanGraph.{PlanGraph}
-use Rattle.plan_graph.specs.PickedRows.{pick_row, pick_after, pick_at, rows_of_place}
+use Rattle.plan_graph.specs.Unfold.{pick_row, pick_after, pick_at, rows_of_place}
 use Rattle.plan_graph.specs.Unfold.{unfold_expanded, unfold_plan}
 use Rattle.plan_graph.specs.Coherent.{IsCoherent, IsRowAt}
 use Rattle.plan_graph.specs.Tidy.{IsFit, IsFitRow, IsFitTable, IsFitStart, IsTidy, IsPickedIn}
 use Rattle.plan_graph.proofs.Searches.{precedes_itself}
-use Rattle.plan_graph.specs.Placed.{StandsSafely}
+use Rattle.plan_graph.specs.Walked.{StandsSafely}
 use Rattle.plan_graph.proofs.Together.{unfold_from-together}
 use Rattle.plan_graph.proofs.Places.{IsPlacedNext, next_after}
 use Rattle.plan_graph.proofs.Reaching.{start_placed}

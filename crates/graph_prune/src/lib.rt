@@ -8,13 +8,12 @@ ghost use Rattle.std.specs.Prelude.{◌≡◌, ℕ, ◌<◌, ◌++◌, length, m
 ghost use Rattle.std.specs.Option.{option_map};
 ghost use Rattle.plan_model.specs.declared.model.Leg.{Leg as LegParts};
 ghost use Rattle.plan_model.specs.declared.model.Query.{Query as QueryParts};
-ghost use Rattle.plan_model.specs.NetworkModel.{NetworkModel};
+ghost use Rattle.plan_model.specs.Network.{NetworkModel};
 ghost use Rattle.plan_graph.specs.declared.GraphRow.{GraphRow as RowParts};
 ghost use Rattle.plan_graph.specs.declared.ExpandedGraph.{ExpandedGraph as Graph};
 ghost use Rattle.plan_graph.specs.Unfold.{unfold_expanded};
 ghost use Rattle.plan_graph.specs.Ready.{IsReady, IsReadyRide, IsReadyRow, IsPruned};
-ghost use Rattle.plan_graph.specs.Coherent.{IsCoherent};
-ghost use Rattle.plan_graph.specs.Follows.{Follows, IsSteady};
+ghost use Rattle.plan_graph.specs.Coherent.{IsCoherent, Follows, IsSteady};
 ghost use Rattle.graph_prune.specs.Limits.{is_last, with_limit, by_limits, ride_by_limits};
 
 use plan_graph::{ExpandedGraph, GraphChoice, GraphRow, Ride, walk};

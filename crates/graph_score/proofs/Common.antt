@@ -10,7 +10,7 @@ pub use Rattle.std.specs.List.{AllWithin}
 pub use Rattle.arrayvec.specs.ArrayVec.{array_vec_len}
 pub use Rattle.interval_fixed.specs.Interval.{Interval}
 pub use Rattle.plan_graph.proofs.Picked.{row_of_pick, rows_of_place-by}
-pub use Rattle.plan_graph.specs.PickedRows.{pick_at, rows_of_place}
+pub use Rattle.plan_graph.specs.Unfold.{pick_at, rows_of_place}
 pub use Rattle.plan_graph.specs.Ready.{IsLegOf}
 pub use Rattle.plan_graph.specs.Tidy.{IsFit, IsFitRow, IsFitStart}
 pub use Rattle.plan_graph.specs.Unfold.{unfold_plan}
@@ -21,7 +21,7 @@ pub use Rattle.plan_model.proofs.Lists.{All-from_contains, Contains-cons_cases, 
 pub use Rattle.plan_model.specs.DelayRows.{EachKid}
 pub use Rattle.plan_model.specs.Network.{IsValid, arr_of, count, dep_of, no_connection, outcomes, to_of}
 unfoldable pub use Rattle.plan_model.specs.Network.{connection}
-pub use Rattle.plan_model.specs.NetworkModel.{NetworkModel}
+pub use Rattle.plan_model.specs.Network.{NetworkModel}
 pub use Rattle.plan_model.specs.Order.{IsInOrder, departure_of}
 pub use Rattle.plan_model.specs.Strategy.{AreSafe, IsBoardable, IsSafe, IsSafeFor}
 pub use Rattle.plan_model.specs.Tree.{Done, Kid, Kids, Nil, Ride, Stuck, Tree, height, height_of}
@@ -30,11 +30,11 @@ pub use Rattle.plan_model.specs.declared.departure.Departure.{Departure}
 pub use Rattle.plan_model.specs.declared.model.Leg.{Leg}
 pub use Rattle.plan_model.specs.declared.model.Outcome.{Outcome}
 pub use Rattle.plan_model.specs.declared.model.Query.{Query}
-pub use Rattle.graph_score.specs.Exits.{AreExits, exit_of}
-pub use Rattle.graph_score.specs.Failures.{Fails, FailsIn, IsFirstFailure}
+pub use Rattle.graph_score.specs.Legs.{AreExits, exit_of}
+pub use Rattle.graph_score.specs.Scores.{Fails, FailsIn, IsFirstFailure}
 pub use Rattle.graph_score.specs.Legs.{IsFirstWrong, IsFitLeg, legs_in, legs_of, start_leg}
 pub use Rattle.graph_score.specs.Scores.{IsScoreOf, IsScored, IsUnsafe}
-pub use Rattle.graph_score.specs.Spans.{span_of, spans_of}
+pub use Rattle.graph_score.specs.Scores.{span_of, spans_of}
 pub use Rattle.graph_score.specs.Steps.{AreFitRows, AreOutlooks, IsOutlook, arrived_outlook, blend_of, by_leg, failure, first_failure_of, mean_or, no_outlook, outlook_at, outlook_of, outlooks_after}
 pub use Rattle.graph_score.specs.Steps.{ride_by_rows, sooner_failure, spans_in, with_outlook}
 pub use Rattle.graph_score.specs.declared.legs.GraphLeg.{GraphLeg}

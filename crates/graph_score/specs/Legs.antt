@@ -1,14 +1,18 @@
--- The legs of a graph, and which of them fit a network and a query.
-use Rattle.std.specs.Prelude.{◌≡◌, ◌≢◌, ℕ, ◌+◌, List, [], ◌∷◌, ◌++◌, Option, Some, None, map, length, All}
+-- The legs of a graph, which of them fit a network and a query, and the connections that they end with.
+use Rattle.std.specs.Prelude.{◌≡◌, ◌≢◌, ℕ, ◌+◌, List, [], ◌∷◌, ◌++◌, Option, Some, None, map, length, All, ◌<◌, ◌≤◌, AllPairs, Contains}
 use Rattle.std.specs.List.{flat_map}
 use Rattle.plan_model.specs.declared.model.Leg.{Leg}
 use Rattle.plan_model.specs.declared.model.Query.{Query}
-use Rattle.plan_model.specs.NetworkModel.{NetworkModel}
+use Rattle.plan_model.specs.Network.{NetworkModel}
 use Rattle.plan_graph.specs.declared.PlaceTable.{PlaceTable}
 use Rattle.plan_graph.specs.declared.PlanGraph.{PlanGraph}
 use Rattle.plan_graph.specs.Tidy.{IsFitStart, IsFitRow}
 use Rattle.graph_score.specs.declared.legs.GraphLeg.{GraphLeg}
 use Rattle.graph_score.specs.declared.legs.GraphLeg.TheVariants.{Start, Row}
+use Rattle.plan_model.specs.declared.departure.Departure.{Departure}
+use Rattle.plan_model.specs.declared.model.ConnectionId.{ConnectionId}
+use Rattle.plan_model.specs.Network.{count}
+use Rattle.plan_model.specs.Order.{departure_of}
 
 -- the start leg, where there is one
 abbrev pub start_leg : Option Leg → List GraphLeg
@@ -38,3 +42,14 @@ pub record IsFirstWrong (network : NetworkModel) (query : Query) (legs : List Gr
   pub number : k ≡ length before + 1
   pub fit : All (IsFitLeg network query) before
   pub breaks : IsFitLeg network query wrong → ⊥
+
+-- the connection that a leg ends with
+abbrev pub exit_of : GraphLeg → ConnectionId
+exit_of (Start leg) = leg.exit
+exit_of (Row place row) = row.leg.exit
+
+-- these are the connections that the legs end with, and perhaps more than once, the first departure first
+pub record AreExits (network : NetworkModel) (legs : List GraphLeg) (exits : List Departure) : Type 0 where
+  pub each : All (λ e. (e.id.0 < count network) × (e ≡ departure_of network e.id)) exits
+  pub all : All (λ leg. Contains exits (departure_of network (exit_of leg))) legs
+  pub rising : AllPairs (λ a b. a.dep.0 ≤ b.dep.0) exits

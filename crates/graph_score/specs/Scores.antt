@@ -1,21 +1,57 @@
--- The score of a graph.
-use Rattle.std.specs.Prelude.{◌≡◌, ℕ, ◌-◌, ◌≤◌, Result, Ok, Err, All}
+-- The score of a graph: bounds on the expected arrival of its tree, or where and when a traveller fails, by being stuck or arriving after the deadline.
+use Rattle.std.specs.Prelude.{◌≡◌, ℕ, ◌<◌, ◌≤◌, ◌⊎◌, ◌*◌, List, [], ◌∷◌, ◌-◌, Result, Ok, Err, All}
 use Rattle.plan_model.specs.declared.model.Query.{Query}
-use Rattle.plan_model.specs.NetworkModel.{NetworkModel}
-use Rattle.plan_model.specs.Network.{count}
-use Rattle.plan_model.specs.Tree.{Tree}
+use Rattle.plan_model.specs.Tree.{Tree, Done, Ride, Stuck, Kids, Nil, Kid}
+use Rattle.plan_model.specs.Bounds.{nanos_per_second}
+use Rattle.plan_model.specs.Network.{NetworkModel}
+use Rattle.plan_model.specs.Network.{outcomes, count}
+use Rattle.interval_fixed.specs.Interval.{Interval}
+use Rattle.interval_fixed.specs.Interval.{mean_of}
 use Rattle.plan_model.specs.Strategy.{IsSafeFor}
 use Rattle.plan_model.specs.Expected.{Encloses}
 use Rattle.plan_graph.specs.declared.PlanGraph.{PlanGraph}
 use Rattle.plan_graph.specs.Unfold.{unfold_plan}
-use Rattle.interval_fixed.specs.Interval.{Interval}
 use Rattle.graph_score.specs.declared.ScoreFault.{ScoreFault}
 use Rattle.graph_score.specs.declared.ScoreFault.TheVariants.{NoSuchLeg, Unsafe, NoMemory}
 use Rattle.graph_score.specs.declared.outlooks.Outlook.{Outlook}
 use Rattle.graph_score.specs.declared.outlooks.Outlook.TheVariants.{Safe, Failing}
 use Rattle.graph_score.specs.Legs.{legs_of, IsFitLeg, IsFirstWrong}
-use Rattle.graph_score.specs.Failures.{Fails, IsFirstFailure}
-use Rattle.graph_score.specs.Spans.{span_of}
+
+abbrev mutual
+  -- by the tree the traveller may be stuck at a place at a moment, or arrive there, at the target, after the deadline
+  pub Fails : Query → Tree → ℕ → ℕ → Type 0
+  Fails query (Done moment) p x = (p ≡ query.target.0) × (x ≡ moment) × (query.deadline.0 < moment)
+  Fails query (Ride i j kids) p x = FailsIn query kids p x
+  Fails query (Stuck place moment) p x = (p ≡ place) × (x ≡ moment)
+
+  pub FailsIn : Query → Kids → ℕ → ℕ → Type 0
+  FailsIn query Nil p x = ⊥
+  FailsIn query (Kid weight tree kids) p x = Fails query tree p x ⊎ FailsIn query kids p x
+
+-- one moment is less than the other, or they are equal and one place is not greater than the other
+abbrev pub IsNotAfter : (p x r y : ℕ) → Type 0
+IsNotAfter p x r y = (x < y) ⊎ ((x ≡ y) × (p ≤ r))
+
+-- the traveller may fail at the place at the moment: the least moment at which this may be, and the least place where it
+-- may be at this moment
+pub record IsFirstFailure (F : ℕ → ℕ → Type 0) (p x : ℕ) : Type 0 where
+  pub fails : F p x
+  pub first : (r y : ℕ) → F r y → IsNotAfter p x r y
+
+-- a moment in nanoseconds, as both bounds
+abbrev pub exact : ℕ → Interval
+exact moment = record { lo = nanos_per_second * moment; hi = nanos_per_second * moment }
+
+abbrev mutual
+  -- from the arrivals upward, ride by ride the mean rounded outward; of trees that are never stuck
+  pub span_of : NetworkModel → Tree → Interval
+  span_of network (Done moment) = exact moment
+  span_of network (Ride i j kids) = mean_of (outcomes network j) (spans_of network kids)
+  span_of network (Stuck place moment) = exact moment
+
+  pub spans_of : NetworkModel → Kids → List Interval
+  spans_of network Nil = []
+  spans_of network (Kid weight tree kids) = span_of network tree ∷ spans_of network kids
 
 -- the tree is safe; its bounds enclose its expected arrival, and are at most one nanosecond apart for each connection
 pub record IsScored (network : NetworkModel) (query : Query) (tree : Tree) (bounds : Interval) : Type 0 where

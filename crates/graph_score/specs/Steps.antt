@@ -3,23 +3,23 @@ use Rattle.std.specs.Prelude.{◌≡◌, ℕ, ◌+◌, ◌-◌, Bool, All, List,
 use Rattle.plan_model.specs.declared.model.Leg.{Leg}
 use Rattle.plan_model.specs.declared.model.Outcome.{Outcome}
 use Rattle.plan_model.specs.declared.model.Query.{Query}
-use Rattle.plan_model.specs.NetworkModel.{NetworkModel}
+use Rattle.plan_model.specs.Network.{NetworkModel}
 use Rattle.plan_model.specs.Network.{count, to_of, arr_of, outcomes}
 use Rattle.plan_model.specs.Unfold.{by_place, ride_of, unfold_after}
 use Rattle.plan_model.specs.Tree.{Tree}
 use Rattle.plan_graph.specs.declared.PlaceTable.{PlaceTable}
 use Rattle.plan_graph.specs.declared.PlanGraph.{PlanGraph}
-use Rattle.plan_graph.specs.PickedRows.{pick_at}
+use Rattle.plan_graph.specs.Unfold.{pick_at}
 use Rattle.plan_graph.specs.Tidy.{IsFitRow}
 use Rattle.interval_fixed.specs.Interval.{Interval}
-use Rattle.interval_fixed.specs.Means.{mean_of}
+use Rattle.interval_fixed.specs.Interval.{mean_of}
 use Rattle.graph_score.specs.declared.outlooks.Failure.{Failure}
 use Rattle.graph_score.specs.declared.outlooks.Outlook.{Outlook}
 use Rattle.graph_score.specs.declared.outlooks.Outlook.TheVariants.{Safe, Failing}
-use Rattle.graph_score.specs.Exits.{exit_of}
-use Rattle.graph_score.specs.Failures.{Fails, IsFirstFailure}
+use Rattle.graph_score.specs.Legs.{exit_of}
+use Rattle.graph_score.specs.Scores.{Fails, IsFirstFailure}
 use Rattle.graph_score.specs.Legs.{legs_of}
-use Rattle.graph_score.specs.Spans.{exact, span_of}
+use Rattle.graph_score.specs.Scores.{exact, span_of}
 
 -- a failure at a place at a moment
 abbrev pub failure : (place moment : ℕ) → Failure

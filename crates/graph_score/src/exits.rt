@@ -1,7 +1,7 @@
 //! The connections that the legs of a graph end with, by departure.
 ghost use Rattle.std.specs.Prelude.{◌≡◌, ◌<◌, All, IfOk};
 ghost use Rattle.plan_model.specs.Network.{count};
-ghost use Rattle.graph_score.specs.Exits.{exit_of, AreExits};
+ghost use Rattle.graph_score.specs.Legs.{exit_of, AreExits};
 
 use crate::legs::GraphLeg;
 use plan_model::{ConnectionId, Departure, Network, NoMemory, in_scan_order};

@@ -6,11 +6,10 @@
 
 ghost use Rattle.std.specs.Prelude.{◌≡◌, ℕ, ◌<◌, IfOk, All};
 ghost use Rattle.plan_model.specs.declared.model.Query.{Query as QueryParts};
-ghost use Rattle.plan_model.specs.NetworkModel.{NetworkModel};
+ghost use Rattle.plan_model.specs.Network.{NetworkModel};
 ghost use Rattle.plan_graph.specs.declared.PlanGraph.{PlanGraph as GraphParts};
-ghost use Rattle.plan_graph.specs.PickedRows.{HasRisingTables};
+ghost use Rattle.plan_graph.specs.Unfold.{HasRisingTables, unfold_plan};
 ghost use Rattle.plan_graph.specs.Tidy.{IsFit};
-ghost use Rattle.plan_graph.specs.Unfold.{unfold_plan};
 ghost use Rattle.graph_score.specs.Legs.{IsFitLeg, IsFirstWrong, legs_of};
 ghost use Rattle.graph_score.specs.Scores.{IsScore, IsScoreOf};
 ghost use Rattle.graph_score.specs.Steps.{IsOutlook};

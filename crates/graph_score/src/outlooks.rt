@@ -3,11 +3,10 @@ ghost use Rattle.std.specs.Prelude.{◌≡◌, ◌+◌, ◌<◌, length, slice_i
 ghost use Rattle.plan_model.specs.Bounds.{end_of_time};
 ghost use Rattle.plan_model.specs.Network.{count};
 ghost use Rattle.plan_model.specs.DelayRows.{IsValidRow};
-ghost use Rattle.interval_fixed.specs.Means.{mean_of};
-ghost use Rattle.plan_graph.specs.PickedRows.{HasRisingTables};
+ghost use Rattle.interval_fixed.specs.Interval.{mean_of, end_of_nanos};
+ghost use Rattle.plan_graph.specs.Unfold.{HasRisingTables};
 ghost use Rattle.graph_score.specs.Legs.{IsFitLeg, legs_of};
 ghost use Rattle.graph_score.specs.Steps.{no_outlook, is_sooner, sooner_failure, first_failure_of, spans_in, blend_of, arrived_outlook, outlook_at, outlook_of, AreOutlooks};
-ghost use Rattle.interval_fixed.specs.Interval.{end_of_nanos};
 
 use crate::exits::exits_of;
 use crate::legs::GraphLeg;

@@ -17,7 +17,7 @@ pub use Rattle.plan_model.proofs.Results.{require-ok}
 pub use Rattle.plan_model.specs.Bounds.{end_of_arrivals, most_connections}
 pub use Rattle.plan_model.specs.NameLists.{AreNames, NameLists, NamesFit}
 pub use Rattle.plan_model.specs.Network.{IsValid, arr_of, change_of, connection, count, dep_of, from_of, run_of, step_of, to_of}
-pub use Rattle.plan_model.specs.NetworkModel.{NetworkModel}
+pub use Rattle.plan_model.specs.Network.{NetworkModel}
 pub use Rattle.plan_model.specs.Results.{and_then, require}
 pub use Rattle.plan_model.specs.Ways.{limit_of}
 pub use Rattle.plan_model.specs.declared.model.Connection.{Connection}
@@ -27,8 +27,8 @@ pub use Rattle.plan_model.specs.declared.model.Query.{Query}
 pub use Rattle.printed_rows.proofs.Chains.{and_then-value, else-value, if-value}
 pub use Rattle.printed_rows.proofs.Lines.{name_is, split_at, text_more}
 pub use Rattle.printed_rows.specs.Fields.{connection_of, field, is_kind, is_query, number_of, rises, whole_at}
-pub use Rattle.printed_rows.specs.Writers.{place_name, run_name, text_of_records}
-unfoldable pub use Rattle.printed_rows.specs.Writers.{row_of_fields}
+pub use Rattle.printed_rows.specs.Records.{place_name, run_name, text_of_records}
+unfoldable pub use Rattle.printed_rows.specs.Records.{row_of_fields}
 pub use Rattle.graph_text.specs.Asked.{IsHeadOf}
 pub use Rattle.graph_text.specs.GraphRows.{AreGraphRows, AreLegRows, AreTableRows, IsHeadRow, IsLegRow, IsPlaceRow, IsTextOf, is_head, is_place, version_in}
 pub use Rattle.graph_text.specs.GraphTexts.{leg_fields, leg_row, place_row, plan_text, plan_text_in, ride_text, rides_text, rows_text, table_text, tables_text}

@@ -4,7 +4,7 @@ use Rattle.std.specs.Str.{bytes_eq}
 use Rattle.clock_text.specs.Times.{moment_at, nanos_at}
 use Rattle.csv_rows.specs.Tables.{table_of}
 use Rattle.plan_model.specs.declared.model.Leg.{Leg}
-use Rattle.plan_model.specs.NetworkModel.{NetworkModel}
+use Rattle.plan_model.specs.Network.{NetworkModel}
 use Rattle.plan_model.specs.NameLists.{NameLists}
 use Rattle.plan_model.specs.Network.{run_of, step_of, from_of, to_of, dep_of, arr_of, change_of}
 use Rattle.plan_graph.specs.declared.GraphRow.{GraphRow}

@@ -7,7 +7,7 @@ use Rattle.csv_rows.specs.Tables.{table_of}
 use Rattle.csv_rows.specs.declared.rows.RowsFault.{RowsFault}
 use Rattle.csv_rows.specs.declared.rows.RowsFault.TheVariants as rows
 use Rattle.plan_model.specs.declared.model.Leg.{Leg}
-use Rattle.plan_model.specs.NetworkModel.{NetworkModel}
+use Rattle.plan_model.specs.Network.{NetworkModel}
 use Rattle.plan_model.specs.NameLists.{NameLists}
 use Rattle.plan_model.specs.Network.{connection, from_of, to_of, dep_of, arr_of, change_of}
 use Rattle.plan_model.specs.Ways.{limit_of}

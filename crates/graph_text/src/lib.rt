@@ -6,12 +6,11 @@
 
 ghost use Rattle.std.specs.Prelude.{◌≡◌, ℕ, ◌≤◌, ◌↔◌, IfOk, Ok, Err, List as Sequence};
 ghost use Rattle.plan_model.specs.NameLists.{NameLists, NamesFit};
-ghost use Rattle.plan_model.specs.Network.{IsValid};
+ghost use Rattle.plan_model.specs.Network.{IsValid, NetworkModel};
 ghost use Rattle.plan_graph.specs.Ready.{IsReady};
 ghost use Rattle.plan_graph.specs.Tidy.{IsFit};
 ghost use Rattle.plan_graph.specs.declared.ExpandedGraph.{ExpandedGraph as Expanded};
 ghost use Rattle.plan_graph.specs.declared.PlanGraph.{PlanGraph as Plan};
-ghost use Rattle.plan_model.specs.NetworkModel.{NetworkModel};
 ghost use Rattle.plan_model.specs.declared.model.Query.{Query as QueryParts};
 ghost use Rattle.graph_text.specs.GraphTexts.{expanded_text, plan_text};
 ghost use Rattle.graph_text.specs.declared.Head.{Head as HeadParts};

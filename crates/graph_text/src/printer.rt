@@ -4,7 +4,7 @@ ghost use Rattle.std.specs.Prelude.{◌≡◌, ◌<◌, ◌++◌, map, take, All
 ghost use Rattle.plan_model.specs.NameLists.{NamesFit};
 ghost use Rattle.plan_graph.specs.Ready.{IsLegOf};
 ghost use Rattle.graph_text.specs.GraphTexts.{leg_row, head_row, start_leg_text, rows_text, rides_text, place_row, tables_text, expanded_text_in, plan_text_in};
-ghost use Rattle.printed_rows.specs.Writers.{row_of_fields};
+ghost use Rattle.printed_rows.specs.Records.{row_of_fields};
 ghost use Rattle.graph_text.specs.Versions.{width_of};
 ghost use Rattle.graph_text.specs.Printable.{IsPrintableQuery, IsPrintableRow, IsPrintableRide, IsPrintableTable};
 

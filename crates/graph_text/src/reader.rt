@@ -5,9 +5,7 @@ ghost use Rattle.csv_rows.specs.Tables.{header, row_count};
 ghost use Rattle.plan_model.specs.NameLists.{NamesFit};
 ghost use Rattle.plan_model.specs.Network.{count};
 ghost use Rattle.graph_text.specs.GraphRows.{has_no_entry, entry_in, is_blank, is_place, is_head, version_in};
-ghost use Rattle.graph_text.specs.Reading.{leg_row_in, names_in, leg_found, start_in, equals_limit, row_in, place_row_in, table_in, are_in_order, head_row_in, head_in};
-ghost use Rattle.graph_text.specs.Reading.{after_place_row, after_leg_row, with_rows, IsPlaced, no_tables, step, place_tables_from};
-ghost use Rattle.graph_text.specs.Reading.{graph_after_first, started_in, graph_of_records, graph_of, IsUnlessNoMemory};
+ghost use Rattle.graph_text.specs.Reading.{leg_row_in, names_in, leg_found, start_in, equals_limit, row_in, place_row_in, table_in, are_in_order, head_row_in, head_in, after_place_row, after_leg_row, with_rows, IsPlaced, no_tables, step, place_tables_from, graph_after_first, started_in, graph_of_records, graph_of, IsUnlessNoMemory};
 ghost use Rattle.graph_text.specs.Versions.{width_of};
 ghost use Rattle.printed_rows.specs.Fields.{is_kind};
 

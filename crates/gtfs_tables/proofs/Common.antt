@@ -23,4 +23,4 @@ pub use Rattle.gtfs_tables.specs.FeedInside.{IsWholeFeed, feed_parts_of}
 pub use Rattle.gtfs_tables.specs.Feeds.{FeedParts, IsFeed, IsFeedOf, IsFeedTable, IsSoundFeed, Tables, tables_by, tables_from}
 unfoldable pub use Rattle.gtfs_tables.specs.Feeds.{tables_in}
 pub use Rattle.gtfs_tables.specs.Timed.{AreTimed, IsTimed, rows_of}
-pub use Rattle.gtfs_tables.specs.TripRepeats.{AreRepeating, AreRepeats, IsFrequency, IsSmall}
+pub use Rattle.gtfs_tables.specs.Timed.{AreRepeating, AreRepeats, IsFrequency, IsSmall}

@@ -9,7 +9,7 @@ use Rattle.csv_rows.specs.FeedTables.{rank_of, unread_table, IsFaultOf}
 use Rattle.gtfs_tables.specs.Feeds.{IsFirstOfTables}
 use Rattle.stop_times.specs.declared.rows.StopRow.{StopRow}
 use Rattle.stop_times.specs.StopTimes.{stop_times_fault}
-use Rattle.table_files.specs.Required.{Records}
+use Rattle.table_files.specs.Loading.{Records}
 use Rattle.stop_times.specs.Timetables.{stop_times_from, AreVisits}
 use Rattle.feed_lists.specs.Lists.{stops_from, routes_from, trips_from, HasStops, HasRoutes, HasTrips}
 use Rattle.feed_lists.specs.declared.stops.Stops.{Stops as StopLists}

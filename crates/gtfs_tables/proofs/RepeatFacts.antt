@@ -11,12 +11,12 @@ use Rattle.std.specs.Result.{result_err}
 use Rattle.clock_text.specs.Digits.{whole_of}
 use Rattle.clock_text.specs.Times.{time_at}
 use Rattle.table_files.specs.declared.loading.Loaded.TheVariants.{Absent, NoRecord, Found}
-use Rattle.csv_rows.specs.First.{first_below}
-use Rattle.csv_rows.specs.Names.{name_in}
+use Rattle.csv_rows.specs.Lists.{first_below}
+use Rattle.csv_rows.specs.Ids.{name_in}
 use Rattle.csv_rows.proofs.FirstLemmas.{first-zero, none-both, none-each}
 use Rattle.trip_frequencies.specs.declared.frequencies.TripFrequency.{TripFrequency}
 use Rattle.trip_frequencies.specs.FrequencyBounds.{most_headway}
-use Rattle.trip_frequencies.specs.FrequencyForms.{headway_in, is_exact_in}
+use Rattle.trip_frequencies.specs.Frequencies.{headway_in, is_exact_in}
 use Rattle.trip_frequencies.proofs.FrequencyLemmas.{frequency_count}
 use Rattle.stop_times.proofs.RowForms.{time_below}
 use Rattle.clock_text.proofs.DigitLemmas.{whole_bound}

@@ -12,7 +12,7 @@ use Rattle.table_files.specs.Loading.{load_in, loaded_rows}
 use Rattle.csv_rows.specs.Tables.{row_count}
 use Rattle.trip_frequencies.specs.declared.frequencies.FrequencyRow.{FrequencyRow}
 use Rattle.stop_times.specs.declared.rows.StopRow.{StopRow}
-use Rattle.table_files.specs.Required.{Records}
+use Rattle.table_files.specs.Loading.{Records}
 use Rattle.feed_lists.specs.Lists.{stops_from, routes_from, trips_from}
 use Rattle.feed_lists.specs.Stops.{stop_ids, stop_places, stops_fault}
 use Rattle.feed_lists.specs.Routes.{route_ids, route_types, routes_fault}

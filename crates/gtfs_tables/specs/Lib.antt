@@ -1,4 +1,3 @@
-pub mod TripRepeats
 pub mod Feeds
 pub mod Parts
 pub mod FeedInside

@@ -11,7 +11,7 @@ use Rattle.feed_lists.specs.Lists.{HasStops, HasRoutes, HasTrips, AreSoundStops,
 use Rattle.gtfs_tables.specs.declared.times.TripTimes.{TripTimes}
 use Rattle.stop_times.specs.StopTimeBounds.{most_stop_times}
 use Rattle.trip_frequencies.specs.FrequencyBounds.{most_frequencies}
-use Rattle.table_files.specs.Required.{Records, IsOfSomeTable}
+use Rattle.table_files.specs.Loading.{Records, IsOfSomeTable}
 use Rattle.stop_times.specs.Timetables.{stop_times_from, AreVisits}
 use Rattle.gtfs_tables.specs.Feeds.{FeedParts}
 use Rattle.trip_frequencies.specs.Frequencies.{frequencies_from, AreFrequencies, fault_of_frequencies}

@@ -44,8 +44,7 @@ impl Feed {
     ghost use Rattle.table_files.specs.Reading.{ReadsWanted};
     ghost use Rattle.csv_rows.specs.Tables.{number_in};
     ghost use Rattle.gtfs_tables.specs.Feeds.{tables_in, IsFeedOf, IsFeedTableFault, IsSoundFeed};
-    ghost use Rattle.gtfs_tables.specs.TripRepeats.{AreRepeating, IsSmall};
-    ghost use Rattle.gtfs_tables.specs.Timed.{IsTimed};
+    ghost use Rattle.gtfs_tables.specs.Timed.{AreRepeating, IsSmall, IsTimed};
 
     /// Reads the tables `stops.txt`, `routes.txt`, `trips.txt`, `stop_times.txt` and `frequencies.txt` of a folder, in this
     /// order, or the first of their faults. `load_stops`, `load_routes`, `load_trips`, `read_stop_times` and

@@ -3,11 +3,10 @@ ghost use Rattle.std.specs.Prelude.{◌≡◌, ◌<◌, ◌≤◌, ℕ, [], leng
 ghost use Rattle.csv_rows.specs.declared.columns.Column.TheVariants.{TripId};
 ghost use Rattle.csv_rows.specs.declared.feed_tables.Table.TheVariants.{StopTimes as StopTimesTable};
 ghost use Rattle.csv_rows.specs.Limits.{rows_of};
-ghost use Rattle.table_files.specs.Loading.{loaded_from};
+ghost use Rattle.table_files.specs.Loading.{loaded_from, required, IsOfSomeTable};
 ghost use Rattle.table_files.specs.Reading.{ReadsTable};
 ghost use Rattle.csv_rows.specs.Tables.{table_of};
 ghost use Rattle.stop_times.specs.StopTimeBounds.{most_stop_times};
-ghost use Rattle.table_files.specs.Required.{required, IsOfSomeTable};
 ghost use Rattle.stop_times.specs.Timetables.{stop_times_from, AreVisits};
 ghost use Rattle.stop_times.specs.StopTimes.{stop_times_fault};
 

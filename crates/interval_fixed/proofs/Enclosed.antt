@@ -4,8 +4,8 @@ use Rattle.std.proofs.lemmas.List.Sums.{sum_by-cons}
 use Rattle.plan_model.specs.declared.model.Outcome.{Outcome}
 use Rattle.plan_model.specs.DelayRows.{IsValidRow}
 use Rattle.interval_fixed.specs.Interval.{Interval}
-use Rattle.interval_fixed.specs.Means.{weighted, weighted_lo, weighted_hi, mean_of}
-use Rattle.interval_fixed.specs.Enclosures.{AreEnclosed, EnclosesMean}
+use Rattle.interval_fixed.specs.Interval.{weighted, weighted_lo, weighted_hi, mean_of}
+use Rattle.interval_fixed.specs.Interval.{AreEnclosed, EnclosesMean}
 
 sums_enclosed : (row : List Outcome) (spans : List Interval) (xs : List ℕ) → AreEnclosed spans xs
     → (weighted_lo row spans ≤ weighted row xs) × (weighted row xs ≤ weighted_hi row spans)

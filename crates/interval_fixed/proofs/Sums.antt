@@ -6,7 +6,7 @@ use Rattle.plan_model.specs.Tree.{Kids, Ride, Nil, Kid, height, height_of}
 use Rattle.plan_model.specs.DelayRows.{EachKid}
 use Rattle.plan_model.specs.Expected.{weighted_by, weighted_kids, BelowBy, CoversBy}
 use Rattle.plan_model.proofs.Laws.{pow_down}
-use Rattle.interval_fixed.specs.Means.{weighted}
+use Rattle.interval_fixed.specs.Interval.{weighted}
 
 -- w times a, and s more, at the scale p
 scaled_sum : (w a s p : ℕ) → (w * a + s) * p ≡ w * (a * p) + s * p

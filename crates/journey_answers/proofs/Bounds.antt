@@ -2,10 +2,10 @@
 use Rattle.journey_answers.proofs.Common.{◌≡◌, ℕ, ◌+◌, ◌/◌, ◌≤◌, arith, Option, Some, List, [], ◌∷◌, refl, sym, ◌∙◌, ap, Outcome, Query, NetworkModel, to_of, arr_of, outcomes, nanos_per_second}
 use Rattle.journey_answers.proofs.Common.{Tree, Done, Ride, Stuck, Kids, Nil, Kid, IsSafe, AreSafe, IsSafeFor}
 use Rattle.interval_fixed.specs.Interval.{Interval}
-use Rattle.interval_fixed.specs.Means.{weighted_lo, weighted_hi}
+use Rattle.interval_fixed.specs.Interval.{weighted_lo, weighted_hi}
 use Rattle.plan_model.specs.Expected.{arrival}
-use Rattle.value_laws.specs.Rounded.{rounded_up, sum_up, rounded_down, sum_down}
-use Rattle.graph_score.specs.Spans.{span_of, spans_of}
+use Rattle.value_laws.specs.Spans.{rounded_up, sum_up, rounded_down, sum_down}
+use Rattle.graph_score.specs.Scores.{span_of, spans_of}
 use Rattle.decision_graph.specs.GraphValues.{IsBest}
 
 module _ (n : NetworkModel) (target : ℕ) (by : Option ℕ) where

@@ -2,11 +2,11 @@
 pub use Rattle.std.proofs.Common.{All, Bool, Err, List, MatchOption, None, Option, Result, Some, [], ap, arith, false, if◌then◌else◌, inl, inr, length, nat_le, refl, slice_index_or, subst, suc, sym, true, zero}
 pub use Rattle.std.proofs.Common.{ℕ, ◌*◌, ◌+◌, ◌-◌, ◌/◌, ◌<◌, ◌==◌, ◌∙◌, ◌∷◌, ◌≡◌, ◌≢◌, ◌≤◌}
 pub use Rattle.std.proofs.lemmas.Option.{MatchOption-at_some}
-pub use Rattle.decision_graph.specs.Expanded.{IsNoneSafe}
+pub use Rattle.decision_graph.specs.Planned.{IsNoneSafe}
 pub use Rattle.departure_table.specs.declared.DepartureRow.{DepartureRow}
 pub use Rattle.graph_score.specs.Scores.{IsScoreOf, IsUnsafe}
 pub use Rattle.journey_answers.specs.Answers.{AnswersExpand, AnswersPlan, InQuery, IsQueryOf, IsWorst}
-pub use Rattle.journey_answers.specs.ByRules.{AreByRules, IsRuled, added_query}
+pub use Rattle.journey_answers.specs.Departures.{AreByRules, IsRuled, added_query}
 pub use Rattle.journey_answers.specs.Trips.{IsSafeTrip, IsTripFault, replay_as, trip_by}
 pub use Rattle.journey_model.specs.Faults.{unread_input}
 pub use Rattle.journey_model.specs.Known.{parts_of}
@@ -19,7 +19,7 @@ pub use Rattle.plan_graph.specs.Unfold.{unfold_plan}
 pub use Rattle.plan_graph.specs.declared.PlanGraph.{PlanGraph}
 pub use Rattle.plan_model.specs.Bounds.{last_start, nanos_per_second, seconds_per_day}
 pub use Rattle.plan_model.specs.Network.{IsValid, arr_of, connection, count, outcomes, to_of}
-pub use Rattle.plan_model.specs.NetworkModel.{NetworkModel}
+pub use Rattle.plan_model.specs.Network.{NetworkModel}
 pub use Rattle.plan_model.specs.Strategy.{AreSafe, IsSafe, IsSafeFor, IsSafeFromStart}
 pub use Rattle.plan_model.specs.Tree.{Done, Kid, Kids, Nil, Ride, Stuck, Tree}
 pub use Rattle.plan_model.specs.declared.model.Moment.{Moment}

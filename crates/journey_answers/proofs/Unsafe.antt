@@ -5,10 +5,10 @@ use Rattle.journey_answers.proofs.Common.{IsUnsafe, Problem, last_start, seconds
 use Rattle.std.proofs.lemmas.List.Elements.{All-head, All-tail}
 use Rattle.plan_model.specs.declared.model.Leg.{Leg}
 use Rattle.plan_model.specs.Unfold.{end_of, outcomes_of, kids_after, ride_or_stuck, unfold_after, unfold_from, by_place}
-use Rattle.plan_graph.specs.PickedRows.{pick_at}
+use Rattle.plan_graph.specs.Unfold.{pick_at}
 use Rattle.plan_graph.specs.Tidy.{IsFit}
 use Rattle.plan_graph.proofs.Picked.{picked_leg}
-use Rattle.graph_score.specs.Failures.{Fails, FailsIn}
+use Rattle.graph_score.specs.Scores.{Fails, FailsIn}
 
 module _ (n : NetworkModel) (valid : IsValid n) (q : Query) (target_in : q.target.0 < length n.change)
     (choice : Leg → ℕ → Option Leg) (there : (leg : Leg) (x : ℕ) (next : Leg) → choice leg x ≡ Some next → next.exit.0 < count n) where

@@ -1,19 +1,43 @@
 -- The answers about the departures of a journey, and about the latest moment at which one can leave.
-use Rattle.std.specs.Prelude.{◌≡◌, ◌≢◌, ℕ, ◌<◌, ◌≤◌, List, [], None, Some, length}
-use Rattle.plan_model.specs.declared.model.Moment.{Moment}
+use Rattle.std.specs.Prelude.{ℕ, List, [], ◌∷◌, length, ◌≡◌, ◌≢◌, ◌<◌, ◌≤◌, None, Some}
+use Rattle.plan_model.specs.declared.model.ConnectionId.{ConnectionId}
 use Rattle.plan_model.specs.declared.model.Query.{Query}
+use Rattle.plan_model.specs.Network.{NetworkModel}
+use Rattle.plan_model.specs.Order.{IsScanOrder}
+use Rattle.value_laws.specs.declared.MeanSpan.{MeanSpan}
+use Rattle.value_laws.specs.Means.{mean_scoring}
+use Rattle.meat_scan.specs.Rules.{FollowsRules}
+use Rattle.meat_scan.specs.ScanResult.{ScanResult}
+use Rattle.departure_table.specs.declared.DepartureRow.{DepartureRow}
+use Rattle.plan_model.specs.Gates.{extended_by}
+use Rattle.departure_table.specs.Looked.{row_found, AreLooked}
+use Rattle.journey_model.specs.declared.problem.Problem.{Problem}
+use Rattle.plan_model.specs.declared.model.Moment.{Moment}
 use Rattle.plan_model.specs.Tree.{Tree}
 use Rattle.plan_model.specs.Strategy.{IsSafeFor}
-use Rattle.decision_graph.specs.Expanded.{IsNoneSafe}
-use Rattle.departure_table.specs.declared.DepartureRow.{DepartureRow}
+use Rattle.decision_graph.specs.Planned.{IsNoneSafe}
 use Rattle.departure_table.specs.Departures.{SafeFrom, IsTable, IsGreatestMoment}
-use Rattle.journey_answers.specs.ByRules.{AreByRules}
-use Rattle.printed_rows.specs.Writers.{place_name}
+use Rattle.printed_rows.specs.Records.{place_name}
 use Rattle.journey_model.specs.declared.faults.Fault.{Fault}
 use Rattle.journey_model.specs.declared.faults.Fault.TheVariants.{NoSafe}
-use Rattle.journey_model.specs.declared.problem.Problem.{Problem}
 use Rattle.journey_report.specs.DepartureTexts.{departures_text, latest_text}
 use Rattle.journey_report.specs.Findings.{Findings, departures_findings, latest_findings}
+
+-- what was found is what the rules keep in the scan order
+pub record IsRuled (network : NetworkModel) (query : Query) (found : ScanResult MeanSpan) : Type 0 where
+  pub order : List ConnectionId
+  pub is_order : IsScanOrder network order
+  pub rules : FollowsRules mean_scoring network query order found
+
+-- the query from the place that is added to the network
+abbrev pub added_query : NetworkModel → Query → Query
+added_query network query = record { source = record { 0 = length network.change }; target = query.target; start = query.start; deadline = query.deadline }
+
+-- the rows are those that the rules give in the network with a place more
+pub record AreByRules (p : Problem) (query : Query) (last : ℕ) (rows : List DepartureRow) : Type 0 where
+  pub found : ScanResult MeanSpan
+  pub ruled : IsRuled (extended_by p.timetable.network (query.source ∷ [])) (added_query p.timetable.network query) found
+  pub looked : AreLooked (row_found (extended_by p.timetable.network (query.source ∷ [])) (added_query p.timetable.network query) found) last query.start.0 rows
 
 -- the query of a journey that starts then, with a deadline of its own
 abbrev pub query_until : Problem → (start until : ℕ) → Query

@@ -1,9 +1,7 @@
 pub mod Answers
-pub mod Certified
 pub mod Punctual
 pub mod Departures
 pub mod Reach
-pub mod ByRules
 pub mod Trips
 pub mod Scores
-pub mod Checks
+pub mod Certified

@@ -7,7 +7,7 @@ use Rattle.plan_graph.specs.declared.PlanGraph.{PlanGraph}
 use Rattle.plan_graph.specs.Unfold.{unfold_plan}
 use Rattle.graph_score.specs.Scores.{IsScored, IsUnsafe}
 use Rattle.graph_text.specs.declared.Head.{Head}
-use Rattle.printed_rows.specs.Writers.{place_name}
+use Rattle.printed_rows.specs.Records.{place_name}
 use Rattle.journey_model.specs.declared.faults.Fault.{Fault}
 use Rattle.journey_model.specs.declared.faults.Fault.TheVariants.{Unsafe}
 use Rattle.journey_model.specs.declared.problem.Problem.{Problem}

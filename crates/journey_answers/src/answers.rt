@@ -2,8 +2,7 @@
 ghost use Rattle.std.specs.Prelude.{◌≡◌, ◌<◌, ◌≤◌, Some, None, IfOk, IfErr, IfSome};
 ghost use Rattle.plan_model.specs.Order.{IsScanOrder};
 ghost use Rattle.plan_model.specs.Strategy.{IsLeastWorst};
-ghost use Rattle.decision_graph.specs.Planned.{IsPlanned};
-ghost use Rattle.decision_graph.specs.Expanded.{IsExpanded};
+ghost use Rattle.decision_graph.specs.Planned.{IsPlanned, IsExpanded};
 ghost use Rattle.journey_answers.specs.Answers.{IsWorst, IsQueryOf, InQuery, IsPrintable, AnswersSafe, AnswersExpand, AnswersPlan, IsNoAnswer};
 ghost use Rattle.journey_report.specs.Findings.{findings_of, safe_findings};
 ghost use Rattle.plan_model.specs.Bounds.{end_of_time};

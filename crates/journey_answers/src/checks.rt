@@ -6,9 +6,9 @@ ghost use Rattle.journey_model.specs.Sites.{last_printable, HasSite};
 ghost use Rattle.journey_model.specs.Known.{parts_of};
 ghost use Rattle.journey_report.specs.Findings.{findings_of, check_findings};
 ghost use Rattle.journey_report.specs.AnswerTexts.{holds_text};
-ghost use Rattle.printed_rows.specs.Writers.{place_name};
+ghost use Rattle.printed_rows.specs.Records.{place_name};
 ghost use Rattle.plan_model.specs.Bounds.{last_start};
-ghost use Rattle.journey_answers.specs.Checks.{IsHeld, IsBroken};
+ghost use Rattle.journey_answers.specs.Certified.{IsHeld, IsBroken};
 
 use journey_model::{Fault, Problem};
 use journey_report::{Answer, NamedQuery, Report, holds_text};

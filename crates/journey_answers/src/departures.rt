@@ -1,15 +1,14 @@
 //! The departures of a journey, and the latest moment at which one can leave.
 ghost use Rattle.std.specs.Prelude.{◌≡◌, ◌≢◌, ◌≤◌, ◌∷◌, [], Some, IfOk, IfErr, MatchOption};
-ghost use Rattle.command_line.specs.Ranges.{IsLater};
-ghost use Rattle.decision_graph.specs.Expanded.{IsNoneSafe};
+ghost use Rattle.command_line.specs.Jobs.{IsLater};
+ghost use Rattle.decision_graph.specs.Planned.{IsNoneSafe};
 ghost use Rattle.departure_table.specs.Departures.{IsExtendedFor, IsGreatestMoment, IsTable};
 ghost use Rattle.meat_scan.specs.Solves.{Solves};
 ghost use Rattle.value_laws.specs.Means.{mean_scoring};
 ghost use Rattle.command_line.specs.Values.{last_until};
-ghost use Rattle.journey_model.specs.Wants.{OrNoMemory};
+ghost use Rattle.journey_model.specs.Faults.{OrNoMemory};
 ghost use Rattle.plan_model.specs.Gates.{extended_by as with_gates};
-ghost use Rattle.journey_answers.specs.ByRules.{IsRuled, AreByRules, added_query};
-ghost use Rattle.journey_answers.specs.Departures.{query_until, SafeOf, AreDepartures, HasSafeFor, IsUntil, AnswersDepartures, AnswersLatest, FailsDepartures, FailsLatest};
+ghost use Rattle.journey_answers.specs.Departures.{IsRuled, AreByRules, added_query, query_until, SafeOf, AreDepartures, HasSafeFor, IsUntil, AnswersDepartures, AnswersLatest, FailsDepartures, FailsLatest};
 ghost use Rattle.journey_report.specs.Findings.{findings_of};
 
 use crate::answers::Answered;

@@ -4,7 +4,7 @@ ghost use Rattle.std.specs.Prelude.{◌≡◌, ◌≤◌, ◌+◌, IfOk, IfErr, 
 ghost use Rattle.plan_graph.specs.Tidy.{IsFit};
 ghost use Rattle.plan_graph.specs.Unfold.{unfold_plan};
 ghost use Rattle.plan_model.specs.Strategy.{IsSafeFor};
-ghost use Rattle.decision_graph.specs.Expanded.{IsNoneSafe};
+ghost use Rattle.decision_graph.specs.Planned.{IsNoneSafe};
 ghost use Rattle.graph_score.specs.Scores.{IsScored};
 ghost use Rattle.late_chance.specs.Chances.{seconds_per_week};
 ghost use Rattle.late_chance.specs.Punctual.{IsPunctual};

@@ -1,9 +1,9 @@
 //! The places from which one can reach the target of a journey.
 ghost use Rattle.std.specs.Prelude.{IfOk, IfErr};
-ghost use Rattle.command_line.specs.Ranges.{IsLater};
+ghost use Rattle.command_line.specs.Jobs.{IsLater};
 ghost use Rattle.journey_answers.specs.Departures.{query_until};
 ghost use Rattle.journey_answers.specs.Reach.{AreReached, AnswersReach, FailsReach};
-ghost use Rattle.journey_model.specs.Wants.{OrNoMemory};
+ghost use Rattle.journey_model.specs.Faults.{OrNoMemory};
 ghost use Rattle.journey_report.specs.Findings.{findings_of};
 
 use crate::answers::Answered;

@@ -5,7 +5,7 @@ ghost use Rattle.journey_model.specs.Sites.{HasSite};
 ghost use Rattle.journey_model.specs.Known.{parts_of};
 ghost use Rattle.journey_report.specs.Findings.{findings_of, score_findings};
 ghost use Rattle.journey_report.specs.AnswerTexts.{encloses_text};
-ghost use Rattle.printed_rows.specs.Writers.{place_name};
+ghost use Rattle.printed_rows.specs.Records.{place_name};
 ghost use Rattle.journey_answers.specs.Scores.{IsEnclosed, IsUnsafeGraph};
 
 use crate::read_graph::ReadGraph;

@@ -1,11 +1,10 @@
--- The faults of a run: the number that a process ends with, and the file that a fault is of.
-use Rattle.std.specs.Prelude.{◌≡◌, ◌≢◌, ℕ, ◌+◌, ◌==◌, Bool, false, List, Option, None, Some, IfSome, codes}
+-- The faults of a run: the number that a process ends with, the file that a fault is of, and why there is no answer.
+use Rattle.std.specs.Prelude.{◌≡◌, ◌≢◌, ℕ, ◌+◌, ◌==◌, Bool, false, List, Option, None, Some, IfSome, codes, ◌⊎◌}
 use Rattle.csv_rows.specs.FeedTables.{file_name, rank_of}
 use Rattle.journey_model.specs.declared.faults.Input.{Input}
-use Rattle.journey_model.specs.declared.faults.Input.TheVariants as input
 use Rattle.journey_model.specs.declared.faults.Fault.{Fault}
-use Rattle.journey_model.specs.declared.faults.Fault.TheVariants.{Words, Feed, Cut, Missing, Delays, UnknownStop, Limit, Read, NoSafe, GraphFile, Replay, ProofFile, ProofFails, Unsafe, Write}
-use Rattle.journey_model.specs.declared.faults.Fault.TheVariants.{NoMemory}
+use Rattle.journey_model.specs.declared.faults.Fault.TheVariants.{Words, Feed, Cut, Missing, Delays, UnknownStop, Limit, Read, NoSafe, GraphFile, Replay, ProofFile, ProofFails, Unsafe, Write, NoMemory}
+use Rattle.journey_model.specs.declared.faults.Input.TheVariants as input
 
 -- where this file is missing
 abbrev pub missing_status : Input → ℕ
@@ -86,3 +85,7 @@ IsUndisturbed fault = ((input : Input) → fault ≢ Some (Read input)) × (faul
 -- there was no memory, or this is the fault that holds first, where no file but that of the fault is unread
 abbrev pub IsFirst : (Option Input → Option Fault) → Fault → Type 0
 IsFirst first fault = fault ≢ NoMemory → first (unread_input fault) ≡ Some fault
+
+-- this is why; or there was no memory
+abbrev pub OrNoMemory : (Fault → Type 0) → Fault → Type 0
+OrNoMemory Fails fault = Fails fault ⊎ (fault ≡ NoMemory)

@@ -1,5 +1,4 @@
-pub mod Faults
 pub mod Sites
 pub mod Known
 pub mod FaultLines
-pub mod Wants
+pub mod Faults

@@ -4,10 +4,10 @@ use Rattle.clock_text.specs.Civil.{moment_text}
 pub use Rattle.clock_text.specs.Civil.{last_printable}
 use Rattle.plan_model.specs.declared.model.Moment.{Moment}
 use Rattle.plan_model.specs.declared.model.PlaceId.{PlaceId}
-use Rattle.plan_model.specs.NetworkModel.{NetworkModel}
+use Rattle.plan_model.specs.Network.{NetworkModel}
 use Rattle.plan_model.specs.NameLists.{NameLists}
 use Rattle.plan_model.specs.Network.{count, run_of, step_of}
-use Rattle.printed_rows.specs.Writers.{place_name, run_name}
+use Rattle.printed_rows.specs.Records.{place_name, run_name}
 use Rattle.trip_replay.specs.declared.ReplayFault.{ReplayFault}
 use Rattle.trip_replay.specs.declared.ReplayFault.TheVariants as replay
 use Rattle.journey_model.specs.declared.faults.Site.{Site}

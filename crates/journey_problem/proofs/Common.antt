@@ -17,7 +17,7 @@ pub use Rattle.csv_rows.specs.Tables.{row_count, table_of}
 pub use Rattle.csv_rows.specs.declared.feed_tables.FeedFault.{FeedFault}
 pub use Rattle.csv_rows.specs.declared.limits.Limits.{Limits}
 pub use Rattle.cut_file.proofs.Distinct.{one_number, places_distinct, runs_distinct}
-pub use Rattle.cut_file.specs.CutNetwork.{IsCutNetwork, IsRide}
+pub use Rattle.cut_file.specs.CutNetworks.{IsCutNetwork, IsRide}
 pub use Rattle.cut_file.specs.Faults.{first_cut_fault, row}
 pub use Rattle.cut_file.specs.Read.{Cut as CutParts, IsCutRead}
 pub use Rattle.delay_table.specs.DelayLists.{DelayLists}
@@ -36,7 +36,7 @@ pub use Rattle.plan_model.proofs.SameParts.{same_parts}
 pub use Rattle.plan_model.specs.NameLists.{AreDistinct, NameLists, NamesFit}
 pub use Rattle.plan_model.specs.Network.{IsValid, count, no_connection}
 unfoldable pub use Rattle.plan_model.specs.Network.{change_of, connection}
-pub use Rattle.plan_model.specs.NetworkModel.{NetworkModel}
+pub use Rattle.plan_model.specs.Network.{NetworkModel}
 pub use Rattle.plan_model.specs.declared.model.PlaceId.{PlaceId}
 pub use Rattle.plan_model.specs.declared.timetable.Timetable.{Timetable}
 pub use Rattle.service_days.specs.Calendars.{Calendars, RunsBy}
@@ -46,7 +46,7 @@ pub use Rattle.journey_problem.specs.CutProblems.{HasCutTimetable, IsCutProblem,
 pub use Rattle.journey_problem.specs.FeedProblems.{GtfsFolder, HasFeedTimetable, IsFaultAfterFolder, IsFeedProblem, IsFeedProblemFault, IsFolder, IsFolderFault, IsLaterTableFault, IsSoundFolder}
 pub use Rattle.journey_problem.specs.FeedProblems.{IsWindowFault, feed_as, feed_stop_fault, window_fault_of}
 pub use Rattle.journey_problem.specs.Files.{Finds, HasCauses, Records, bytes_of, bytes_present, path_by, IsOfInput}
-pub use Rattle.journey_problem.specs.Folders.{gtfs_folder_of}
+pub use Rattle.journey_problem.specs.FeedProblems.{gtfs_folder_of}
 pub use Rattle.journey_problem.specs.InputTables.{AreDelaysOf, HasCut, IsCutOf, IsCutOfSome, cut_as, cut_fault, cut_records, delay_fault, delay_records, fault_in}
 pub use Rattle.journey_problem.specs.Problems.{HasTimetable, IsProblem, IsProblemFault, IsProblemFaultOver, IsProblemOver}
 pub use Rattle.journey_problem.specs.Stops.{first_which}

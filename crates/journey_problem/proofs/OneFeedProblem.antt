@@ -3,7 +3,7 @@ use Rattle.journey_problem.proofs.Common.{◌≡◌, ℕ, refl, sym, ap, ◌∙�
 use Rattle.journey_problem.proofs.Common.{runs, Calendars, RunsBy, ChangeParts, AreCollectedChanges, place_seconds, links_of, place_of_stop, IsNetworkFrom, JourneyModel, source_or_target, Problem}
 use Rattle.journey_problem.proofs.Common.{AreDelaysOf, GtfsFolder, IsFolder, IsFeedProblem, window_fault_of}
 use Rattle.std.proofs.lemmas.List.{get_or_past}
-use Rattle.table_files.specs.Required.{Records}
+use Rattle.table_files.specs.Loading.{Records}
 use Rattle.journey_problem.proofs.OneCutProblem.{delays_of_one}
 use Rattle.journey_problem.proofs.OneFeed.{one_feed_of}
 use Rattle.journey_problem.proofs.SameProblem.{same_problem}

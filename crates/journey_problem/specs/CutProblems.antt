@@ -7,7 +7,7 @@ use Rattle.file_ports.specs.Ports.{FileMap, file_at}
 use Rattle.csv_rows.specs.declared.limits.Limits.{Limits}
 use Rattle.csv_rows.specs.Tables.{row_count}
 use Rattle.cut_file.specs.NumberedRows.{place_names}
-use Rattle.cut_file.specs.CutNetwork.{IsCutNetwork}
+use Rattle.cut_file.specs.CutNetworks.{IsCutNetwork}
 use Rattle.delay_table.specs.DelayLists.{DelayLists}
 use Rattle.delay_table.specs.Slots.{AreDelays}
 use Rattle.plan_model.specs.NameLists.{NameLists}

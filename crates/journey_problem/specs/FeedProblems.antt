@@ -2,7 +2,6 @@
 use Rattle.std.specs.Prelude.{◌≡◌, ℕ, ◌+◌, ◌⊎◌, List, Option, None, Some, Err, IsOk, IsOkAnd, is_none, option_map, unwrap_or, if◌then◌else◌}
 use Rattle.file_ports.specs.Ports.{FileMap, file_at}
 use Rattle.csv_rows.specs.declared.feed_tables.FeedFault.{FeedFault}
-use Rattle.csv_rows.specs.declared.feed_tables.FeedFault.TheVariants as feed
 use Rattle.csv_rows.specs.declared.limits.Limits.{Limits}
 use Rattle.csv_rows.specs.FeedTables.{unread_table}
 use Rattle.gtfs_tables.specs.Feeds.{FeedParts, tables_in, IsFeedOf, IsSoundFeed}
@@ -13,11 +12,8 @@ use Rattle.change_times.specs.Transfers.{place_of_stop}
 use Rattle.delay_table.specs.DelayLists.{DelayLists}
 use Rattle.delay_table.specs.Slots.{AreDelays}
 use Rattle.connections.specs.declared.cuts.WindowFault.{WindowFault}
-use Rattle.connections.specs.declared.cuts.WindowFault.TheVariants as window
 use Rattle.connections.specs.Cut.{IsNetworkFrom, fault_from}
 use Rattle.command_line.specs.Jobs.{JourneyModel, source_or_target}
-use Rattle.journey_model.specs.declared.faults.Input.TheVariants as input
-use Rattle.journey_model.specs.declared.faults.Which.TheVariants as which
 use Rattle.journey_model.specs.declared.faults.LimitKind.TheVariants.{Bytes, Rows, Connections, Entries}
 use Rattle.journey_model.specs.declared.faults.Fault.{Fault}
 use Rattle.journey_model.specs.declared.faults.Fault.TheVariants.{Feed, UnknownStop, Limit, Read, NoMemory}
@@ -25,6 +21,11 @@ use Rattle.journey_model.specs.declared.problem.Problem.{Problem}
 use Rattle.journey_model.specs.Faults.{unread_input}
 use Rattle.journey_problem.specs.InputTables.{AreDelaysOf, delay_fault}
 use Rattle.journey_problem.specs.Stops.{first_which}
+use Rattle.journey_problem.specs.declared.feed_tables.FeedTables.{FeedTables}
+use Rattle.csv_rows.specs.declared.feed_tables.FeedFault.TheVariants as feed
+use Rattle.connections.specs.declared.cuts.WindowFault.TheVariants as window
+use Rattle.journey_model.specs.declared.faults.Input.TheVariants as input
+use Rattle.journey_model.specs.declared.faults.Which.TheVariants as which
 
 -- a fault of a feed as one of the run
 abbrev pub feed_as : Limits → FeedFault → Fault
@@ -131,3 +132,6 @@ pub record IsFeedProblem (limits : Limits) (files : FileMap) (folder : List ℕ)
   pub are_delays : AreDelaysOf limits (file_at files j.delays) lists
   pub no_window_fault : window_fault_of limits horizon j parts ≡ None
   pub timetable : IsFeedTimetable parts lists horizon j p
+
+abbrev pub gtfs_folder_of : FeedTables → GtfsFolder
+gtfs_folder_of t = record { feed = t.feed; services = t.rules.services; changes = t.rules.changes }

@@ -7,6 +7,5 @@ pub mod GraphFiles
 pub mod CertificateFiles
 pub mod CutProblems
 pub mod FeedProblems
-pub mod Folders
 pub mod Problems
 pub mod OneProblem

@@ -1,6 +1,6 @@
 //! A journey over a cut file.
 ghost use Rattle.std.specs.Prelude.{◌≡◌, ◌≢◌, ℕ, List as Bytes, None, Some, IfSome, IfOk, IfErr, OnOk};
-ghost use Rattle.cut_file.specs.CutNetwork.{IsCutNetwork};
+ghost use Rattle.cut_file.specs.CutNetworks.{IsCutNetwork};
 ghost use Rattle.cut_file.specs.Read.{IsCutRead};
 ghost use Rattle.file_ports.specs.Ports.{file_at};
 ghost use Rattle.command_line.specs.Shown.{journey_shown};

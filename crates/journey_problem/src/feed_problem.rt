@@ -11,8 +11,7 @@ ghost use Rattle.command_line.specs.Jobs.{SourceModel, FeedFolder, source_or_tar
 ghost use Rattle.journey_model.specs.Faults.{MayBeUnread, unread_input};
 ghost use Rattle.journey_problem.specs.Files.{OwnPaths, path_by, HasCauses};
 ghost use Rattle.journey_problem.specs.FaultsBeforeSearch.{IsBeforeSearch};
-ghost use Rattle.journey_problem.specs.FeedProblems.{feed_as, feed_stop_fault, window_fault_of, AreRules, IsFolder, IsSoundFolder, IsFolderFault, IsLaterTableFault, IsFaultAfterFolder, IsWindowFault, IsFeedProblem, IsFeedProblemFault, HasFeedTimetable};
-ghost use Rattle.journey_problem.specs.Folders.{gtfs_folder_of};
+ghost use Rattle.journey_problem.specs.FeedProblems.{feed_as, feed_stop_fault, window_fault_of, AreRules, IsFolder, IsSoundFolder, IsFolderFault, IsLaterTableFault, IsFaultAfterFolder, IsWindowFault, IsFeedProblem, IsFeedProblemFault, HasFeedTimetable, gtfs_folder_of};
 
 use crate::feed_tables::{FeedRules, FeedTables};
 use crate::inputs::read_delay_file;

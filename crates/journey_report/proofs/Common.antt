@@ -8,9 +8,9 @@ unfoldable pub use Rattle.journey_report.specs.AnswerTexts.{arrived_text, enclos
 pub use Rattle.journey_report.specs.DepartureTexts.{departures_text, froms_text, reach_text, rows_text}
 unfoldable pub use Rattle.journey_report.specs.DepartureTexts.{departure_text, departures_head, from_text, reach_head}
 pub use Rattle.plan_model.specs.NameLists.{NameLists}
-pub use Rattle.plan_model.specs.NetworkModel.{NetworkModel}
+pub use Rattle.plan_model.specs.Network.{NetworkModel}
 pub use Rattle.plan_model.specs.declared.model.Connection.{Connection}
 pub use Rattle.printed_rows.proofs.Connections.{arr_printable, dep_printable, run_named}
 pub use Rattle.printed_rows.proofs.Lines.{name_is, split_at, text_step}
-pub use Rattle.printed_rows.specs.Writers.{place_name, row_of_fields, run_name}
+pub use Rattle.printed_rows.specs.Records.{place_name, row_of_fields, run_name}
 pub use Rattle.trip_replay.specs.declared.Ridden.{Ridden}

@@ -3,13 +3,13 @@ use Rattle.std.specs.Prelude.{ℕ, ◌<◌, ◌≤◌, List, [], ◌∷◌, ◌+
 use Rattle.clock_text.specs.Civil.{moment_text, nanos_text}
 use Rattle.plan_model.specs.declared.model.Moment.{Moment}
 use Rattle.plan_model.specs.declared.model.Query.{Query}
-use Rattle.plan_model.specs.NetworkModel.{NetworkModel}
+use Rattle.plan_model.specs.Network.{NetworkModel}
 use Rattle.plan_model.specs.NameLists.{NameLists}
 use Rattle.plan_model.specs.Network.{run_of, step_of}
 use Rattle.departure_table.specs.declared.DepartureRow.{DepartureRow}
 use Rattle.departure_table.specs.declared.reach_rows.ReachRow.{ReachRow}
 use Rattle.journey_model.specs.Sites.{last_printable}
-use Rattle.printed_rows.specs.Writers.{row_of_fields, place_name, run_name}
+use Rattle.printed_rows.specs.Records.{row_of_fields, place_name, run_name}
 
 -- the first row: the version of the text, the source, the target, the first moment and the last, the deadline, and how many rows follow
 unfoldable pub departures_head : List ℕ → List ℕ → Query → (last count : ℕ) → List ℕ

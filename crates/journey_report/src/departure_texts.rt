@@ -1,7 +1,7 @@
 //! The printed texts of departures, and of the latest moment at which one can leave.
 ghost use Rattle.std.specs.Prelude.{◌≡◌, ◌++◌, map, All, IfOk};
 ghost use Rattle.departure_table.specs.Departures.{IsDepartureRow};
-ghost use Rattle.printed_rows.specs.Writers.{place_name};
+ghost use Rattle.printed_rows.specs.Records.{place_name};
 ghost use Rattle.journey_report.specs.DepartureTexts.{departures_head, departure_text, rows_text, departures_text, latest_text};
 
 use crate::printable::{NamedQuery, Printable};

@@ -1,6 +1,6 @@
 //! What can be printed: moments that have texts, queries whose places have names too, and trips.
 ghost use Rattle.std.specs.Prelude.{◌≡◌, ◌≤◌, ◌<◌, All, length};
-ghost use Rattle.printed_rows.specs.Writers.{place_name};
+ghost use Rattle.printed_rows.specs.Records.{place_name};
 ghost use Rattle.journey_model.specs.Sites.{last_printable};
 ghost use Rattle.trip_replay.specs.Rides.{IsRidden};
 

@@ -1,6 +1,6 @@
 //! The printed texts of the answers that are no graphs.
 ghost use Rattle.std.specs.Prelude.{◌≡◌, ◌++◌, [], ◌∷◌, map, IfOk};
-ghost use Rattle.printed_rows.specs.Writers.{place_name, row_of_fields};
+ghost use Rattle.printed_rows.specs.Records.{place_name, row_of_fields};
 ghost use Rattle.clock_text.specs.Civil.{moment_text};
 ghost use Rattle.trip_replay.specs.Rides.{IsRidden};
 ghost use Rattle.journey_report.specs.AnswerTexts.{safe_text, ride_text, rides_text, arrived_text, trace_text, leg_count, sample_text, least_text, holds_text, encloses_text, punctual_row};

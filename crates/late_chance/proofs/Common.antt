@@ -5,7 +5,7 @@ pub use Rattle.std.proofs.Math.Nat.{div-div-eq-div-mul, mul-add, mul-le-mul_left
 pub use Rattle.std.proofs.lemmas.Bool.Decides.{nat_tests}
 pub use Rattle.std.proofs.lemmas.List.{get_or-map, length-map, map_more}
 pub use Rattle.interval_fixed.specs.Interval.{Interval}
-pub use Rattle.interval_fixed.specs.Means.{mean_of, weighted_hi}
+pub use Rattle.interval_fixed.specs.Interval.{mean_of, weighted_hi}
 pub use Rattle.plan_graph.specs.Tidy.{IsFit, IsFitRow, IsFitStart, IsFitTable, IsPickedIn, IsTidy}
 pub use Rattle.plan_graph.specs.Unfold.{unfold_plan}
 pub use Rattle.plan_graph.specs.declared.GraphRow.{GraphRow}
@@ -13,17 +13,17 @@ pub use Rattle.plan_graph.specs.declared.PlanGraph.{PlanGraph}
 pub use Rattle.plan_model.proofs.Boarding.{earlier_by-is, limit_of-some, way_takes}
 pub use Rattle.plan_model.proofs.Views.{departs, leg_there, same_way, seen, start_back, start_there}
 pub use Rattle.plan_model.specs.Bounds.{certainty, end_of_arrivals, end_of_time}
-pub use Rattle.plan_model.specs.Late.{LateBelow, LateCovers, late}
+pub use Rattle.plan_model.specs.Expected.{LateBelow, LateCovers, late}
 pub use Rattle.plan_model.specs.Network.{IsValid, IsValidConnection, PrecedesByStep, arr_of, count, dep_of, from_of, no_connection, outcomes, run_of, step_of, to_of}
 unfoldable pub use Rattle.plan_model.specs.Network.{change_of, connection, row_of}
-pub use Rattle.plan_model.specs.NetworkModel.{NetworkModel}
+pub use Rattle.plan_model.specs.Network.{NetworkModel}
 pub use Rattle.plan_model.specs.Strategy.{AreSafe, IsSafe, IsSafeFor, IsSafeFromStart}
 pub use Rattle.plan_model.specs.Tree.{Done, Kid, Kids, Nil, Ride, Stuck, Tree}
 pub use Rattle.plan_model.specs.View.{IsSeen, IsView, all_later_by, later_by}
 pub use Rattle.plan_model.specs.declared.model.Outcome.{Outcome}
 pub use Rattle.plan_model.specs.declared.model.Query.{Query}
-pub use Rattle.value_laws.specs.Rounded.{rounded_down, rounded_up, sum_down, sum_up}
+pub use Rattle.value_laws.specs.Spans.{rounded_down, rounded_up, sum_down, sum_up}
 pub use Rattle.late_chance.specs.Chances.{itself, promised, seconds_per_week}
 pub use Rattle.late_chance.specs.LaterGraphs.{IsShown, LaterAlike, later_graph, later_query, later_row, later_table}
 pub use Rattle.late_chance.specs.Punctual.{IsAboutNetwork, IsPunctual, PunctualAlike, asked_for, seen_for, shift_for}
-pub use Rattle.late_chance.specs.SeenFrom.{shifted_connection, shifted_parts}
+pub use Rattle.late_chance.specs.Punctual.{shifted_connection, shifted_parts}

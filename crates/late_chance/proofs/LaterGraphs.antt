@@ -9,7 +9,7 @@ use Rattle.plan_model.specs.Ways.{limit_of}
 use Rattle.plan_model.specs.Unfold.{end_of, arrival_of, by_place}
 use Rattle.plan_model.proofs.LaterTrees.{same_end, same_arrival, same_row, unfold_from-later}
 use Rattle.plan_graph.specs.declared.PlaceTable.{PlaceTable}
-use Rattle.plan_graph.specs.PickedRows.{pick_row, pick_at, rows_of_place}
+use Rattle.plan_graph.specs.Unfold.{pick_row, pick_at, rows_of_place}
 use Rattle.plan_graph.specs.Ready.{IsLegOf, Stands, StandsIn, IsFirstInTime}
 use Rattle.plan_model.proofs.Lists.{AllPairs-map}
 use Rattle.plan_graph.proofs.Picked.{picked_leg}

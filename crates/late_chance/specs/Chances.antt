@@ -1,12 +1,13 @@
--- The chance of being late as a score: a span in units of 10 to the -18.
-use Rattle.std.specs.Prelude.{ℕ, refl}
+-- The chance of being late as a score, a span in units of 10 to the -18, and as text.
+use Rattle.std.specs.Prelude.{ℕ, refl, ◌/◌, List, ◌∷◌, ◌++◌}
 use Rattle.plan_model.specs.Bounds.{certainty}
-use Rattle.plan_model.specs.Late.{late}
+use Rattle.plan_model.specs.Expected.{late}
 use Rattle.interval_fixed.specs.Interval.{Interval}
 use Rattle.late_chance.specs.declared.shift.TheConstants.{SECONDS_PER_WEEK}
 use Rattle.value_laws.specs.ScoreLaws.{Scoring, ScoreLaws}
 use Rattle.value_laws.specs.Spans.{span_scoring}
 use Rattle.value_laws.specs.SpanLaws.{span_laws}
+use Rattle.clock_text.specs.Digits.{digits}
 
 abbrev pub seconds_per_week : ℕ
 seconds_per_week = SECONDS_PER_WEEK
@@ -25,3 +26,7 @@ chance_scoring = span_scoring certainty (late promised) itself itself
 
 pub chance_laws : ScoreLaws chance_scoring
 chance_laws = span_laws certainty (late promised) itself itself (λ s. refl)
+
+-- a chance in units of 10 to the -18: a digit, a point and 18 digits
+abbrev pub chance_text : ℕ → List ℕ
+chance_text chance = digits 1 (chance / certainty) ++ 46 ∷ digits 18 chance

@@ -1,5 +1,3 @@
-pub mod Chances
 pub mod LaterGraphs
-pub mod SeenFrom
 pub mod Punctual
-pub mod ChanceTexts
+pub mod Chances

@@ -1,20 +1,26 @@
--- What the graph of the least chance of being late says.
-use Rattle.std.specs.Prelude.{◌≡◌, ℕ, ◌+◌, ◌-◌, ◌^◌, ◌<◌, ◌≤◌, All}
+-- What the graph of the least chance of being late says, in the network as it is seen from a start on.
+use Rattle.std.specs.Prelude.{ℕ, ◌-◌, map, nat_le, ◌&&◌, ◌≡◌, ◌+◌, ◌^◌, ◌<◌, ◌≤◌, All}
+use Rattle.plan_model.specs.declared.model.Connection.{Connection}
+use Rattle.plan_model.specs.Network.{NetworkModel}
 use Rattle.interval_fixed.specs.Interval.{Interval}
 use Rattle.plan_model.specs.declared.model.Query.{Query}
-use Rattle.plan_model.specs.NetworkModel.{NetworkModel}
 use Rattle.plan_model.specs.Network.{count}
 use Rattle.plan_model.specs.Tree.{Tree}
 use Rattle.plan_model.specs.Bounds.{certainty}
-use Rattle.value_laws.specs.Rounded.{rounded_up, rounded_down}
+use Rattle.value_laws.specs.Spans.{rounded_up, rounded_down}
 use Rattle.plan_model.specs.Strategy.{IsSafeFor}
-use Rattle.plan_model.specs.Late.{late, LateBelow, LateCovers}
+use Rattle.plan_model.specs.Expected.{late, LateBelow, LateCovers}
 use Rattle.plan_graph.specs.declared.PlanGraph.{PlanGraph}
 use Rattle.plan_graph.specs.Tidy.{IsTidy}
 use Rattle.plan_graph.specs.Unfold.{unfold_plan}
 use Rattle.late_chance.specs.Chances.{promised}
-use Rattle.late_chance.specs.SeenFrom.{shifted_parts}
 use Rattle.late_chance.specs.LaterGraphs.{later_graph, later_query, sooner_query}
+
+abbrev pub shifted_connection : (shift start : ℕ) → Connection → Connection
+shifted_connection shift start c = record c { dep = record { 0 = c.dep.0 - shift }; arr = record { 0 = c.arr.0 - shift }; can_board = c.can_board && nat_le start c.dep.0 }
+
+abbrev pub shifted_parts : (shift start : ℕ) → NetworkModel → NetworkModel
+shifted_parts shift start m = record m { connections = map (shifted_connection shift start) m.connections }
 
 -- the graph is tidy and its strategy safe; the bounds enclose the chance that it arrives after the promised moment,
 -- the upper one is that with each mean rounded up, ride by ride: the least of all safe strategies; the lower one is below that of

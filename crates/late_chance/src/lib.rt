@@ -9,8 +9,7 @@
 ghost use Rattle.std.specs.Prelude.{◌≡◌, ℕ, ◌+◌, ◌<◌, ◌≤◌};
 ghost use Rattle.plan_model.specs.declared.model.Query.{Query};
 ghost use Rattle.plan_model.specs.Bounds.{end_of_time};
-ghost use Rattle.plan_model.specs.NetworkModel.{NetworkModel};
-ghost use Rattle.plan_model.specs.Network.{IsValid};
+ghost use Rattle.plan_model.specs.Network.{NetworkModel, IsValid};
 ghost use Rattle.plan_model.specs.Strategy.{IsSafeFor};
 ghost use Rattle.plan_model.specs.View.{IsView, SafeAlike};
 ghost use Rattle.plan_graph.specs.declared.PlanGraph.{PlanGraph};
@@ -18,8 +17,7 @@ ghost use Rattle.plan_graph.specs.Tidy.{IsTidy};
 ghost use Rattle.plan_graph.specs.Unfold.{unfold_plan};
 ghost use Rattle.late_chance.specs.Chances.{seconds_per_week};
 ghost use Rattle.late_chance.specs.LaterGraphs.{IsShown, LaterAlike};
-ghost use Rattle.late_chance.specs.SeenFrom.{shifted_parts};
-ghost use Rattle.late_chance.specs.Punctual.{IsPunctual, PunctualAlike, IsAboutNetwork};
+ghost use Rattle.late_chance.specs.Punctual.{shifted_parts, IsPunctual, PunctualAlike, IsAboutNetwork};
 ghost use Rattle.interval_fixed.specs.Interval.{Interval};
 
 mod chance;

@@ -4,7 +4,7 @@ ghost use Rattle.plan_model.specs.Network.{IsValid};
 ghost use Rattle.plan_model.specs.View.{IsView};
 ghost use Rattle.late_chance.specs.Chances.{seconds_per_week};
 ghost use Rattle.late_chance.specs.LaterGraphs.{later_row, later_graph, sooner_query};
-ghost use Rattle.late_chance.specs.SeenFrom.{shifted_connection, shifted_parts};
+ghost use Rattle.late_chance.specs.Punctual.{shifted_connection, shifted_parts};
 
 use plan_graph::{GraphRow, PlaceTable, PlanGraph};
 use plan_model::{Connection, ConnectionId, List, Moment, Network, NoMemory, Query};

@@ -1,7 +1,7 @@
 //! A chance as text.
 ghost use Rattle.std.specs.Prelude.{◌≡◌, ◌≤◌};
 ghost use Rattle.plan_model.specs.Bounds.{certainty};
-ghost use Rattle.late_chance.specs.ChanceTexts.{chance_text};
+ghost use Rattle.late_chance.specs.Chances.{chance_text};
 
 /// The text of a chance that is given in units of 10 to the -18: a digit, a point and 18 digits.
 pub fn write_chance(chance: u64) -> [u8; 20]

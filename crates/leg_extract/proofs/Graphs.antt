@@ -6,16 +6,16 @@ use Rattle.std.proofs.lemmas.Bool.{cases_eq}
 use Rattle.std.proofs.lemmas.List.Elements.{All-contains}
 use Rattle.plan_model.specs.declared.model.Leg.{Leg}
 use Rattle.plan_model.specs.declared.model.Query.{Query}
-use Rattle.plan_model.specs.NetworkModel.{NetworkModel}
+use Rattle.plan_model.specs.Network.{NetworkModel}
 use Rattle.plan_model.specs.Network.{IsValid, arr_of}
 use Rattle.plan_model.specs.Tree.{Tree}
 use Rattle.plan_model.specs.Strategy.{IsSafeFor}
-use Rattle.plan_model.specs.Choices.{IsKept}
+use Rattle.plan_model.specs.Ways.{IsKept}
 use Rattle.plan_model.specs.Unfold.{end_of, arrival_of, outcomes_of, by_place}
 use Rattle.plan_graph.specs.declared.GraphRow.{GraphRow}
 use Rattle.plan_graph.specs.declared.Ride.{Ride}
 use Rattle.plan_graph.specs.Ready.{IsLegOf, Stands}
-use Rattle.plan_graph.specs.Follows.{Follows, IsSteady}
+use Rattle.plan_graph.specs.Coherent.{Follows, IsSteady}
 use Rattle.plan_graph.specs.Walked.{IsWalked}
 use Rattle.plan_model.proofs.Lists.{All-from_contains}
 use Rattle.plan_graph.proofs.Tables.{table_away, table_there, by_for}

@@ -14,7 +14,7 @@ pub use Rattle.std.proofs.lemmas.List.Sums.{count_by-le-length, sum_by-cons}
 pub use Rattle.std.specs.Result.{result_err}
 pub use Rattle.clock_text.specs.Civil.{last_printable}
 pub use Rattle.csv_rows.specs.Tables.{header, row_count, table_of}
-pub use Rattle.interval_fixed.specs.Means.{weighted}
+pub use Rattle.interval_fixed.specs.Interval.{weighted}
 pub use Rattle.plan_model.proofs.Boarding.{boards_later, listed-way_of, way_of-listed, way_takes}
 pub use Rattle.plan_model.proofs.Bounds.{forward}
 pub use Rattle.plan_model.proofs.Results.{require-ok}
@@ -22,7 +22,7 @@ pub use Rattle.plan_model.proofs.ScanOrders.{IsNext, IsOrderBut, Known, all_know
 pub use Rattle.plan_model.proofs.Sorted.{earlier_in_order, not_above}
 pub use Rattle.plan_model.specs.NameLists.{AreNames, NameLists, NamesFit}
 pub use Rattle.plan_model.specs.Network.{IsValid, arr_of, connection, count, dep_of, from_of, outcomes, run_of, step_of, to_of}
-pub use Rattle.plan_model.specs.NetworkModel.{NetworkModel}
+pub use Rattle.plan_model.specs.Network.{NetworkModel}
 pub use Rattle.plan_model.specs.Strategy.{AreSafe, IsBoardable, IsBoardableAtStart, IsLeg, IsSafe, IsSafeFor}
 pub use Rattle.plan_model.specs.Ways.{way_of, ways_into}
 pub use Rattle.plan_model.specs.declared.departure.Departure.{Departure}
@@ -33,14 +33,14 @@ pub use Rattle.plan_model.specs.declared.model.Query.{Query}
 pub use Rattle.printed_rows.proofs.Chains.{if-value}
 pub use Rattle.printed_rows.proofs.Lines.{four_fields, name_is, seven_fields, split_at, text_step}
 pub use Rattle.printed_rows.specs.Fields.{connection_of, field, is_query, number_of, rises, whole_at}
-pub use Rattle.printed_rows.specs.Writers.{run_name, text_of_records}
-unfoldable pub use Rattle.printed_rows.specs.Writers.{row_of_fields}
+pub use Rattle.printed_rows.specs.Records.{run_name, text_of_records}
+unfoldable pub use Rattle.printed_rows.specs.Records.{row_of_fields}
 pub use Rattle.lower_proof.specs.Boards.{AreEntries, Falls, FrontValue, IsEntry, ShownBoard, ValueInTime, entry_at, least_of}
 pub use Rattle.lower_proof.specs.CertificateTexts.{bounds_record, certificate_text, entry_text, value_record, value_records}
 pub use Rattle.lower_proof.specs.Certificates.{AreLeast, HasValueUpTo, IsAccepted, IsLastFault, IsLeastAt, IsLeastAtStart, IsLeastOf, IsLeastValue, IsLocal, IsTight, IsVia, Offers, arrived_by}
 pub use Rattle.lower_proof.specs.Certificates.{bound_of}
-pub use Rattle.lower_proof.specs.Departures.{AreDepartingBy, IsDepartingBy, NoneAfter}
-pub use Rattle.lower_proof.specs.Minima.{AllLate, AreBoards, AreFresh, AreLate, AreMinima, HaveEntries, IsBoard, IsBoardOf, board_at}
+pub use Rattle.lower_proof.specs.Boards.{AreDepartingBy, IsDepartingBy, NoneAfter}
+pub use Rattle.lower_proof.specs.Boards.{AllLate, AreBoards, AreFresh, AreLate, AreMinima, HaveEntries, IsBoard, IsBoardOf, board_at}
 pub use Rattle.lower_proof.specs.Reading.{AreValuesReported, IsFaultAfter, IsFirstLineFault, IsProofRead, IsProofReported, IsReadBack, ReadsBack, bounds_in, bounds_numbers, bounds_row_in}
 pub use Rattle.lower_proof.specs.Reading.{connection_before, connection_in, is_bounds, nanos_in, reported_in, value_fault, value_row, value_row_in}
 pub use Rattle.lower_proof.specs.Steps.{AllFit, IsBestExit, KeepsTo, exit_of, lesser}

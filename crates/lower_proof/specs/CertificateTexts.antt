@@ -3,10 +3,10 @@ use Rattle.std.specs.Prelude.{ℕ, ◌+◌, List, [], ◌∷◌, Option, Some, N
 use Rattle.std.specs.List.{count_by}
 use Rattle.clock_text.specs.Civil.{moment_text, nanos_text}
 use Rattle.plan_model.specs.declared.model.Query.{Query}
-use Rattle.plan_model.specs.NetworkModel.{NetworkModel}
+use Rattle.plan_model.specs.Network.{NetworkModel}
 use Rattle.plan_model.specs.NameLists.{NameLists}
 use Rattle.plan_model.specs.Network.{run_of, step_of}
-use Rattle.printed_rows.specs.Writers.{place_name, run_name, row_of_fields, text_of_records}
+use Rattle.printed_rows.specs.Records.{place_name, run_name, row_of_fields, text_of_records}
 
 -- the first row: kind, version, source, target, start, deadline, how many connections have a value
 abbrev pub bounds_record : NameLists → Query → List (Option ℕ) → List (List ℕ)

@@ -4,13 +4,13 @@ use Rattle.plan_model.specs.Bounds.{nanos_per_second}
 use Rattle.plan_model.specs.declared.units.TheConstants.{WHOLE_WEIGHT}
 use Rattle.plan_model.specs.declared.model.Outcome.{Outcome}
 use Rattle.plan_model.specs.declared.model.Query.{Query}
-use Rattle.plan_model.specs.NetworkModel.{NetworkModel}
+use Rattle.plan_model.specs.Network.{NetworkModel}
 use Rattle.plan_model.specs.Network.{count, connection, to_of, arr_of, outcomes}
 use Rattle.plan_model.specs.Order.{IsEarlier}
 use Rattle.lower_proof.specs.declared.Verdict.{Verdict}
 use Rattle.lower_proof.specs.declared.Verdict.TheVariants.{Holds, Fails}
 use Rattle.plan_model.specs.Strategy.{IsLeg, IsBoardable, IsBoardableAtStart}
-use Rattle.interval_fixed.specs.Means.{weighted}
+use Rattle.interval_fixed.specs.Interval.{weighted}
 
 -- the value of a connection, where it has one
 abbrev pub bound_of : List (Option ℕ) → ℕ → Option ℕ

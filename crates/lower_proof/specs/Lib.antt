@@ -1,9 +1,7 @@
 pub mod Certificates
 pub mod Promises
 pub mod Steps
-pub mod Boards
 pub mod FaultTexts
-pub mod Departures
-pub mod Minima
+pub mod Boards
 pub mod CertificateTexts
 pub mod Reading

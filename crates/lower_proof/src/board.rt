@@ -1,10 +1,8 @@
 //! The connections that can be boarded from a place, with the least of their values.
 ghost use Rattle.std.specs.Prelude.{◌≡◌, ℕ, ◌+◌, ◌<◌, ◌≤◌, ◌↔◌, length, max, IfOk, OnOk, IsTrue, [], ◌∷◌, ◌++◌, IsPermutation};
 ghost use Rattle.lower_proof.specs.Certificates.{IsLeastOf};
-ghost use Rattle.lower_proof.specs.Boards.{entry_at, Falls, ValueInTime};
-ghost use Rattle.lower_proof.specs.Minima.{AreMinima, AreLate, IsBoard, board_at, HaveEntries, AreFresh};
-ghost use Rattle.plan_model.specs.NetworkModel.{NetworkModel};
-ghost use Rattle.plan_model.specs.Network.{count, IsValid};
+ghost use Rattle.lower_proof.specs.Boards.{entry_at, Falls, ValueInTime, AreMinima, AreLate, IsBoard, board_at, HaveEntries, AreFresh};
+ghost use Rattle.plan_model.specs.Network.{NetworkModel, count, IsValid};
 
 use crate::{lesser, value_of};
 use plan_model::{Connection, ConnectionId, Moment, Network, NoMemory};

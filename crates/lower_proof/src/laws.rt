@@ -1,8 +1,7 @@
 //! A text has one certificate, and each value of a certificate that is accepted is a lower bound.
-ghost use Rattle.std.specs.Prelude.{◌≡◌, ◌≢◌, ℕ, List as Bytes, Option as Maybe, Err};
-ghost use Rattle.std.specs.Prelude.{Result as Either};
+ghost use Rattle.std.specs.Prelude.{◌≡◌, ◌≢◌, ℕ, List as Bytes, Option as Maybe, Err, Result as Either};
 ghost use Rattle.csv_rows.specs.Tables.{table_of, header};
-ghost use Rattle.plan_model.specs.NetworkModel.{NetworkModel};
+ghost use Rattle.plan_model.specs.Network.{NetworkModel};
 ghost use Rattle.plan_model.specs.NameLists.{NameLists};
 ghost use Rattle.plan_model.specs.declared.model.Query.{Query as Asked};
 ghost use Rattle.lower_proof.specs.declared.LowerBounds.{LowerBounds as Proof};

@@ -6,12 +6,11 @@
 #![tactic(auto)]
 
 ghost use Rattle.std.specs.Prelude.{◌≡◌, ℕ, ◌+◌, ◌<◌, ◌≤◌, ◌↔◌, IsTrue, IfOk, false, length, slice_set, Option as Maybe};
-ghost use Rattle.plan_model.specs.NetworkModel.{NetworkModel};
-ghost use Rattle.plan_model.specs.Network.{IsValid, count, run_of, arr_of};
+ghost use Rattle.plan_model.specs.Network.{NetworkModel, IsValid, count, run_of, arr_of};
 ghost use Rattle.lower_proof.specs.Certificates.{bound_of, IsLeastOf, arrived_by, IsLeastAt, IsLeastAtStart, IsVia, IsTight, IsVerdict};
 ghost use Rattle.lower_proof.specs.Promises.{IsSound, IsBestCertificate};
 ghost use Rattle.lower_proof.specs.Steps.{lesser, KeepsTo, exit_of, IsBestExit};
-ghost use Rattle.lower_proof.specs.Minima.{IsBoard, board_at, AreBoards, AllLate};
+ghost use Rattle.lower_proof.specs.Boards.{IsBoard, board_at, AreBoards, AllLate};
 ghost use Rattle.interval_fixed.specs.Interval.{end_of_nanos};
 ghost use Rattle.plan_model.specs.Bounds.{end_of_time};
 

@@ -3,7 +3,7 @@ ghost use Rattle.std.specs.Prelude.{◌≡◌, ℕ, ◌<◌, ◌≤◌, ◌++◌
 ghost use Rattle.std.specs.List.{count_by};
 ghost use Rattle.plan_model.specs.NameLists.{NamesFit};
 ghost use Rattle.plan_model.specs.Network.{count};
-ghost use Rattle.printed_rows.specs.Writers.{row_of_fields, text_of_records};
+ghost use Rattle.printed_rows.specs.Records.{row_of_fields, text_of_records};
 ghost use Rattle.lower_proof.specs.Steps.{AllFit};
 ghost use Rattle.lower_proof.specs.Reading.{ReadsBack};
 ghost use Rattle.lower_proof.specs.CertificateTexts.{bounds_record, value_record, entry_text, value_records, certificate_text};

@@ -1,7 +1,7 @@
 //! The connections that count, in the scan order.
 ghost use Rattle.std.specs.Prelude.{◌≡◌, ◌<◌, ◌≤◌, IfOk, Option as Maybe};
 ghost use Rattle.plan_model.specs.Network.{IsValid};
-ghost use Rattle.lower_proof.specs.Departures.{NoneAfter, AreDepartingBy};
+ghost use Rattle.lower_proof.specs.Boards.{NoneAfter, AreDepartingBy};
 
 use crate::value_of;
 use plan_model::{ConnectionId, Departure, Moment, Network, NoMemory, in_scan_order};

@@ -14,7 +14,7 @@ pub use Rattle.journey_model.specs.FaultLines.{IsFormatted, line_of}
 pub use Rattle.journey_model.specs.Faults.{IsUndisturbed, status_of, unread_input}
 pub use Rattle.journey_model.specs.Known.{parts_of}
 pub use Rattle.journey_model.specs.Sites.{HasSite, NamedParts}
-pub use Rattle.journey_model.specs.Wants.{OrNoMemory}
+pub use Rattle.journey_model.specs.Faults.{OrNoMemory}
 pub use Rattle.journey_model.specs.declared.faults.Fault.{Fault}
 pub use Rattle.journey_model.specs.declared.faults.Fault.TheVariants.{Limit, Missing, NoMemory, NoSafe, Read, Words, Write}
 pub use Rattle.journey_model.specs.declared.faults.Input.{Input}

@@ -3,7 +3,7 @@ use Rattle.std.proofs.Common.{arith}
 use Rattle.meat_engine.proofs.Common.{◌≡◌, ℕ, ap, refl, sym, ◌∙◌, subst, inl, inr, List, Option, Some, None, Ok, ◌≢◌, ◌⊎◌, FileMap, Limits, JourneyModel, AskModel, Plan, Ask, Sample, job_of, Input}
 use Rattle.meat_engine.proofs.Common.{Fault, Read, NoMemory, status_of, IsUndisturbed, NamedParts, Problem, IsProblem, IsProblemFault, IsFaultless, no_fault, Report, EndsAsk, EndsBySafety}
 use Rattle.meat_engine.proofs.Common.{findings_of, Outcome, sample_journey, sample_alpha, FailsSample}
-use Rattle.feed_maker.specs.Made.{made, SameFolder}
+use Rattle.feed_maker.specs.MadeTables.{made, SameFolder}
 use Rattle.journey_problem.proofs.SameFiles.{agree_all, own_problem}
 use Rattle.meat_engine.specs.Completeness.{IsComplete}
 use Rattle.meat_engine.proofs.Ended.{asked_ends, answers_end, EndsOver, ends_in, fails_over}

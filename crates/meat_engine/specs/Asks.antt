@@ -19,7 +19,7 @@ use Rattle.journey_answers.specs.Scores.{IsEnclosed, IsUnsafeGraph}
 use Rattle.meat_engine.specs.Ends.{EndsByScore, EndsBySafety, EndsByGraphFile, EndsByCertificateFile, EndsByDepartures, EndsByLatest, EndsByReach}
 use Rattle.journey_answers.specs.Certified.{AnswersCertify}
 use Rattle.journey_problem.specs.CertificateFiles.{InCertificateFile, FailsCertificate}
-use Rattle.journey_answers.specs.Checks.{IsHeld, IsBroken}
+use Rattle.journey_answers.specs.Certified.{IsHeld, IsBroken}
 use Rattle.journey_answers.specs.Departures.{query_until, AnswersDepartures, AnswersLatest, FailsDepartures, FailsLatest}
 use Rattle.journey_answers.specs.Reach.{AnswersReach, FailsReach}
 

@@ -2,7 +2,7 @@
 use Rattle.std.specs.Prelude.{◌≡◌, ◌⊎◌, ℕ, List, Option, Some, Ok}
 use Rattle.file_ports.specs.Ports.{FileMap}
 use Rattle.csv_rows.specs.declared.limits.Limits.{Limits}
-use Rattle.feed_maker.specs.Made.{made}
+use Rattle.feed_maker.specs.MadeTables.{made}
 use Rattle.command_line.specs.Jobs.{JourneyModel, AskModel, Ask, Sample, job_of}
 use Rattle.journey_model.specs.declared.problem.Problem.{Problem}
 use Rattle.journey_problem.specs.Problems.{IsProblem, IsFaultless}

@@ -8,7 +8,7 @@ use Rattle.plan_model.specs.Network.{count}
 use Rattle.interval_fixed.specs.Interval.{Interval}
 use Rattle.plan_graph.specs.declared.PlanGraph.{PlanGraph}
 use Rattle.decision_graph.specs.Planned.{IsPlanned}
-use Rattle.feed_maker.specs.Made.{made, SameFolder}
+use Rattle.feed_maker.specs.MadeTables.{made, SameFolder}
 use Rattle.command_line.specs.Jobs.{JourneyModel, FeedFolder, Plan}
 use Rattle.journey_model.specs.declared.faults.Fault.{Fault}
 use Rattle.journey_model.specs.Faults.{unread_input}

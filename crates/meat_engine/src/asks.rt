@@ -1,6 +1,6 @@
 //! The answers to what the words ask about a journey, over its files.
 ghost use Rattle.std.specs.Prelude.{◌≡◌, ◌≢◌, Some, IfOk, IfErr};
-ghost use Rattle.command_line.specs.Ranges.{IsInTime};
+ghost use Rattle.command_line.specs.Jobs.{IsInTime, late_in};
 ghost use Rattle.command_line.specs.Shown.{journey_shown, ask_shown};
 ghost use Rattle.journey_model.specs.Sites.{HasSite};
 ghost use Rattle.journey_problem.specs.Files.{path_of, HasCauses};
@@ -11,8 +11,7 @@ ghost use Rattle.journey_problem.specs.GraphFiles.{InGraphFile};
 ghost use Rattle.journey_problem.specs.CertificateFiles.{InCertificateFile};
 ghost use Rattle.journey_answers.specs.Trips.{AnswersReplay};
 ghost use Rattle.journey_answers.specs.Scores.{IsEnclosed};
-ghost use Rattle.journey_answers.specs.Checks.{IsHeld};
-ghost use Rattle.command_line.specs.Jobs.{late_in};
+ghost use Rattle.journey_answers.specs.Certified.{IsHeld};
 ghost use Rattle.journey_model.specs.Known.{parts_of};
 ghost use Rattle.journey_report.specs.Findings.{findings_of};
 ghost use Rattle.meat_engine.specs.Refusals.{IsRefusalBy, by_fault};

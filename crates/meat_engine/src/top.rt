@@ -3,7 +3,7 @@ ghost use Rattle.std.specs.Prelude.{◌≡◌, ◌<◌, map, string_bytes, optio
 ghost use Rattle.std.specs.Io.KnownBytes.{Keeps};
 ghost use Rattle.csv_rows.specs.Limits.{standard};
 ghost use Rattle.file_ports.specs.Counts.{Rose};
-ghost use Rattle.command_line.specs.Ranges.{IsJobInTime};
+ghost use Rattle.command_line.specs.Jobs.{IsJobInTime};
 ghost use Rattle.command_line.specs.Shown.{wanted_job};
 ghost use Rattle.journey_model.specs.Faults.{status_of};
 ghost use Rattle.journey_model.specs.FaultLines.{line_of};

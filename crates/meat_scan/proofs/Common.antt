@@ -14,7 +14,7 @@ pub use Rattle.plan_model.proofs.ScanOrders.{IsNext, Known, Never, all_known, co
 pub use Rattle.plan_model.specs.DelayRows.{EachKid, IsValidRow}
 pub use Rattle.plan_model.specs.Network.{IsValid, arr_of, count, dep_of, from_of, no_connection, outcomes, run_of, to_of}
 unfoldable pub use Rattle.plan_model.specs.Network.{connection}
-pub use Rattle.plan_model.specs.NetworkModel.{NetworkModel}
+pub use Rattle.plan_model.specs.Network.{NetworkModel}
 pub use Rattle.plan_model.specs.Order.{IsPrefixUpTo, IsScanOrder}
 pub use Rattle.plan_model.specs.Strategy.{AreSafe, IsBoardable, IsBoardableAtStart, IsLeg, IsSafe, IsSafeFor}
 pub use Rattle.plan_model.specs.Tree.{Done, Kid, Kids, Nil, Ride, Stuck, Tree, height, height_of}
@@ -29,7 +29,7 @@ pub use Rattle.stop_profile.proofs.Gaps.{written_back}
 pub use Rattle.stop_profile.proofs.Inserted.{gaps-rows_with_new, look_step, rises-rows_with_new}
 pub use Rattle.stop_profile.proofs.Looks.{picked_holds, picked_in_time}
 pub use Rattle.stop_profile.specs.Inserts.{RowsRise, row_in_time, rows_with_new}
-pub use Rattle.stop_profile.specs.Shown.{ShownProfile}
+pub use Rattle.stop_profile.specs.Inserts.{ShownProfile}
 pub use Rattle.stop_profile.specs.declared.Row.{Row}
 pub use Rattle.trip_exit.specs.Offers.{Exit, exit_after_offer}
 pub use Rattle.value_laws.specs.ScoreLaws.{ScoreLaws, Scoring}
@@ -39,4 +39,4 @@ pub use Rattle.meat_scan.specs.ScanTables.{FitsTables, FitsTablesBy, HasRoom, Ha
 pub use Rattle.meat_scan.specs.ScanTables.{spare_at}
 pub use Rattle.meat_scan.specs.Solves.{HasAnswers, IsSafeAt, IsStartAnswer, SolvesEach, SolvesStart}
 pub use Rattle.meat_scan.specs.Step.{alighted_by, boarding_exit, exits_next, exits_with, leg_of, rows_next, rows_with, rows_with_leg, start_next, start_with, way_of_place, with_way}
-pub use Rattle.meat_scan.specs.Values.{in_front, value_after_arrival, values_after}
+pub use Rattle.meat_scan.specs.Step.{in_front, value_after_arrival, values_after}

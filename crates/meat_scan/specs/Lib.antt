@@ -1,4 +1,3 @@
-pub mod Values
 pub mod Step
 pub mod ScanResult
 pub mod Rules

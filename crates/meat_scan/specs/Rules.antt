@@ -4,14 +4,14 @@ use Rattle.std.specs.Option.{option_map}
 use Rattle.plan_model.specs.declared.model.ConnectionId.{ConnectionId}
 use Rattle.plan_model.specs.declared.model.Leg.{Leg}
 use Rattle.plan_model.specs.declared.model.Query.{Query}
-use Rattle.plan_model.specs.NetworkModel.{NetworkModel}
+use Rattle.plan_model.specs.Network.{NetworkModel}
 use Rattle.plan_model.specs.Order.{IsScanOrder}
 use Rattle.plan_model.specs.Tree.{Tree}
 use Rattle.plan_model.specs.Unfold.{unfolding_of, by_place}
 use Rattle.value_laws.specs.ScoreLaws.{Scoring}
 use Rattle.stop_profile.specs.declared.Row.{Row}
 use Rattle.stop_profile.specs.Inserts.{row_in_time}
-use Rattle.stop_profile.specs.Shown.{ShownProfile}
+use Rattle.stop_profile.specs.Inserts.{ShownProfile}
 use Rattle.trip_exit.specs.Offers.{Exit}
 use Rattle.meat_scan.specs.ScanTables.{rows_of_profile, exit_at}
 use Rattle.meat_scan.specs.Step.{rows_next, exits_next, start_next}

@@ -3,7 +3,7 @@ use Rattle.std.specs.Prelude.{◌≡◌, ℕ, ◌<◌, List, [], Option, Some, N
 use Rattle.std.specs.Option.{option_map}
 use Rattle.plan_model.specs.declared.model.Leg.{Leg}
 use Rattle.plan_model.specs.declared.model.Query.{Query}
-use Rattle.plan_model.specs.NetworkModel.{NetworkModel}
+use Rattle.plan_model.specs.Network.{NetworkModel}
 use Rattle.plan_model.specs.Tree.{Tree}
 use Rattle.plan_model.specs.Unfold.{unfold_from, unfolding_of, by_place}
 use Rattle.stop_profile.specs.declared.Row.{Row}

@@ -18,9 +18,7 @@ ghost use Rattle.plan_model.specs.Order.{IsScanOrder};
 ghost use Rattle.std.specs.Option.{option_map};
 ghost use Rattle.meat_scan.specs.ScanTables.{rows_of_profile, spare_at, capacity_at, exit_at, is_boardable_by, ways_between, HasRoomFor, FitsTables, FitsTablesBy, IsEmpty};
 ghost use Rattle.meat_scan.specs.ScanResult.{choice_of, found_in, IsLastChoice};
-ghost use Rattle.meat_scan.specs.Values.{value_after_arrival, values_after};
-ghost use Rattle.meat_scan.specs.Step.{alighted_by, exits_with, way_of_place, with_way, rows_with, start_with};
-ghost use Rattle.meat_scan.specs.Step.{boarding_exit};
+ghost use Rattle.meat_scan.specs.Step.{value_after_arrival, values_after, alighted_by, exits_with, way_of_place, with_way, rows_with, start_with, boarding_exit};
 ghost use Rattle.meat_scan.specs.Rules.{FollowsRules, kept_in, kept_next};
 ghost use Rattle.meat_scan.specs.Solves.{HasAnswers, Solves, SolvesStart};
 

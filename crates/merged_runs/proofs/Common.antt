@@ -11,7 +11,7 @@ pub use Rattle.plan_model.proofs.Lists.{AllPairs-first, AllPairs-tail}
 pub use Rattle.plan_model.proofs.ScanOrders.{get_ids, has_each_id, length_ids}
 pub use Rattle.plan_model.specs.Bounds.{most_connections}
 pub use Rattle.plan_model.specs.Network.{IsValid, connection, count, dep_of, run_of}
-pub use Rattle.plan_model.specs.NetworkModel.{NetworkModel}
+pub use Rattle.plan_model.specs.Network.{NetworkModel}
 pub use Rattle.plan_model.specs.Order.{IsEarlier, IsPrefixUpTo, IsScanOrder, ids_below}
 pub use Rattle.plan_model.specs.declared.model.Connection.{Connection}
 pub use Rattle.plan_model.specs.declared.model.ConnectionId.{ConnectionId}

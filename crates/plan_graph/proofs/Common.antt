@@ -21,17 +21,17 @@ pub use Rattle.std.specs.Ordering.{match_ordering, ordering_reverse, ordering_th
 pub use Rattle.plan_model.proofs.Lists.{All-from_contains, AllPairs-head, AllPairs-map, AllPairs-nil, AllPairs-tail, AllPairs-with, Contains-cons_cases, Contains-from_map, Contains-head}
 pub use Rattle.plan_model.proofs.Lists.{Contains-map, Contains-nil, Contains-tail}
 pub use Rattle.plan_model.specs.Network.{IsValid, arr_of, count}
-pub use Rattle.plan_model.specs.NetworkModel.{NetworkModel}
+pub use Rattle.plan_model.specs.Network.{NetworkModel}
 pub use Rattle.plan_model.specs.Tree.{Tree}
 pub use Rattle.plan_model.specs.Unfold.{arrival_of, end_of, kids_after, outcomes_of, ride_or_stuck, unfold_after, unfold_from, unfolding_of}
 pub use Rattle.plan_model.specs.Ways.{limit_of}
 pub use Rattle.plan_model.specs.declared.model.Leg.{Leg}
 pub use Rattle.plan_model.specs.declared.model.Outcome.{Outcome}
 pub use Rattle.plan_model.specs.declared.model.Query.{Query}
-pub use Rattle.plan_graph.specs.PickedRows.{HasRisingTables, Precedes, is_ride_of, is_table_of, leg_lt, pick_after, pick_at, pick_row, rows_after, rows_of_place}
-pub use Rattle.plan_graph.specs.Placed.{IsReached, StandsSafely}
+pub use Rattle.plan_graph.specs.Unfold.{HasRisingTables, Precedes, is_ride_of, is_table_of, leg_lt, pick_after, pick_at, pick_row, rows_after, rows_of_place}
+pub use Rattle.plan_graph.specs.Walked.{IsReached, StandsSafely}
 pub use Rattle.plan_graph.specs.Ready.{IsBusy, IsFirstInTime, IsLegOf, IsPickedAfter, IsReady, IsReadyRide, IsReadyRow, IsSafeForSome, MayPrecede, Stands, StandsIn, pick_in_time}
-pub use Rattle.plan_graph.specs.WalkTables.{leg_cmp, ride_of_leg, row_by, rows_for, table_after, with_leg, with_row}
+pub use Rattle.plan_graph.specs.Walked.{leg_cmp, ride_of_leg, row_by, rows_for, table_after, with_leg, with_row}
 pub use Rattle.plan_graph.specs.Walked.{HasRideOf, IsTaken, IsWalked}
 pub use Rattle.plan_graph.specs.declared.GraphRow.{GraphRow}
 pub use Rattle.plan_graph.specs.declared.PlaceTable.{PlaceTable}

@@ -1,10 +1,6 @@
-pub mod PickedRows
 pub mod Unfold
 pub mod Ready
-pub mod Coherent
 pub mod Tidy
-pub mod Follows
-pub mod WalkTables
+pub mod Coherent
 pub mod RisingRides
-pub mod Placed
 pub mod Walked

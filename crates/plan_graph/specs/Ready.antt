@@ -3,7 +3,7 @@ use Rattle.std.specs.Prelude.{◌≡◌, ◌≢◌, ℕ, ◌<◌, ◌≤◌, ◌
 use Rattle.plan_model.specs.declared.model.Leg.{Leg}
 use Rattle.plan_model.specs.declared.model.Outcome.{Outcome}
 use Rattle.plan_model.specs.declared.model.Query.{Query}
-use Rattle.plan_model.specs.NetworkModel.{NetworkModel}
+use Rattle.plan_model.specs.Network.{NetworkModel}
 use Rattle.plan_model.specs.Tree.{Tree, Done, Ride as Rides, Stuck, Kids, Nil, Kid}
 use Rattle.plan_model.specs.Strategy.{IsLeg, IsSafeFromStart}
 use Rattle.plan_model.specs.Ways.{limit_of}
@@ -11,7 +11,7 @@ use Rattle.plan_model.specs.Unfold.{end_of, arrival_of, outcomes_of}
 use Rattle.plan_graph.specs.declared.GraphRow.{GraphRow}
 use Rattle.plan_graph.specs.declared.Ride.{Ride}
 use Rattle.plan_graph.specs.declared.ExpandedGraph.{ExpandedGraph}
-use Rattle.plan_graph.specs.PickedRows.{pick_row, Precedes}
+use Rattle.plan_graph.specs.Unfold.{pick_row, Precedes}
 use Rattle.plan_graph.specs.Unfold.{unfold_expanded}
 
 abbrev pub IsLegOf : NetworkModel → Leg → Type 0

@@ -1,16 +1,71 @@
--- The rides that a choice of legs reaches from a start leg.
-use Rattle.std.specs.Prelude.{◌≡◌, ◌≢◌, ℕ, List, Option, Some, All, AllPairs, Contains}
+-- The rides that a choice of legs reaches from a start leg, their tables, and which legs are in the tree that it fixes.
+use Rattle.std.specs.Prelude.{ℕ, ◌+◌, List, [], ◌∷◌, Option, Some, None, ◌==◌, if◌then◌else◌, Contains, ◌≡◌, ◌≢◌, All, AllPairs}
+use Rattle.std.specs.Ordering.{nat_cmp, ordering_then}
+use Rattle.std.specs.declared.cmp.Ordering.{Ordering}
+use Rattle.std.specs.BTreeSet.{insert_key}
 use Rattle.plan_model.specs.declared.model.Leg.{Leg}
 use Rattle.plan_model.specs.declared.model.Outcome.{Outcome}
-use Rattle.plan_model.specs.declared.model.Query.{Query}
-use Rattle.plan_model.specs.NetworkModel.{NetworkModel}
-use Rattle.plan_model.specs.Strategy.{IsBoardable}
-use Rattle.plan_model.specs.Unfold.{end_of, arrival_of, outcomes_of, unfolding_of}
+use Rattle.plan_model.specs.Network.{NetworkModel}
+use Rattle.plan_model.specs.Network.{arr_of}
+use Rattle.plan_model.specs.Unfold.{end_of, outcomes_of, kids_after, unfold_after, arrival_of, unfolding_of}
 use Rattle.plan_graph.specs.declared.GraphRow.{GraphRow}
 use Rattle.plan_graph.specs.declared.Ride.{Ride}
-use Rattle.plan_graph.specs.PickedRows.{Precedes, pick_after}
-use Rattle.plan_graph.specs.Ready.{IsLegOf, Stands}
-use Rattle.plan_graph.specs.WalkTables.{table_after}
+use Rattle.std.specs.List.Sorted.{IsStrictlySortedBy}
+use Rattle.plan_model.specs.Tree.{Tree, Kids}
+use Rattle.plan_model.specs.Strategy.{AreSafe, IsBoardable}
+use Rattle.plan_graph.specs.Ready.{IsLegOf, Stands, StandsIn}
+use Rattle.plan_model.specs.declared.model.Query.{Query}
+use Rattle.plan_graph.specs.Unfold.{Precedes, pick_after}
+
+-- the row of a leg that is taken after an arrival by a moment
+abbrev pub row_by : ℕ → Leg → GraphRow
+row_by moment leg = record { by = record { 0 = moment }; leg = leg }
+
+-- with a row for an arrival, if a leg is chosen
+abbrev pub with_row : ℕ → Option Leg → List GraphRow → List GraphRow
+with_row arrival None rows = rows
+with_row arrival (Some leg) rows = row_by arrival leg ∷ rows
+
+-- a row for each outcome, by its arrival
+abbrev pub rows_for : (ℕ → Option Leg) → ℕ → List Outcome → List GraphRow
+rows_for choice scheduled [] = []
+rows_for choice scheduled (o ∷ row) = with_row (scheduled + o.delay) (choice (scheduled + o.delay)) (rows_for choice scheduled row)
+
+-- the table after a leg; none at the target
+abbrev pub table_after : NetworkModel → ℕ → (Leg → ℕ → Option Leg) → Leg → List GraphRow
+table_after network target choice leg = if end_of network leg == target then [] else rows_for (choice leg) (arr_of network leg.exit.0) (outcomes_of network leg)
+
+-- by entry, and then by exit
+abbrev pub leg_cmp : Leg → Leg → Ordering
+leg_cmp a b = ordering_then (nat_cmp a.enter.0 b.enter.0) (nat_cmp a.exit.0 b.exit.0)
+
+-- with a leg among legs in their order
+abbrev pub with_leg : List Leg → Leg → List Leg
+with_leg legs leg = insert_key leg_cmp legs leg
+
+-- the ride of a leg, with its table
+abbrev pub ride_of_leg : NetworkModel → ℕ → (Leg → ℕ → Option Leg) → Leg → Ride
+ride_of_leg network target choice leg = record { leg = leg; after = table_after network target choice leg }
+
+-- what is done after a leg, over at most this many rides
+abbrev pub children_of : NetworkModel → ℕ → (Leg → ℕ → Option Leg) → ℕ → Leg → Kids
+children_of network target choice rides leg = kids_after (unfold_after network target choice rides leg) (arr_of network leg.exit.0) (outcomes_of network leg)
+
+-- the leg's ride is in a tree, and what is done after it is safe
+pub record StandsSafely (network : NetworkModel) (target : ℕ) (deadline : Option ℕ) (choice : Leg → ℕ → Option Leg) (whole : Tree) (leg : Leg) : Type 0 where
+  pub is_leg : IsLegOf network leg
+  pub rides : ℕ
+  pub safe : AreSafe network target deadline (children_of network target choice rides leg) (outcomes_of network leg) (end_of network leg) (arr_of network leg.exit.0)
+  pub stands : Stands leg whole
+  pub below : (other : Leg) → StandsIn other (children_of network target choice rides leg) → Stands other whole
+
+-- these are the legs that are reached from a start leg, in order
+pub record IsReached (network : NetworkModel) (target : ℕ) (choice : Leg → ℕ → Option Leg) (whole : Tree) (start : Leg) (legs : List Leg) : Type 0 where
+  pub deadline : Option ℕ
+  pub start_there : Contains legs start
+  pub placed : (leg : Leg) → Contains legs leg → StandsSafely network target deadline choice whole leg
+  pub closed : (leg : Leg) → Contains legs leg → (row : GraphRow) → Contains (table_after network target choice leg) row → Contains legs row.leg
+  pub ordered : IsStrictlySortedBy leg_cmp legs
 
 -- a ride of the leg is among these
 abbrev pub HasRideOf : List Ride → Leg → Type 0

@@ -5,11 +5,9 @@ ghost use Rattle.std.specs.BTreeSet.{contains, IsOrdered};
 ghost use Rattle.plan_model.specs.Network.{IsValid, count};
 ghost use Rattle.plan_model.specs.Unfold.{unfolding_of};
 ghost use Rattle.plan_graph.specs.Ready.{IsSafeForSome};
-ghost use Rattle.plan_graph.specs.PickedRows.{HasRisingRides};
+ghost use Rattle.plan_graph.specs.Unfold.{HasRisingRides};
 ghost use Rattle.plan_graph.specs.RisingRides.{HasRisingRides-prop};
-ghost use Rattle.plan_graph.specs.WalkTables.{table_after, ride_of_leg, leg_cmp, with_leg};
-ghost use Rattle.plan_graph.specs.Placed.{IsReached};
-ghost use Rattle.plan_graph.specs.Walked.{IsWalked};
+ghost use Rattle.plan_graph.specs.Walked.{table_after, ride_of_leg, leg_cmp, with_leg, IsReached, IsWalked};
 
 use crate::{ExpandedGraph, GraphRow, Ride};
 use plan_model::{Leg, List, Moment, Network, NoMemory, Query};
@@ -20,8 +18,7 @@ use std::collections::BTreeSet;
 pub trait LegChoice {
     ghost use Rattle.std.specs.Prelude.{◌≡◌, ℕ, ◌<◌, Option};
     ghost use Rattle.plan_model.specs.declared.model.Leg.{Leg};
-    ghost use Rattle.plan_model.specs.NetworkModel.{NetworkModel};
-    ghost use Rattle.plan_model.specs.Network.{count};
+    ghost use Rattle.plan_model.specs.Network.{NetworkModel, count};
 
     /// The leg that it chooses after a leg that arrives at a moment.
     ghost chosen: { Self → NetworkModel → Leg → ℕ → Option Leg };
@@ -42,7 +39,7 @@ pub struct GraphChoice<'a> {
 }
 
 impl<'a> LegChoice for GraphChoice<'a> {
-    ghost use Rattle.plan_graph.specs.PickedRows.{pick_after};
+    ghost use Rattle.plan_graph.specs.Unfold.{pick_after};
 
     ghost chosen = { λ choice n. pick_after choice.graph.now.rides };
 

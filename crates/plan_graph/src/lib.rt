@@ -7,7 +7,7 @@
 
 ghost use Rattle.std.specs.Prelude.{◌≡◌, ◌<◌, nat_le, find, AllPairs};
 ghost use Rattle.std.specs.Option.{option_copied};
-ghost use Rattle.plan_graph.specs.PickedRows.{pick_row, pick_after, pick_at, rows_of_place, is_ride_of, is_table_of, leg_lt, HasRisingRides, HasRisingTables};
+ghost use Rattle.plan_graph.specs.Unfold.{pick_row, pick_after, pick_at, rows_of_place, is_ride_of, is_table_of, leg_lt, HasRisingRides, HasRisingTables};
 
 mod chosen_rides;
 

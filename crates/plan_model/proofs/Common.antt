@@ -21,7 +21,7 @@ pub use Rattle.plan_model.specs.NameLists.{Adds, AreDistinct, AreNames, IsNameLi
 pub use Rattle.plan_model.specs.Network.{AreLinks, AreLinksInto, IsValid, IsValidConnection, PrecedesByStep, arr_of, count, dep_of, from_of, links_into, no_connection, outcomes, run_of, step_of}
 pub use Rattle.plan_model.specs.Network.{to_of}
 unfoldable pub use Rattle.plan_model.specs.Network.{change_of, connection, row_of}
-pub use Rattle.plan_model.specs.NetworkModel.{NetworkModel}
+pub use Rattle.plan_model.specs.Network.{NetworkModel}
 pub use Rattle.plan_model.specs.Order.{IsEarlier, IsInOrder, IsPrefixUpTo, IsScanOrder, departure_of, ids_below}
 pub use Rattle.plan_model.specs.Search.{Rises, StandsBefore, connection_at}
 pub use Rattle.plan_model.specs.Strategy.{AreSafe, IsBoardable, IsBoardableAtStart, IsInTime, IsLeast, IsLeastWorst, IsLeg, IsSafe, IsSafeFromStart, Reaches}

@@ -1,9 +1,9 @@
--- The ways between places, and the latest arrival from which a leg is reached.
-use Rattle.std.specs.Prelude.{ℕ, ◌-◌, List, ◌∷◌, Option, Some, None, ◌==◌, nat_le, if◌then◌else◌, find}
+-- The ways between places, the latest arrival from which a leg is reached, and choices of a leg by place and arrival.
+use Rattle.std.specs.Prelude.{ℕ, ◌-◌, List, ◌∷◌, Option, Some, None, ◌==◌, nat_le, if◌then◌else◌, find, ◌≡◌, ◌≤◌}
 use Rattle.std.specs.Option.{option_map, option_and_then}
 use Rattle.plan_model.specs.declared.model.Leg.{Leg}
 use Rattle.plan_model.specs.declared.model.Way.{Way}
-use Rattle.plan_model.specs.NetworkModel.{NetworkModel}
+use Rattle.plan_model.specs.Network.{NetworkModel}
 use Rattle.plan_model.specs.Network.{from_of, dep_of, change_of, links_into}
 
 -- the way from a place to itself: a change, in its change time
@@ -29,3 +29,10 @@ earlier_by moment seconds = if nat_le seconds moment then Some (moment - seconds
 -- the latest arrival at a place from which the leg can be taken, where there is one
 abbrev pub limit_of : NetworkModel → ℕ → Leg → Option ℕ
 limit_of network place leg = option_and_then (earlier_by (dep_of network leg.enter.0)) (way_of network place (from_of network leg.enter.0))
+
+-- the leg that is chosen after an arrival at a place can be reached, and is chosen up to its limit
+pub record IsKept (network : NetworkModel) (choice : ℕ → ℕ → Option Leg) (place arrival : ℕ) (leg : Leg) : Type 0 where
+  pub limit : ℕ
+  pub is_limit : limit_of network place leg ≡ Some limit
+  pub in_time : arrival ≤ limit
+  pub kept : (later : ℕ) → arrival ≤ later → later ≤ limit → choice place later ≡ Some leg

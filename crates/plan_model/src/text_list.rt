@@ -1,7 +1,6 @@
 //! Distinct texts, numbered in the order in which they were added.
 ghost use Rattle.std.specs.Prelude.{◌≡◌, ◌≢◌, ◌<◌, ◌-◌, ◌^◌, ◌++◌, ◌∷◌, ℕ, [], length, Some, IfSome, IfNone, IfOk, OnOk, OnErr, Contains, slice_get, slice_index_or};
-ghost use Rattle.plan_model.specs.NameLists.{Adds, texts};
-ghost use Rattle.plan_model.specs.TextLists.{AreTexts};
+ghost use Rattle.plan_model.specs.NameLists.{Adds, texts, AreTexts};
 
 use crate::list::NoMemory;
 use std::alloc::Global;
@@ -21,8 +20,7 @@ impl Drop for TextList {
 
 impl Model for TextList {
     ghost use Rattle.std.specs.Prelude.{ℕ, List};
-    ghost use Rattle.plan_model.specs.NameLists.{texts};
-    ghost use Rattle.plan_model.specs.TextLists.{AreTexts};
+    ghost use Rattle.plan_model.specs.NameLists.{texts, AreTexts};
 
     ghost Value = { List (List ℕ) };
 

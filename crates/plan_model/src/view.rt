@@ -1,10 +1,9 @@
 //! What a network and a view of it have in common.
 ghost use Rattle.std.specs.Prelude.{◌≡◌, ℕ, ◌+◌, ◌<◌, ◌↔◌, List as Sources};
-ghost use Rattle.plan_model.specs.NetworkModel.{NetworkModel};
-ghost use Rattle.plan_model.specs.Network.{IsValid};
+ghost use Rattle.plan_model.specs.Network.{NetworkModel, IsValid};
 ghost use Rattle.plan_model.specs.Tree.{Tree};
 ghost use Rattle.plan_model.specs.declared.model.PlaceId.{PlaceId as Source};
-ghost use Rattle.plan_model.specs.Late.{LateBelow, LateCovers};
+ghost use Rattle.plan_model.specs.Expected.{LateBelow, LateCovers};
 ghost use Rattle.plan_model.specs.Gates.{IsGate, HasGates, SafeFromGate, FitGates, extended_by};
 ghost use Rattle.plan_model.specs.View.{later_by, IsView, SafeAlike};
 

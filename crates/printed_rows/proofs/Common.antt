@@ -9,9 +9,9 @@ pub use Rattle.clock_text.specs.Civil.{last_printable, moment_text, nanos_text, 
 pub use Rattle.csv_rows.specs.Spaces.{trimmed_text}
 pub use Rattle.plan_model.specs.NameLists.{AreDistinct, AreNames, IsTrimmed, NameLists, NamesFit}
 pub use Rattle.plan_model.specs.Network.{IsValid, connection, count, no_connection, run_of, step_of}
-pub use Rattle.plan_model.specs.NetworkModel.{NetworkModel}
+pub use Rattle.plan_model.specs.Network.{NetworkModel}
 pub use Rattle.plan_model.specs.declared.model.Connection.{Connection}
 pub use Rattle.printed_rows.specs.Fields.{connection_of, number_of, whole_at}
-pub use Rattle.printed_rows.specs.Writers.{place_name, run_name, text_of_records}
-unfoldable pub use Rattle.printed_rows.specs.Writers.{row_of_fields}
+pub use Rattle.printed_rows.specs.Records.{place_name, run_name, text_of_records}
+unfoldable pub use Rattle.printed_rows.specs.Records.{row_of_fields}
 pub use Rattle.text_index.proofs.Numbers.{false_if, position_found, position_none, with_utf8}

@@ -8,7 +8,7 @@ ghost use Rattle.std.specs.Prelude.{◌≡◌, ◌<◌, ◌++◌, map, IfOk, IfS
 ghost use Rattle.std.specs.Option.{option_map};
 ghost use Rattle.plan_model.specs.Network.{count};
 ghost use Rattle.printed_rows.specs.Fields.{connection_of, is_query, whole_at, rises};
-ghost use Rattle.printed_rows.specs.Writers.{row_of_fields};
+ghost use Rattle.printed_rows.specs.Records.{row_of_fields};
 
 mod record;
 
@@ -64,7 +64,7 @@ pub fn rises(last: Option<u64>, x: u64) -> bool
 }
 
 /// Puts a row of fields behind a text. A field is quoted if it needs it.
-#[tactic(auto, unfolding(crate::specs::Writers::row_of_fields))]
+#[tactic(auto, unfolding(crate::specs::Records::row_of_fields))]
 pub fn put_row(text: Vec<u8>, fields: &[&[u8]]) -> Result<Vec<u8>, NoMemory>
     ensures { IfOk result (λ whole. whole.items ≡ text.items ++ row_of_fields (map (λ field. field.now) fields.now)) }
 {

@@ -19,7 +19,7 @@ use Rattle.run_laws.specs.Reaches.{from_stop, ReachesBoth, ReachIsLatest, ReachI
 use Rattle.departure_table.specs.declared.DepartureRow.{DepartureRow}
 use Rattle.departure_table.specs.declared.reach_rows.ReachRow.{ReachRow}
 use Rattle.departure_table.specs.Looked.{asked_at}
-use Rattle.journey_answers.specs.ByRules.{AreByRules}
+use Rattle.journey_answers.specs.Departures.{AreByRules}
 use Rattle.journey_answers.specs.Reach.{AreReached}
 use Rattle.journey_problem.specs.OneProblem.{HasOneTimetable}
 use Rattle.run_laws.proofs.Reaches.{over_timetable, latest_by_row, begins_the_departures, keeps_rows}

@@ -25,7 +25,7 @@ unfoldable pub use Rattle.gtfs_tables.specs.Feeds.{tables_in}
 pub use Rattle.interval_fixed.specs.Interval.{Interval}
 pub use Rattle.journey_answers.specs.Answers.{AnswersExpand, AnswersPlan, AnswersSafe, HasNoSafe, InQuery, IsNoSafe, IsQueryOf, head_of}
 pub use Rattle.journey_answers.specs.Certified.{AnswersCertify}
-pub use Rattle.journey_answers.specs.Checks.{IsBroken, IsHeld}
+pub use Rattle.journey_answers.specs.Certified.{IsBroken, IsHeld}
 pub use Rattle.journey_answers.specs.Departures.{AnswersDepartures, AnswersLatest, AreDepartures, HasSafeFor, query_until}
 pub use Rattle.journey_answers.specs.Scores.{IsEnclosed, IsUnsafeGraph}
 pub use Rattle.journey_answers.specs.Trips.{AnswersReplay, IsTripFault, trip_by}
@@ -61,7 +61,7 @@ pub use Rattle.meat_engine.specs.Samples.{AnswersSampled, IsSampled, sample_alph
 pub use Rattle.meat_scan.specs.Rules.{IsByRules, Kept, kept_after, kept_leg}
 pub use Rattle.plan_graph.proofs.Picked.{pick_further, pick_here, rows_of_place-by, table_further, table_here}
 pub use Rattle.plan_graph.proofs.Tables.{first_pick, one_found, picked_there}
-pub use Rattle.plan_graph.specs.PickedRows.{Precedes, pick_after, pick_at, pick_row, rows_of_place}
+pub use Rattle.plan_graph.specs.Unfold.{Precedes, pick_after, pick_at, pick_row, rows_of_place}
 pub use Rattle.plan_graph.specs.Ready.{IsLegOf, IsReadyRide, IsSafeForSome, Stands, StandsIn}
 pub use Rattle.plan_graph.specs.Unfold.{unfold_expanded, unfold_plan}
 pub use Rattle.plan_graph.specs.declared.ExpandedGraph.{ExpandedGraph}
@@ -70,7 +70,7 @@ pub use Rattle.plan_graph.specs.declared.PlanGraph.{PlanGraph}
 pub use Rattle.plan_model.proofs.Laws.{reaches_from_safe, safe_exists}
 pub use Rattle.plan_model.proofs.Lists.{AllPairs-head, AllPairs-tail, Contains-cons_cases, Contains-from_map, Contains-head, Contains-map, Contains-nil, Contains-tail}
 pub use Rattle.plan_model.specs.Network.{IsValid, arr_of, connection, count, dep_of}
-pub use Rattle.plan_model.specs.NetworkModel.{NetworkModel}
+pub use Rattle.plan_model.specs.Network.{NetworkModel}
 pub use Rattle.plan_model.specs.Order.{IsEarlier, IsScanOrder}
 pub use Rattle.plan_model.specs.Strategy.{AreSafe, IsBoardable, IsBoardableAtStart, IsLeastWorst, IsLeg, IsSafe, IsSafeFor, IsSafeFromStart, deadline_of}
 pub use Rattle.plan_model.specs.Tree.{Done, Kid, Kids, Nil, Ride, Stuck, Tree}
@@ -82,7 +82,7 @@ pub use Rattle.plan_model.specs.declared.model.Outcome.{Outcome}
 pub use Rattle.plan_model.specs.declared.model.Query.{Query}
 pub use Rattle.trip_replay.specs.declared.ReplayFault.{ReplayFault}
 pub use Rattle.value_laws.specs.Means.{from_span, mean_scoring}
-pub use Rattle.run_laws.specs.OneAnswer.{IsOneAnswer}
+pub use Rattle.run_laws.specs.OneRun.{IsOneAnswer}
 pub use Rattle.run_laws.specs.OneRun.{EndAlike, EndsWell, HasOneEnd, HasOneRun, IsOneEnd}
 pub use Rattle.run_laws.specs.Runs.{AgreeOn, IsRunWithin, IsUntroubled, ReceiveAlike, RunModel}
 pub use Rattle.run_laws.specs.Wholes.{HasEveryRow, IsOneStrategy}

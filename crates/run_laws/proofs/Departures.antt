@@ -6,7 +6,7 @@ use Rattle.meat_scan.specs.ScanResult.{ScanResult}
 use Rattle.departure_table.specs.declared.DepartureRow.{DepartureRow}
 use Rattle.plan_model.specs.Gates.{extended_by}
 use Rattle.departure_table.specs.Looked.{asked_at, row_found, AreLooked}
-use Rattle.journey_answers.specs.ByRules.{IsRuled, AreByRules, added_query}
+use Rattle.journey_answers.specs.Departures.{IsRuled, AreByRules, added_query}
 use Rattle.run_laws.proofs.OneOrder.{one_order}
 
 -- rows that are looked up in the same way are the same

@@ -11,9 +11,9 @@ use Rattle.csv.specs.Writing.{default_writer, escaped, field_text, fields_text, 
 use Rattle.clock_text.specs.Civil.{moment_text, parts_of_day}
 use Rattle.clock_text.specs.Digits.{digits}
 use Rattle.clock_text.specs.Times.{Parts, text_of_parts}
-use Rattle.late_chance.specs.ChanceTexts.{chance_text}
+use Rattle.late_chance.specs.Chances.{chance_text}
 use Rattle.plan_model.specs.Bounds.{certainty}
-use Rattle.printed_rows.specs.Writers.{row_of_fields}
+use Rattle.printed_rows.specs.Records.{row_of_fields}
 use Rattle.run_laws.specs.Saved.{FirstLineIsItsRow}
 use Rattle.run_laws.proofs.Agreeing.{answered, one_some, one_text}
 use Rattle.run_laws.proofs.Printed.{of_punctual}

@@ -6,7 +6,7 @@ use Rattle.run_laws.proofs.Common.{Contains-cons_cases, AllPairs-head, AllPairs-
 use Rattle.plan_model.specs.Ways.{limit_of}
 use Rattle.plan_graph.specs.declared.PlaceTable.{PlaceTable}
 use Rattle.plan_graph.specs.Tidy.{IsFitRow, IsFitTable, IsFitStart, IsPickedIn, IsTidy}
-use Rattle.plan_graph.specs.WalkTables.{row_by}
+use Rattle.plan_graph.specs.Walked.{row_by}
 use Rattle.run_laws.proofs.Rising.{HasAll, one_rising}
 use Rattle.run_laws.proofs.Agree.{start_same, agree_from}
 

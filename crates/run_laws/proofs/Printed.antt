@@ -3,7 +3,7 @@ use Rattle.run_laws.proofs.Common.{◌≡◌, ℕ, ◌≤◌, false, refl, ap, s
 use Rattle.run_laws.proofs.Common.{Interval, Query, IsSafeFor, PlanGraph, unfold_plan, Head, IsReadAs, Fault, Problem, Findings, graph_in, InGraphFile, IsEnclosed, InQuery, AnswersPlan, head_of}
 use Rattle.run_laws.proofs.Common.{EndsByScore, EndsByGraphFile, trip_by, ReplayFault, plan_text, punctual_row}
 use Rattle.graph_text.proofs.Accepted.{text_read}
-use Rattle.graph_score.specs.Spans.{span_of}
+use Rattle.graph_score.specs.Scores.{span_of}
 use Rattle.journey_answers.specs.Punctual.{AnswersPunctual}
 use Rattle.journey_answers.proofs.Bounds.{bounds_of_graph}
 use Rattle.run_laws.specs.Printed.{ArrivesByFile, KeepsUpperBound}

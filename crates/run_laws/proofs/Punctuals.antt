@@ -1,7 +1,7 @@
 -- A problem, a start, a percentage and a promise have one answer.
 use Rattle.run_laws.proofs.Common.{arith, ◌≡◌, ℕ, List, ◌++◌, sym, ap, ap₂, ◌∙◌, Interval, Moment, Query, NetworkModel, PlanGraph, unfold_plan, plan_text, Problem, Findings, punctual_findings}
 use Rattle.run_laws.proofs.Common.{punctual_row, InQuery, head_of, IsOneAnswer}
-use Rattle.graph_score.specs.Spans.{span_of}
+use Rattle.graph_score.specs.Scores.{span_of}
 use Rattle.late_chance.specs.Chances.{chance_scoring}
 use Rattle.decision_graph.specs.LeastChances.{IsLeastChance, IsSeenLater}
 use Rattle.journey_answers.specs.Punctual.{AnswersPunctual}

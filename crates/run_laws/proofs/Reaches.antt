@@ -19,7 +19,7 @@ use Rattle.departure_table.proofs.EachRow.{of_place, none_of_place, same_rows, e
 use Rattle.departure_table.proofs.ReachGrowth.{count_up_to}
 use Rattle.departure_table.proofs.SameGates.{first_departure}
 use Rattle.journey_answers.specs.Departures.{SafeOf}
-use Rattle.journey_answers.specs.ByRules.{IsRuled, AreByRules, added_query}
+use Rattle.journey_answers.specs.Departures.{IsRuled, AreByRules, added_query}
 use Rattle.journey_answers.specs.Reach.{AreReached, AnswersReach}
 use Rattle.run_laws.proofs.Departures.{found_at}
 use Rattle.run_laws.proofs.Departing.{later_is_now}

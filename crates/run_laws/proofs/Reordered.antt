@@ -2,7 +2,7 @@
 use Rattle.run_laws.proofs.Common.{◌≡◌, ℕ, ◌≤◌, arith, refl, sym, ap, ◌∙◌, Option, None, FileMap, Limits, Moment, JourneyModel, AskModel, Plan, HasOneProblem, findings_of, RunModel, IsRunWithin}
 use Rattle.run_laws.proofs.Common.{status_of, deadline_of}
 use Rattle.run_laws.specs.MoreService.{AskWithMore, FindsNoLater}
-use Rattle.run_laws.specs.Reordered.{AskReordered, OrderKeepsWorst, OrderKeepsPlans}
+use Rattle.run_laws.specs.MoreService.{AskReordered, OrderKeepsWorst, OrderKeepsPlans}
 use Rattle.run_laws.specs.TwoRuns.{OrStatus9}
 use Rattle.run_laws.proofs.Agreeing.{answered, one_some}
 use Rattle.run_laws.proofs.BySafety.{asked_by}

@@ -4,7 +4,7 @@ use Rattle.run_laws.proofs.Common.{◌≡◌, ◌⊎◌, ℕ, refl, sym, ap, ap�
 use Rattle.run_laws.proofs.Common.{job_of, JobModel, Fault, Problem, status_of, NamedParts, HasOneProblem, AgreeFor, own_problem, none_unread, Findings, findings_of, FailsJourney, AnswersJob}
 use Rattle.run_laws.proofs.Common.{FailsJob, AnswersWords, IsExplained, AnswersPlan, InQuery, sample_journey, sample_alpha, RunModel, IsRunWithin, agree_sym}
 use Rattle.std.proofs.Common.{IfSome}
-use Rattle.feed_maker.specs.Made.{made, SameFolder}
+use Rattle.feed_maker.specs.MadeTables.{made, SameFolder}
 use Rattle.journey_model.specs.FaultLines.{line_of}
 use Rattle.journey_problem.specs.Files.{path_of}
 use Rattle.journey_problem.specs.Paths.{no_path}

@@ -1,5 +1,4 @@
 pub mod Wholes
-pub mod OneAnswer
 pub mod Runs
 pub mod OneRun
 pub mod Printed
@@ -7,7 +6,6 @@ pub mod TwoRuns
 pub mod Saved
 pub mod Greatest
 pub mod MoreService
-pub mod Reordered
 pub mod RowsOfPlans
 pub mod SamplePlans
 pub mod Reaches

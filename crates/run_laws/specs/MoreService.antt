@@ -1,4 +1,4 @@
--- Two runs, of which the second is over a feed that offers no less.
+-- Two runs, of which the second is over a feed that offers no less, or over one of the same rows in another order.
 use Rattle.std.specs.Prelude.{◌≡◌, ℕ, ◌≤◌, List, Option, None, Some, Ok}
 use Rattle.file_ports.specs.Ports.{FileMap}
 use Rattle.csv_rows.specs.declared.limits.Limits.{Limits}
@@ -58,3 +58,21 @@ MorePlansNoWorse limits r s =
     (files others : FileMap) (j i : JourneyModel) (alpha beta : ℕ) (query other : Query) (bounds later : Interval)
     → AskWithMore limits files others j i (Plan alpha) (Plan beta) r s → s.report.fault ≡ None → r.report.query ≡ Some query → s.report.query ≡ Some other
     → r.report.bounds ≡ Some bounds → s.report.bounds ≡ Some later → query.deadline.0 ≤ other.deadline.0 → later.hi ≤ bounds.hi
+
+-- each of two journeys has the service of the other, and both runs end without a fault
+pub record AskReordered (limits : Limits) (files others : FileMap) (j i : JourneyModel) (a b : AskModel) (r s : RunModel) : Type 0 where
+  pub more : AskWithMore limits files others j i a b r s
+  pub back : HasMoreService limits others files i j
+  pub no_fault : s.report.fault ≡ None
+
+-- what is asked by safe strategies finds one least worst arrival
+abbrev pub OrderKeepsWorst : Limits → RunModel → RunModel → Type 0
+OrderKeepsWorst limits r s =
+    (files others : FileMap) (j i : JourneyModel) (alpha beta : ℕ) (a b : AskModel) → AskReordered limits files others j i a b r s
+    → IsBySafety alpha a → IsBySafety beta b → r.report.worst ≡ s.report.worst
+
+-- and two plans by one percentage have one upper bound
+abbrev pub OrderKeepsPlans : Limits → RunModel → RunModel → Type 0
+OrderKeepsPlans limits r s =
+    (files others : FileMap) (j i : JourneyModel) (alpha : ℕ) (bounds later : Interval) → AskReordered limits files others j i (Plan alpha) (Plan alpha) r s
+    → r.report.bounds ≡ Some bounds → s.report.bounds ≡ Some later → later.hi ≡ bounds.hi

@@ -1,10 +1,15 @@
 -- That words have one answer over files with known bytes.
-use Rattle.std.specs.Prelude.{◌≡◌, ◌≢◌, None, Some}
+use Rattle.std.specs.Prelude.{◌≡◌, ℕ, List, ◌≢◌, None, Some}
+use Rattle.journey_report.specs.Findings.{Findings, findings_of}
 use Rattle.file_ports.specs.Ports.{FileMap}
 use Rattle.csv_rows.specs.declared.limits.Limits.{Limits}
 use Rattle.journey_model.specs.declared.faults.Fault.TheVariants.{NoMemory}
-use Rattle.journey_report.specs.Findings.{findings_of}
 use Rattle.run_laws.specs.Runs.{RunModel, IsRunWithin, IsUntroubled, AgreeOn, ReadAlikeOn, ReceiveAlike}
+
+-- they have the same findings and the same text
+pub record IsOneAnswer (first second : Findings) (text other : List ℕ) : Type 0 where
+  pub found : first ≡ second
+  pub text_is : text ≡ other
 
 -- they end with one status, one fault and one report, and both streams received the same in both
 pub record IsOneEnd (r s : RunModel) : Type 0 where

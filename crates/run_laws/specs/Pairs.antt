@@ -11,7 +11,7 @@ use Rattle.plan_graph.specs.declared.PlanGraph.{PlanGraph}
 use Rattle.plan_graph.specs.Unfold.{unfold_plan}
 use Rattle.plan_model.specs.Tree.{worst}
 use Rattle.departure_table.specs.declared.DepartureRow.{DepartureRow}
-use Rattle.departure_table.specs.Latest.{IsOfLastRow}
+use Rattle.departure_table.specs.Departures.{IsOfLastRow}
 use Rattle.graph_text.specs.declared.Head.{Head}
 use Rattle.graph_text.specs.declared.reader.TextFault.{TextFault}
 use Rattle.graph_text.specs.FirstFaults.{IsFirstFaultOf}
@@ -33,7 +33,7 @@ use Rattle.run_laws.specs.MoreService.{MoreIsNoLater, MoreLeavesNoSooner, MorePl
 use Rattle.run_laws.specs.OneRun.{EndAlike, FormsEndAlike}
 use Rattle.run_laws.specs.Reaches.{ReachIsLatest, ReachIsFirstDeparture, LaterReachesMore}
 use Rattle.run_laws.specs.Printed.{ArrivesByFile, KeepsUpperBound}
-use Rattle.run_laws.specs.Reordered.{OrderKeepsWorst, OrderKeepsPlans}
+use Rattle.run_laws.specs.MoreService.{OrderKeepsWorst, OrderKeepsPlans}
 use Rattle.run_laws.specs.RowsOfPlans.{RowIsOfPlan, CutRowIsOfPlan}
 use Rattle.run_laws.specs.Runs.{RunModel, IsUntroubled}
 pub use Rattle.run_laws.specs.TwoRuns.{AskOne, AskBoth, IsSaved, OrStatus9, EndWell, IsBySafety}

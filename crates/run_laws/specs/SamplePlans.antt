@@ -2,7 +2,7 @@
 use Rattle.std.specs.Prelude.{◌≡◌, ◌≢◌, ℕ, Some, Ok}
 use Rattle.std.specs.Io.KnownBytes.{Appends}
 use Rattle.file_ports.specs.Ports.{FileMap}
-use Rattle.feed_maker.specs.Made.{made}
+use Rattle.feed_maker.specs.MadeTables.{made}
 use Rattle.interval_fixed.specs.Interval.{Interval}
 use Rattle.plan_graph.specs.declared.PlanGraph.{PlanGraph}
 use Rattle.command_line.specs.Jobs.{Ask, Sample, Plan, job_of}

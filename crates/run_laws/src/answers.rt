@@ -6,7 +6,7 @@ ghost use Rattle.journey_model.specs.declared.problem.Problem.{Problem as Proble
 ghost use Rattle.journey_report.specs.Findings.{Findings};
 ghost use Rattle.journey_answers.specs.Answers.{IsQueryOf, InQuery, HasNoSafe, AnswersSafe, AnswersPlan, AnswersExpand};
 ghost use Rattle.journey_answers.specs.Punctual.{AnswersPunctual};
-ghost use Rattle.run_laws.specs.OneAnswer.{IsOneAnswer};
+ghost use Rattle.run_laws.specs.OneRun.{IsOneAnswer};
 
 /// Two answers of `safe` over one problem are one.
 pub fn one_safe_answer()

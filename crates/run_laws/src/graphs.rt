@@ -2,7 +2,7 @@
 //! nothing but whether there was memory.
 ghost use Rattle.std.specs.Prelude.{◌≡◌, List as Sequence};
 ghost use Rattle.plan_model.specs.declared.model.Query.{Query as QueryParts};
-ghost use Rattle.plan_model.specs.NetworkModel.{NetworkModel};
+ghost use Rattle.plan_model.specs.Network.{NetworkModel};
 ghost use Rattle.plan_graph.specs.declared.PlanGraph.{PlanGraph as GraphByPlace};
 ghost use Rattle.plan_graph.specs.declared.ExpandedGraph.{ExpandedGraph as GraphByRide};
 ghost use Rattle.plan_graph.specs.Ready.{IsSafeForSome};
@@ -11,8 +11,7 @@ ghost use Rattle.plan_graph.specs.Unfold.{unfold_plan, unfold_expanded};
 ghost use Rattle.interval_fixed.specs.Interval.{Interval};
 ghost use Rattle.plan_model.specs.declared.model.ConnectionId.{ConnectionId as Id};
 ghost use Rattle.plan_model.specs.Order.{IsScanOrder};
-ghost use Rattle.decision_graph.specs.Planned.{IsPlanned};
-ghost use Rattle.decision_graph.specs.Expanded.{IsExpanded};
+ghost use Rattle.decision_graph.specs.Planned.{IsPlanned, IsExpanded};
 ghost use Rattle.run_laws.specs.Wholes.{HasEveryRow, IsOneStrategy};
 
 /// A tidy graph by place follows from its tree, if that is safe: two that unfold to one are the same.

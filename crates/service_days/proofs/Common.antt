@@ -12,9 +12,9 @@ pub use Rattle.csv_rows.proofs.IdLemmas.{no_row, number-here, number-push, numbe
 pub use Rattle.csv_rows.proofs.ListLemmas.{get-list_below, length-list_below, list_below-next, list_below-zero}
 pub use Rattle.csv_rows.proofs.RowLemmas.{name_is, name_text}
 pub use Rattle.csv_rows.specs.FeedTables.{IsFaultOf, unread_table}
-pub use Rattle.csv_rows.specs.First.{first_below}
-unfoldable pub use Rattle.csv_rows.specs.First.{any_below}
-pub use Rattle.csv_rows.specs.Names.{name_in}
+pub use Rattle.csv_rows.specs.Lists.{first_below}
+unfoldable pub use Rattle.csv_rows.specs.Lists.{any_below}
+pub use Rattle.csv_rows.specs.Ids.{name_in}
 pub use Rattle.csv_rows.specs.Tables.{field, field_at, number_in, row_count}
 pub use Rattle.csv_rows.specs.declared.columns.Column.TheVariants.{ServiceId}
 pub use Rattle.csv_rows.specs.declared.feed_tables.Table.TheVariants.{Calendar}
@@ -29,7 +29,7 @@ pub use Rattle.service_days.specs.Dates.{ServiceDate, bad_date, date_columns, da
 unfoldable pub use Rattle.service_days.specs.Dates.{date_at_row}
 unfoldable pub use Rattle.service_days.specs.Days.{days_from}
 pub use Rattle.service_days.specs.Exceptions.{has, has_at, same}
-pub use Rattle.service_days.specs.Numbered.{AddsDate, AreNumbered}
+pub use Rattle.service_days.specs.Calendars.{AddsDate, AreNumbered}
 pub use Rattle.service_days.specs.Periods.{bad_period, period_columns, period_in, period_of, period_or_none, periods_of, runs_in_period, runs_in_row, service_ids}
 unfoldable pub use Rattle.service_days.specs.Periods.{period_at}
 pub use Rattle.service_days.specs.Services.{ServiceParts, period_runs, runs, runs_at, runs_of_service, runs_within}

@@ -1,5 +1,10 @@
--- The calendars of a feed, and on which days a service is active (GTFS Schedule reference).
-use Rattle.std.specs.Prelude.{◌≡◌, ℕ, ℤ, ◌&&◌, ◌||◌, not, Bool, true, false, List, Option, None, Result, Ok, Err, IfSome, IsOkAnd, if◌then◌else◌}
+-- The calendars of a feed, with exceptions by the numbers of services, and on which days a service is active (GTFS Schedule reference).
+use Rattle.std.specs.Prelude.{◌≡◌, ℕ, ℤ, ◌≤◌, ◌||◌, Bool, false, List, length, Option, Some, None, ◌&&◌, not, true, Result, Ok, Err, IfSome, IsOkAnd, if◌then◌else◌}
+use Rattle.plan_model.specs.NameLists.{Adds}
+use Rattle.csv_rows.specs.Tables.{number_in, row_count, field}
+use Rattle.service_days.specs.declared.exceptions.Exception.{Exception}
+use Rattle.service_days.specs.Dates.{ServiceDate, is_excepted, dates_fault}
+use Rattle.service_days.specs.Exceptions.{same, has, has_at}
 use Rattle.plan_model.specs.Results.{and_then, unless}
 use Rattle.csv_rows.specs.declared.feed_tables.Table.{Table}
 use Rattle.csv_rows.specs.declared.feed_tables.Table.TheVariants.{Stops, Routes, Trips, StopTimes, Frequencies, Calendar, CalendarDates, Transfers}
@@ -11,15 +16,26 @@ use Rattle.csv_rows.specs.declared.limits.Limits.{Limits}
 use Rattle.file_ports.specs.Ports.{FileMap}
 use Rattle.csv_rows.specs.declared.columns.Column.TheVariants.{ServiceId}
 use Rattle.csv_rows.specs.FeedTables.{table_of_fault}
-use Rattle.csv_rows.specs.First.{first_below, any_below}
+use Rattle.csv_rows.specs.Lists.{first_below, any_below}
 use Rattle.table_files.specs.Loading.{load_in, loaded_rows}
 use Rattle.csv_rows.specs.RowFaults.{repeated_id}
-use Rattle.csv_rows.specs.Tables.{row_count, field}
 use Rattle.service_days.specs.Periods.{runs_in_row, service_ids, periods_of, calendar_fault}
 use Rattle.service_days.specs.declared.periods.Period.{Period}
-use Rattle.service_days.specs.declared.exceptions.Exception.{Exception}
-use Rattle.service_days.specs.Numbered.{AreNumbered}
-use Rattle.service_days.specs.Dates.{is_excepted, dates_fault}
+
+-- one more exception, whose service is added where it is new
+pub record AddsDate (old ids : List (List ℕ)) (before after : List Exception) (d : ServiceDate) : Type 0 where
+  pub new : Bool
+  pub added : Adds old ids d.service new
+  pub number : ℕ
+  pub numbered : number_in d.service ids ≡ Some number
+  pub exceptions : (e : Exception) → has after e ≡ (same (record { service = number; day = d.day; adds = d.adds }) e || has before e)
+
+-- these are the exceptions of the first n rows, where the services before them keep their numbers
+pub record AreNumbered (t : List (List (List ℕ))) (n : ℕ) (before ids : List (List ℕ)) (exceptions : List Exception) : Type 0 where
+  pub is : (service : List ℕ) (day : ℤ) (adds : Bool) → has_at exceptions day adds (number_in service ids) ≡ is_excepted t n service day adds
+  pub fresh : (e : Exception) → length ids ≤ e.service → has exceptions e ≡ false
+  pub kept : (service : List ℕ) (asks : Option ℕ → Bool) → asks None ≡ false → ((k : ℕ) → length before ≤ k → asks (Some k) ≡ false)
+      → asks (number_in service ids) ≡ asks (number_in service before)
 
 -- a service is active on a day where a row of the calendar lets it run on that day or an exception adds the day, and no
 -- exception removes it

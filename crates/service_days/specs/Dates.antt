@@ -11,8 +11,8 @@ use Rattle.csv_rows.specs.declared.columns.Column.TheVariants.{ServiceId, Date, 
 use Rattle.csv_rows.specs.declared.feed_tables.Table.TheVariants.{CalendarDates}
 use Rattle.csv_rows.specs.declared.feed_tables.FeedFault.{FeedFault}
 use Rattle.csv_rows.specs.declared.feed_tables.FeedFault.TheVariants.{BadField}
-use Rattle.csv_rows.specs.First.{first_below, any_below}
-use Rattle.csv_rows.specs.Names.{name_in}
+use Rattle.csv_rows.specs.Lists.{first_below, any_below}
+use Rattle.csv_rows.specs.Ids.{name_in}
 use Rattle.csv_rows.specs.RowFaults.{first_missing}
 use Rattle.csv_rows.specs.Tables.{row_count, index_of, field_at}
 use Rattle.service_days.specs.declared.dates.DateColumns.{DateColumns}

@@ -2,7 +2,6 @@ pub mod CalendarForms
 pub mod Periods
 pub mod Dates
 pub mod Exceptions
-pub mod Numbered
 pub mod Services
 pub mod Calendars
 pub mod Days

@@ -11,9 +11,9 @@ use Rattle.csv_rows.specs.declared.columns.Column.TheVariants.{ServiceId, Monday
 use Rattle.csv_rows.specs.declared.feed_tables.Table.TheVariants.{Calendar}
 use Rattle.csv_rows.specs.declared.feed_tables.FeedFault.{FeedFault}
 use Rattle.csv_rows.specs.declared.feed_tables.FeedFault.TheVariants.{BadField}
-use Rattle.csv_rows.specs.First.{first_below}
+use Rattle.csv_rows.specs.Lists.{first_below}
 use Rattle.csv_rows.specs.Lists.{list_below}
-use Rattle.csv_rows.specs.Names.{name_in}
+use Rattle.csv_rows.specs.Ids.{name_in}
 use Rattle.csv_rows.specs.RowFaults.{first_missing, repeated_id}
 use Rattle.csv_rows.specs.Tables.{row_count, index_of, field_at, field}
 use Rattle.service_days.specs.declared.periods.Week.{Week}

@@ -1,14 +1,14 @@
 //! Days that are added to services or removed, by the numbers of the services.
 ghost use Rattle.std.specs.Prelude.{◌≡◌, ◌<◌, ◌+◌, ◌-◌, ◌^◌, ◌||◌, IfOk, OnOk, length, All};
 ghost use Rattle.csv_rows.specs.declared.feed_tables.Table.TheVariants.{CalendarDates as DatesTable};
-ghost use Rattle.csv_rows.specs.First.{first_below};
+ghost use Rattle.csv_rows.specs.Lists.{first_below};
 ghost use Rattle.csv_rows.specs.RowFaults.{ReportsFirst};
 ghost use Rattle.csv_rows.specs.Tables.{row_count};
 ghost use Rattle.plan_model.specs.NameLists.{IsTrimmed};
 ghost use Rattle.service_days.specs.declared.exceptions.Exception.{Exception};
 ghost use Rattle.service_days.specs.Dates.{bad_date, dates_fault};
 ghost use Rattle.service_days.specs.Exceptions.{same, has};
-ghost use Rattle.service_days.specs.Numbered.{AddsDate, AreNumbered};
+ghost use Rattle.service_days.specs.Calendars.{AddsDate, AreNumbered};
 
 use crate::dates::{ServiceDate, date_columns, read_exception};
 use crate::row::Row;

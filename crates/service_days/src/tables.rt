@@ -6,8 +6,7 @@ ghost use Rattle.table_files.specs.Reading.{ReadsTable};
 ghost use Rattle.csv_rows.specs.RowFaults.{ReportsFirst};
 ghost use Rattle.csv_rows.specs.Tables.{row_count};
 ghost use Rattle.service_days.specs.Periods.{service_ids, periods_of};
-ghost use Rattle.service_days.specs.Numbered.{AreNumbered};
-ghost use Rattle.service_days.specs.Calendars.{has_no_record, fault_of_calendar, fault_of_dates, calendar_from, dates_from, IsCalendar, AreDates, IsOfCalendar, AreOfDates, AreDistinctRows};
+ghost use Rattle.service_days.specs.Calendars.{AreNumbered, has_no_record, fault_of_calendar, fault_of_dates, calendar_from, dates_from, IsCalendar, AreDates, IsOfCalendar, AreOfDates, AreDistinctRows};
 
 use crate::exceptions::{Numbered, read_exceptions};
 use crate::periods::{Calendar, read_calendar};

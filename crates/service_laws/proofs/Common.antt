@@ -10,7 +10,7 @@ pub use Rattle.plan_model.proofs.Lists.{All-from_contains, AllPairs-head, AllPai
 pub use Rattle.plan_model.specs.Expected.{weighted_by, weighted_kids}
 pub use Rattle.plan_model.specs.Network.{IsValid, arr_of, count, dep_of, from_of, links_into, no_connection, outcomes, run_of, step_of, to_of}
 unfoldable pub use Rattle.plan_model.specs.Network.{change_of, connection, row_of}
-pub use Rattle.plan_model.specs.NetworkModel.{NetworkModel}
+pub use Rattle.plan_model.specs.Network.{NetworkModel}
 pub use Rattle.plan_model.specs.Strategy.{AreSafe, IsBoardable, IsBoardableAtStart, IsInTime, IsLeastWorst, IsLeg, IsSafe, IsSafeFromStart, Reaches}
 pub use Rattle.plan_model.specs.Tree.{Done, Kid, Kids, Nil, Ride, Stuck, Tree, height, height_of, worst, worst_of}
 pub use Rattle.plan_model.specs.Ways.{own_way, way_in, way_of, ways_into}
@@ -19,5 +19,5 @@ pub use Rattle.plan_model.specs.declared.model.Moment.{Moment}
 pub use Rattle.plan_model.specs.declared.model.Outcome.{Outcome}
 pub use Rattle.plan_model.specs.declared.model.Way.{Way}
 pub use Rattle.service_laws.specs.Changed.{AreLessLate, AreNoFewer, AreAmong, AreShorter, own, renamed, with_changes, with_classes, with_connections, with_links}
-pub use Rattle.service_laws.specs.SafeToo.{IsAsGood, IsNoWorse, IsSafeToo, Rises}
+pub use Rattle.service_laws.specs.Embeds.{IsAsGood, IsNoWorse, IsSafeToo, Rises}
 pub use Rattle.service_laws.specs.Embeds.{AreBeside, ArrivesNoLater, Embeds, EmbedsAlike, EmbedsBy, EmbedsNoLater, HasWay, IsFound, IsNoLaterThan}

@@ -7,7 +7,7 @@ use Rattle.plan_model.specs.Strategy.{IsSafeFor}
 use Rattle.plan_model.specs.declared.model.Query.{Query}
 use Rattle.plan_model.proofs.Laws.{reaches_from_safe, safe_from_reaches}
 use Rattle.interval_fixed.specs.Interval.{Interval}
-use Rattle.value_laws.specs.Rounded.{rounded_up, sum_up}
+use Rattle.value_laws.specs.Spans.{rounded_up, sum_up}
 use Rattle.decision_graph.specs.GraphValues.{IsBest}
 use Rattle.service_laws.proofs.Found.{compares}
 use Rattle.service_laws.proofs.Trees.{Compare, CompareAll, NoLater, weighed}

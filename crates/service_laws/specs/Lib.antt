@@ -1,3 +1,2 @@
 pub mod Embeds
-pub mod SafeToo
 pub mod Changed

@@ -3,8 +3,7 @@ ghost use Rattle.std.specs.Prelude.{ℕ, List, length};
 ghost use Rattle.plan_model.specs.declared.model.Connection.{Connection as Ride};
 ghost use Rattle.plan_model.specs.declared.model.Outcome.{Outcome as Late};
 ghost use Rattle.plan_model.specs.declared.model.Way.{Way as Link};
-ghost use Rattle.plan_model.specs.NetworkModel.{NetworkModel};
-ghost use Rattle.plan_model.specs.Network.{IsValid, AreLinks};
+ghost use Rattle.plan_model.specs.Network.{NetworkModel, IsValid, AreLinks};
 ghost use Rattle.service_laws.specs.Embeds.{Embeds, EmbedsAlike};
 ghost use Rattle.service_laws.specs.Changed.{own, AreAmong, with_connections, with_changes, with_classes, with_links, AreShorter, AreLessLate, AreNoFewer};
 

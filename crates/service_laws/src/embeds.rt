@@ -1,11 +1,10 @@
 //! What more service gives.
 ghost use Rattle.std.specs.Prelude.{◌≡◌, ℕ, ◌≤◌, Option};
 ghost use Rattle.plan_model.specs.declared.model.Moment.{Moment as At};
-ghost use Rattle.plan_model.specs.NetworkModel.{NetworkModel};
+ghost use Rattle.plan_model.specs.Network.{NetworkModel};
 ghost use Rattle.plan_model.specs.Strategy.{IsLeastWorst};
 ghost use Rattle.plan_model.specs.Tree.{worst};
-ghost use Rattle.service_laws.specs.Embeds.{Embeds, EmbedsNoLater, EmbedsAlike, IsNoLaterThan};
-ghost use Rattle.service_laws.specs.SafeToo.{IsSafeToo, IsNoWorse, IsAsGood};
+ghost use Rattle.service_laws.specs.Embeds.{Embeds, EmbedsNoLater, EmbedsAlike, IsNoLaterThan, IsSafeToo, IsNoWorse, IsAsGood};
 
 /// A law, with no code: with more service nothing gets later for who must arrive. For each strategy that is safe there is
 /// one that is safe with the same deadline and no later at worst, also from an earlier moment; and the least worst arrival

@@ -1,7 +1,7 @@
 //! What more service gives to a plan.
 ghost use Rattle.std.specs.Prelude.{◌≡◌, ℕ, ◌≤◌};
 ghost use Rattle.interval_fixed.specs.Interval.{Interval};
-ghost use Rattle.plan_model.specs.NetworkModel.{NetworkModel};
+ghost use Rattle.plan_model.specs.Network.{NetworkModel};
 ghost use Rattle.plan_model.specs.Tree.{Tree};
 ghost use Rattle.plan_model.specs.declared.model.Query.{Query as Asked};
 ghost use Rattle.decision_graph.specs.GraphValues.{IsBest};

@@ -12,5 +12,5 @@ pub use Rattle.plan_model.specs.Tree.{Tree}
 pub use Rattle.value_laws.specs.ScoreLaws.{ScoreLaws, Scoring}
 pub use Rattle.stop_profile.specs.Inserts.{RowsRise, lower_row, row_in_time, rows_after_inserts, rows_with_new, rows_with_new_by}
 pub use Rattle.stop_profile.specs.LookLaw.{Carries, IsBestRow, LookLaw}
-pub use Rattle.stop_profile.specs.LookStep.{LookStep, first, holds, none, same, wins}
+pub use Rattle.stop_profile.specs.LookLaw.{LookStep, first, holds, none, same, wins}
 pub use Rattle.stop_profile.specs.declared.Row.{Row}

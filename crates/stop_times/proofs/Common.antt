@@ -19,7 +19,7 @@ pub use Rattle.csv_rows.proofs.RowLemmas.{number_inside, optional-each, or_first
 pub use Rattle.csv_rows.proofs.SoonestLemmas.{IsSoonest, soonest-first, soonest-next}
 pub use Rattle.csv_rows.proofs.SortLemmas.{AreKeys, keys-none, keys-taken, sorted_are}
 unfoldable pub use Rattle.csv_rows.proofs.SortLemmas.{IsOwn, key_of}
-pub use Rattle.csv_rows.specs.First.{any_below, first_below}
+pub use Rattle.csv_rows.specs.Lists.{any_below, first_below}
 pub use Rattle.csv_rows.specs.Keys.{AreSorted, IsAtMost, IsBefore, IsRising, has_twin, key_at, no_key, precedes}
 unfoldable pub use Rattle.csv_rows.specs.Keys.{twin_at}
 pub use Rattle.csv_rows.specs.Lists.{list_below}
@@ -32,7 +32,7 @@ pub use Rattle.csv_rows.specs.declared.feed_tables.Table.TheVariants.{StopTimes}
 pub use Rattle.csv_rows.specs.declared.keys.Key.{Key}
 pub use Rattle.plan_model.specs.Results.{and_then, unless, value_or}
 pub use Rattle.table_files.specs.Loading.{loaded_from}
-pub use Rattle.stop_times.specs.Bounded.{IsBounded, parted, rows_between}
+pub use Rattle.stop_times.specs.ByTrip.{IsBounded, parted, rows_between}
 pub use Rattle.stop_times.specs.RecordsRemaining.{IsReading, records_after, source}
 pub use Rattle.stop_times.specs.StopTimeBounds.{end_of_times, most_stop_times}
 pub use Rattle.stop_times.specs.StopTimeKeys.{AreKeysOf, AreRowsRising, IsRowBefore, backward_after, goes_back_after, is_taken}

@@ -8,9 +8,9 @@ use Rattle.std.specs.Char.{is_ascii_digit}
 use Rattle.clock_text.specs.Digits.{whole_of}
 use Rattle.clock_text.specs.Times.{time_at, time_of, seconds_of_time}
 use Rattle.clock_text.proofs.OneText.{if_cases, some_cases}
-use Rattle.csv_rows.specs.Names.{name_in, text_in}
-use Rattle.csv_rows.specs.Records.{field_of}
-use Rattle.stop_times.specs.StopTimeForms.{allows_in, time_in}
+use Rattle.csv_rows.specs.Ids.{name_in, text_in}
+use Rattle.csv_rows.specs.Tables.{field_of}
+use Rattle.stop_times.specs.StopTimes.{allows_in, time_in}
 use Rattle.clock_text.proofs.DigitLemmas.{whole_bound}
 use Rattle.plan_model.proofs.Results.{require-each}
 

@@ -5,7 +5,7 @@ use Rattle.stop_times.proofs.Common.{first_below, StopRow, stop_times_from, AreV
 use Rattle.stop_times.proofs.Common.{missing_time_column, order_fault, stop_times_fault, length-list_below, or_first, or_then}
 use Rattle.table_files.specs.declared.loading.Loaded.TheVariants.{NoRecord, Found}
 use Rattle.stop_times.specs.declared.rows.TimeColumns.{TimeColumns}
-use Rattle.table_files.specs.Required.{Records, required}
+use Rattle.table_files.specs.Loading.{Records, required}
 
 -- the row by the indexes of its columns
 pub timed_is : (trips stops : List (List ℕ)) (places : List ℕ) (t : List (List (List ℕ))) (c : TimeColumns) (i : ℕ) (r : Result TimedRow FeedFault)

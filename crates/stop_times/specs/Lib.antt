@@ -1,11 +1,9 @@
 pub mod StopTimeBounds
 pub mod RecordFields
 pub mod RecordsRemaining
-pub mod StopTimeForms
 pub mod StopTimes
 pub mod StoredRows
 pub mod StopTimeKeys
 pub mod Visits
 pub mod Timetables
-pub mod Bounded
 pub mod ByTrip

@@ -1,5 +1,7 @@
--- The rows of stop times. Those that name a stop and a time are kept.
-use Rattle.std.specs.Prelude.{◌≡◌, ℕ, ◌+◌, ◌==◌, nat_lt, Bool, ◌&&◌, ◌||◌, List, [], length, slice_index, slice_index_or, Option, Some, None, IfSome, Result, Ok, option_map, is_some, if◌then◌else◌}
+-- The rows of stop times and the forms of their fields (GTFS Schedule reference). Those that name a stop and a time are kept.
+use Rattle.std.specs.Prelude.{ℕ, ◌==◌, Bool, true, false, ◌||◌, List, length, Option, Some, None, option_map, if◌then◌else◌, codes, ◌≡◌, ◌+◌, nat_lt, ◌&&◌, [], slice_index, slice_index_or, IfSome, Result, Ok, is_some}
+use Rattle.std.specs.Str.{bytes_eq}
+use Rattle.clock_text.specs.Times.{time_at}
 use Rattle.std.specs.Option.{option_or}
 use Rattle.std.specs.Result.{result_err}
 use Rattle.plan_model.specs.Results.{require, value_or}
@@ -9,18 +11,28 @@ use Rattle.csv_rows.specs.declared.feed_tables.Table.TheVariants.{StopTimes}
 use Rattle.csv_rows.specs.declared.feed_tables.FeedFault.{FeedFault}
 use Rattle.csv_rows.specs.declared.feed_tables.FeedFault.TheVariants.{BadField, UnknownKey, DuplicateKey, BackwardTime, TooManyRows}
 use Rattle.csv_rows.specs.Columns.{name_of}
-use Rattle.csv_rows.specs.First.{first_below, any_below}
+use Rattle.csv_rows.specs.Lists.{first_below, any_below}
 use Rattle.csv_rows.specs.Keys.{has_twin, just_precedes}
-use Rattle.csv_rows.specs.Names.{name_in, text_in}
-use Rattle.csv_rows.specs.Records.{field_of}
+use Rattle.csv_rows.specs.Ids.{name_in, text_in}
+use Rattle.csv_rows.specs.Tables.{field_of}
 use Rattle.csv_rows.specs.Tables.{header, row_count, number_in}
 use Rattle.stop_times.specs.declared.rows.KnownTrip.{KnownTrip}
 use Rattle.stop_times.specs.declared.rows.StopRow.{StopRow}
 use Rattle.stop_times.specs.declared.rows.TimedRow.{TimedRow}
 use Rattle.stop_times.specs.declared.rows.TimeColumns.{TimeColumns}
 use Rattle.csv_rows.specs.RowFaults.{lack}
-use Rattle.stop_times.specs.StopTimeForms.{allows_in, time_in}
 use Rattle.csv_rows.specs.Lists.{list_below}
+
+-- whether one may board or alight: 1 forbids it
+abbrev pub allows_in : List ℕ → Option Bool
+allows_in text =
+    if length text == 0 || (bytes_eq text (codes "0") || (bytes_eq text (codes "2") || bytes_eq text (codes "3"))) then Some true
+    else if bytes_eq text (codes "1") then Some false
+    else None
+
+-- a time of the service day, or none where the field is empty
+abbrev pub time_in : List ℕ → Option (Option ℕ)
+time_in text = if length text == 0 then Some None else option_map Some (time_at text)
 
 -- the number of a stop, or none where the text is empty
 abbrev pub stop_number_in : List (List ℕ) → List ℕ → Option (Option ℕ)

@@ -6,7 +6,7 @@ use Rattle.csv_rows.specs.declared.feed_tables.Table.TheVariants.{StopTimes}
 use Rattle.csv_rows.specs.declared.feed_tables.FeedFault.{FeedFault}
 use Rattle.table_files.specs.declared.loading.Loaded.{Loaded}
 use Rattle.stop_times.specs.declared.rows.StopRow.{StopRow}
-use Rattle.table_files.specs.Required.{Records, required}
+use Rattle.table_files.specs.Loading.{Records, required}
 use Rattle.stop_times.specs.StopTimes.{timed_rows, stop_times_fault}
 use Rattle.stop_times.specs.Visits.{AreStopTimes}
 

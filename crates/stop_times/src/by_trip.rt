@@ -26,7 +26,7 @@ impl Model for StopTimes {
 
 impl StopTimes {
     ghost use Rattle.std.specs.Prelude.{◌≡◌, ◌<◌, length, slice_index_or, []};
-    ghost use Rattle.stop_times.specs.Bounded.{IsBounded, parted};
+    ghost use Rattle.stop_times.specs.ByTrip.{IsBounded, parted};
 
     /// These rows, between these bounds.
     pub(crate) fn new(visits: Vec<StopRow>, bounds: Vec<u32>) -> StopTimes

@@ -1,6 +1,6 @@
 //! The forms of the fields of stop times (GTFS Schedule reference).
 ghost use Rattle.std.specs.Prelude.{◌≡◌};
-ghost use Rattle.stop_times.specs.StopTimeForms.{allows_in, time_in};
+ghost use Rattle.stop_times.specs.StopTimes.{allows_in, time_in};
 
 use clock_text::read_time;
 

@@ -1,7 +1,7 @@
 //! The rows of stop times by trip and sequence, and the first of them whose times go back.
 ghost use Rattle.std.specs.Prelude.{◌≡◌, ◌<◌, ◌≤◌, ◌^◌, length, true, false, None, IfOk, IfSome};
 ghost use Rattle.std.specs.List.{filter};
-ghost use Rattle.csv_rows.specs.First.{first_below};
+ghost use Rattle.csv_rows.specs.Lists.{first_below};
 ghost use Rattle.stop_times.specs.StopTimeKeys.{AreKeysOf, AreRowsRising, goes_back_after, backward_after};
 ghost use Rattle.stop_times.specs.StopTimes.{times_in, row_at, is_kept, repeated_time, backward_time};
 

@@ -1,8 +1,7 @@
 //! The records of the table one by one, as `csv` reads them.
 ghost use Rattle.std.specs.Prelude.{◌≡◌, ◌≢◌, ◌<◌, ◌^◌, ℕ, [], ◌∷◌, length, true, false, IfOk, IfSome, IfNone, slice_index_or};
 ghost use Rattle.csv_rows.specs.Columns.{name_of};
-ghost use Rattle.csv_rows.specs.Records.{field_of};
-ghost use Rattle.csv_rows.specs.Tables.{number_in, table_of};
+ghost use Rattle.csv_rows.specs.Tables.{field_of, number_in, table_of};
 
 use csv::{ByteRecord, Reader, ReaderBuilder};
 use csv_rows::{Column, trimmed};

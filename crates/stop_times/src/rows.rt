@@ -2,11 +2,10 @@
 ghost use Rattle.std.specs.Prelude.{◌≡◌, ◌<◌, ℕ, List, length, Option, None, Some, Ok, Err, Result, IfOk, IfErr, IfSome, OnOk};
 ghost use Rattle.csv_rows.specs.declared.feed_tables.Table.TheVariants.{StopTimes as StopTimesTable};
 ghost use Rattle.csv_rows.specs.FeedTables.{unread_table, IsFaultOf};
-ghost use Rattle.csv_rows.specs.Records.{field_of};
+ghost use Rattle.csv_rows.specs.Tables.{field_of};
 ghost use Rattle.csv_rows.specs.declared.feed_tables.FeedFault.{FeedFault};
 ghost use Rattle.stop_times.specs.declared.rows.TimedRow.{TimedRow};
-ghost use Rattle.stop_times.specs.StopTimes.{stop_number_in, times_of, visit_of, columns_of, timed_of, missing_time_column, row_from_trip, row_from_stop, IsTripOf, IsStopOf, IsKnownIn};
-ghost use Rattle.stop_times.specs.StopTimeForms.{time_in};
+ghost use Rattle.stop_times.specs.StopTimes.{stop_number_in, times_of, visit_of, columns_of, timed_of, missing_time_column, row_from_trip, row_from_stop, IsTripOf, IsStopOf, IsKnownIn, time_in};
 
 use crate::forms::{read_allows, read_time_or_none};
 use crate::records::Record;

@@ -1,15 +1,14 @@
 //! The stop times of a feed.
 ghost use Rattle.std.specs.Prelude.{◌≡◌, ◌≢◌, ◌<◌, ◌≤◌, ℕ, length, slice_index_or, [], true, false, None, Ok, Err, IfOk, IfErr, OnOk};
 ghost use Rattle.csv_rows.specs.declared.feed_tables.Table.TheVariants.{StopTimes as StopTimesTable};
-ghost use Rattle.csv_rows.specs.First.{first_below};
+ghost use Rattle.csv_rows.specs.Lists.{first_below};
 ghost use Rattle.csv_rows.specs.FeedTables.{unread_table, IsFaultOf};
 ghost use Rattle.csv_rows.specs.RowFaults.{ReportsFirst};
-ghost use Rattle.table_files.specs.Loading.{loaded_from};
+ghost use Rattle.table_files.specs.Loading.{loaded_from, IsOfSomeTable};
 ghost use Rattle.csv_rows.specs.Tables.{table_of};
 ghost use Rattle.stop_times.specs.StopTimeBounds.{most_stop_times};
 ghost use Rattle.stop_times.specs.StopTimeKeys.{AreKeysOf, AreRowsRising};
 ghost use Rattle.stop_times.specs.Timetables.{stop_times_from, AreVisits};
-ghost use Rattle.table_files.specs.Required.{IsOfSomeTable};
 ghost use Rattle.stop_times.specs.StopTimes.{repeated_time, order_fault, stop_times_fault, timed_rows};
 ghost use Rattle.stop_times.specs.Visits.{AreStopTimes};
 

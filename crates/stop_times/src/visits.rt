@@ -1,8 +1,7 @@
 //! The kept rows of the trips.
 ghost use Rattle.std.specs.Prelude.{◌≡◌, ◌<◌, ◌≤◌, ◌+◌, ℕ, length, true, None, IfOk, slice_index, slice_index_or, []};
-ghost use Rattle.csv_rows.specs.First.{first_below};
+ghost use Rattle.csv_rows.specs.Lists.{first_below, list_below};
 ghost use Rattle.csv_rows.specs.Keys.{key_at, IsRising};
-ghost use Rattle.csv_rows.specs.Lists.{list_below};
 ghost use Rattle.stop_times.specs.StopTimeBounds.{most_stop_times};
 ghost use Rattle.stop_times.specs.StopTimeKeys.{AreKeysOf};
 ghost use Rattle.stop_times.specs.StopTimes.{row_at, is_kept, repeated_time};

@@ -1,16 +1,17 @@
--- What a folder holds of a table, and the faults of reading it.
+-- What a folder holds of a table, the faults of reading it, and the records of a required one.
 use Rattle.std.specs.Prelude.{◌≡◌, ℕ, ◌≤◌, ◌==◌, nat_lt, List, [], length, Option, None, Some, Result, Ok, Err, IsErrAnd, if◌then◌else◌}
 use Rattle.file_ports.specs.Counts.{HasCausesOf}
 use Rattle.file_ports.specs.Ports.{FileMap, FilesState, file_at}
 use Rattle.csv_rows.specs.declared.feed_tables.Table.{Table}
 use Rattle.csv_rows.specs.declared.feed_tables.FeedFault.{FeedFault}
-use Rattle.csv_rows.specs.declared.feed_tables.FeedFault.TheVariants.{Read, TooLong, TooManyRows}
+use Rattle.csv_rows.specs.declared.feed_tables.FeedFault.TheVariants.{Read, TooLong, TooManyRows, MissingTable, MissingColumn}
 use Rattle.table_files.specs.declared.loading.Loaded.{Loaded}
 use Rattle.table_files.specs.declared.loading.Loaded.TheVariants.{Absent, NoRecord, Found}
 use Rattle.csv_rows.specs.declared.limits.Limits.{Limits}
 use Rattle.csv_rows.specs.FeedTables.{path_of, is_unread_table}
 use Rattle.csv_rows.specs.Limits.{rows_of}
 use Rattle.csv_rows.specs.Tables.{table_of, row_count}
+use Rattle.csv_rows.specs.declared.columns.Column.{Column}
 
 -- the records of a table, of which at most `most` may come after the header
 abbrev pub loaded_from : Table → ℕ → List (List (List ℕ)) → Result Loaded FeedFault
@@ -59,3 +60,18 @@ HasAtMost most (Found t) = row_count t ≤ most
 abbrev pub HasFeedCauses : {T : Type 0} (folder : List ℕ) (before now : FilesState) → Result T FeedFault → Type 0
 HasFeedCauses folder before now result =
     HasCausesOf (λ table. IsErrAnd result (λ fault. fault ≡ Read table)) (λ table. Some (path_of folder table)) before now
+
+-- the records of a table
+abbrev pub Records : Type 0
+Records = List (List (List ℕ))
+
+-- a required table is present, and has a record; else it is missing, or its first column is
+abbrev pub required : Table → Column → Result Loaded FeedFault → Result Records FeedFault
+required table first (Ok Absent) = Err (MissingTable table)
+required table first (Ok NoRecord) = Err (MissingColumn table first)
+required table first (Ok (Found t)) = Ok t
+required table first (Err fault) = Err fault
+
+-- it is so of a table that has no fault
+abbrev pub IsOfSomeTable : {T : Type 0} → (T → Option FeedFault) → (T → Type 0) → Type 0
+IsOfSomeTable {T} fault is = (t : T) × (fault t ≡ None) × is t

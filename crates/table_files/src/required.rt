@@ -3,7 +3,7 @@ ghost use Rattle.std.specs.Prelude.{◌≡◌, ◌≤◌, Ok, IfOk};
 ghost use Rattle.csv_rows.specs.Limits.{rows_of};
 ghost use Rattle.csv_rows.specs.Tables.{row_count};
 ghost use Rattle.table_files.specs.Reading.{ReadsTable};
-ghost use Rattle.table_files.specs.Required.{required};
+ghost use Rattle.table_files.specs.Loading.{required};
 
 use crate::loading::{Loaded, read_table};
 use csv_rows::{Column, FeedFault, Limits, Rows, Table};

@@ -9,7 +9,7 @@ use Rattle.plan_model.specs.declared.model.Way.{Way}
 use Rattle.plan_model.specs.declared.model.Connection.{Connection}
 use Rattle.plan_model.specs.NameLists.{NameLists, NamesFit}
 use Rattle.plan_model.specs.Network.{AreLinksInto, connection, no_connection}
-use Rattle.plan_model.specs.NetworkModel.{NetworkModel}
+use Rattle.plan_model.specs.Network.{NetworkModel}
 
 abbrev Rises : Way → Way → Type 0
 Rises a b = a.from.0 < b.from.0

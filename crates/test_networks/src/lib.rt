@@ -6,8 +6,7 @@ mod links;
 
 ghost use Rattle.std.specs.Prelude.{◌≡◌, ◌+◌, ◌<◌, ◌≤◌, length, IfOk};
 ghost use Rattle.plan_model.specs.NameLists.{NamesFit};
-ghost use Rattle.decision_graph.specs.Expanded.{IsExpanded};
-ghost use Rattle.decision_graph.specs.Planned.{IsPlanned};
+ghost use Rattle.decision_graph.specs.Planned.{IsExpanded, IsPlanned};
 ghost use Rattle.plan_model.specs.Bounds.{end_of_time};
 
 use csv_rows::{Limits, Rows};

@@ -2,7 +2,7 @@
 ghost use Rattle.std.specs.Prelude.{◌≢◌, ◌<◌, length, IfOk};
 ghost use Rattle.plan_graph.specs.Ready.{IsReady, IsPruned};
 ghost use Rattle.plan_graph.specs.Coherent.{IsCoherent};
-ghost use Rattle.decision_graph.specs.Expanded.{HasSteadyChoice};
+ghost use Rattle.decision_graph.specs.Planned.{HasSteadyChoice};
 ghost use Rattle.value_laws.specs.Means.{mean_scoring};
 ghost use Rattle.meat_scan.specs.Solves.{Solves};
 

@@ -1,6 +1,6 @@
 //! Scores of graphs over three buses, and of one whose trips are many more than its legs.
 ghost use Rattle.std.specs.Prelude.{◌≡◌, ◌≢◌, ◌<◌, ◌≤◌, Some, None, IfOk, IfSome, length};
-ghost use Rattle.plan_graph.specs.PickedRows.{HasRisingTables};
+ghost use Rattle.plan_graph.specs.Unfold.{HasRisingTables};
 ghost use Rattle.plan_model.specs.Bounds.{end_of_time};
 
 use graph_score::{ScoreFault, fit_is_scored, score};

@@ -6,4 +6,4 @@ pub use Rattle.csv_rows.proofs.IdLemmas.{got, number_is}
 pub use Rattle.csv_rows.proofs.KeyTexts.{key_absent, key_adds, key_position}
 pub use Rattle.plan_model.proofs.Texts.{IsNameList-adds, take-adds}
 pub use Rattle.plan_model.specs.NameLists.{Adds, AreDistinct}
-pub use Rattle.text_index.specs.KeyTexts.{key_texts}
+pub use Rattle.text_index.specs.Numbers.{key_texts}

@@ -1,7 +1,12 @@
--- The numbers of names.
-use Rattle.std.specs.Prelude.{ℕ, List, if◌then◌else◌, Option, None}
+-- The keys of an index, and the numbers of names.
+use Rattle.std.specs.Prelude.{ℕ, List, map, if◌then◌else◌, Option, None}
+use Rattle.std.specs.Borrow.{Bor}
 use Rattle.std.specs.List.{position_from}
 use Rattle.std.specs.Str.{bytes_eq, is_utf8}
+
+-- the bytes of each
+abbrev pub key_texts : List (Bor (List ℕ)) → List (List ℕ)
+key_texts ks = map (λ k. k.now) ks
 
 -- the number of a name; none where it is not among the names
 abbrev pub number_of : List (List ℕ) → List ℕ → Option ℕ

@@ -23,7 +23,7 @@ impl<'a> Drop for TextIndex<'a> {
 impl<'a> Model for TextIndex<'a> {
     ghost use Rattle.std.specs.Prelude.{ℕ, List};
     ghost use Rattle.plan_model.specs.NameLists.{IsNameList};
-    ghost use Rattle.text_index.specs.KeyTexts.{key_texts};
+    ghost use Rattle.text_index.specs.Numbers.{key_texts};
 
     ghost Value = { List (List ℕ) };
 

@@ -8,7 +8,7 @@ pub use Rattle.csv_rows.proofs.FirstLemmas.{first-next, first-reported, first-ze
 pub use Rattle.csv_rows.proofs.ListLemmas.{length-list_below, list_below-next, list_below-zero}
 pub use Rattle.csv_rows.proofs.SortLemmas.{AreKeys, keys-none, keys-taken, sorted_are}
 unfoldable pub use Rattle.csv_rows.proofs.SortLemmas.{key_of}
-pub use Rattle.csv_rows.specs.First.{first_below}
+pub use Rattle.csv_rows.specs.Lists.{first_below}
 pub use Rattle.csv_rows.specs.Keys.{AreSorted, has_twin}
 unfoldable pub use Rattle.csv_rows.specs.Keys.{twin_at}
 pub use Rattle.csv_rows.specs.Lists.{list_below}

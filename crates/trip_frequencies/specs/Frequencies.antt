@@ -1,5 +1,8 @@
--- The rows of frequencies, and how each trip repeats by them (GTFS Schedule reference).
-use Rattle.std.specs.Prelude.{◌≡◌, ℕ, ◌+◌, ◌==◌, List, [], ◌∷◌, map, length, slice_index_or, Option, Some, None, Result, Ok, Err, if◌then◌else◌}
+-- The rows of frequencies, the forms of their fields, and how each trip repeats by them (GTFS Schedule reference).
+use Rattle.std.specs.Prelude.{ℕ, ◌==◌, Bool, true, false, ◌||◌, List, length, Option, Some, None, option_and_then, if◌then◌else◌, codes, ◌≡◌, ◌+◌, [], ◌∷◌, map, slice_index_or, Result, Ok, Err}
+use Rattle.std.specs.Str.{bytes_eq}
+use Rattle.clock_text.specs.Digits.{whole_of}
+use Rattle.trip_frequencies.specs.FrequencyBounds.{most_headway}
 use Rattle.std.specs.List.{filter}
 use Rattle.std.specs.Option.{option_or}
 use Rattle.std.specs.Result.{result_err}
@@ -12,16 +15,26 @@ use Rattle.csv_rows.specs.declared.feed_tables.FeedFault.TheVariants.{BadField, 
 use Rattle.table_files.specs.declared.loading.Loaded.{Loaded}
 use Rattle.table_files.specs.declared.loading.Loaded.TheVariants.{Absent, NoRecord, Found}
 use Rattle.table_files.specs.Loading.{loaded_rows}
-use Rattle.csv_rows.specs.First.{first_below}
+use Rattle.csv_rows.specs.Lists.{first_below}
 use Rattle.csv_rows.specs.Keys.{has_twin}
 use Rattle.csv_rows.specs.Lists.{list_below}
-use Rattle.csv_rows.specs.Names.{name_in}
+use Rattle.csv_rows.specs.Ids.{name_in}
 use Rattle.csv_rows.specs.RowFaults.{first_missing}
 use Rattle.csv_rows.specs.Tables.{row_count, number_in, index_of, field_at}
 use Rattle.trip_frequencies.specs.declared.frequencies.FrequencyRow.{FrequencyRow}
 use Rattle.trip_frequencies.specs.declared.frequencies.TripFrequency.{TripFrequency}
 use Rattle.trip_frequencies.specs.declared.frequencies.FrequencyColumns.{FrequencyColumns}
-use Rattle.trip_frequencies.specs.FrequencyForms.{headway_in, is_exact_in}
+
+-- the seconds from one departure to the next: one at least, and a day at most
+abbrev pub headway_in : List ℕ → Option ℕ
+headway_in text = option_and_then (λ seconds. if seconds == 0 then None else Some seconds) (whole_of most_headway text)
+
+-- whether departures are exact to the second; if it is empty they are not
+abbrev pub is_exact_in : List ℕ → Option Bool
+is_exact_in text =
+    if length text == 0 || bytes_eq text (codes "0") then Some false
+    else if bytes_eq text (codes "1") then Some true
+    else None
 
 -- the row of these fields, or the first that is not of its form or names no trip; both kinds of `exact_times` are read alike
 abbrev pub frequency_from : (trips : List (List ℕ)) (line : ℕ) (trip start end headway exact : List ℕ) → Result TripFrequency FeedFault

@@ -1,4 +1,3 @@
 pub mod FrequencyBounds
-pub mod FrequencyForms
 pub mod Frequencies
 pub mod Repeats

@@ -1,6 +1,6 @@
 //! The forms of the fields of frequencies (GTFS Schedule reference).
 ghost use Rattle.std.specs.Prelude.{◌≡◌};
-ghost use Rattle.trip_frequencies.specs.FrequencyForms.{headway_in, is_exact_in};
+ghost use Rattle.trip_frequencies.specs.Frequencies.{headway_in, is_exact_in};
 
 use clock_text::read_whole;
 use plan_model::SECONDS_PER_DAY;

@@ -2,7 +2,7 @@
 ghost use Rattle.std.specs.Prelude.{◌≡◌, ◌<◌, ◌≤◌, ◌^◌, ℕ, length, true, Ok, IfOk};
 ghost use Rattle.std.specs.Result.{result_err};
 ghost use Rattle.csv_rows.specs.declared.feed_tables.Table.TheVariants.{Frequencies as FrequenciesTable};
-ghost use Rattle.csv_rows.specs.First.{first_below};
+ghost use Rattle.csv_rows.specs.Lists.{first_below};
 ghost use Rattle.csv_rows.specs.Keys.{AreSorted};
 ghost use Rattle.csv_rows.specs.RowFaults.{ReportsFirst};
 ghost use Rattle.csv_rows.specs.Tables.{row_count};

@@ -3,7 +3,7 @@ ghost use Rattle.std.specs.Prelude.{◌≡◌, ◌≤◌, length, Ok, IfOk};
 ghost use Rattle.std.specs.List.Sorted.{IsNonDecreasing};
 ghost use Rattle.csv_rows.specs.declared.feed_tables.Table.TheVariants.{Frequencies as FrequenciesTable};
 ghost use Rattle.table_files.specs.Reading.{ReadsTable};
-ghost use Rattle.table_files.specs.Required.{IsOfSomeTable};
+ghost use Rattle.table_files.specs.Loading.{IsOfSomeTable};
 ghost use Rattle.trip_frequencies.specs.FrequencyBounds.{most_frequencies};
 ghost use Rattle.trip_frequencies.specs.Frequencies.{frequencies_from, fault_of_frequencies, AreFrequencies};
 ghost use Rattle.trip_frequencies.specs.Repeats.{all_repeats_in};

@@ -9,7 +9,7 @@ use Rattle.plan_model.proofs.Bounds.{forward}
 use Rattle.plan_model.proofs.Lists.{All-from_contains, Contains-nil, Contains-cons_cases, AllPairs-head, AllPairs-tail}
 use Rattle.plan_graph.specs.declared.GraphRow.{GraphRow}
 use Rattle.plan_graph.specs.declared.PlanGraph.{PlanGraph}
-use Rattle.plan_graph.specs.Placed.{StandsSafely, children_of}
+use Rattle.plan_graph.specs.Walked.{StandsSafely, children_of}
 use Rattle.plan_graph.proofs.Places.{next_after, safe_child}
 use Rattle.plan_graph.proofs.Tables.{first_pick, one_found}
 use Rattle.trip_replay.specs.Onward.{AreUpTo, late_end, LeadsInTime, ArrivesByRows}

@@ -1,6 +1,5 @@
 pub mod FaultTexts
 pub mod Walk
-pub mod Positions
 pub mod Rides
 pub mod Late
 pub mod Onward

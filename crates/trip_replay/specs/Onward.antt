@@ -3,13 +3,13 @@ use Rattle.std.specs.Prelude.{◌≡◌, ◌≢◌, ℕ, zero, suc, ◌<◌, ◌
 use Rattle.plan_model.specs.declared.model.Leg.{Leg}
 use Rattle.plan_model.specs.declared.model.Outcome.{Outcome}
 use Rattle.plan_model.specs.declared.model.Query.{Query}
-use Rattle.plan_model.specs.NetworkModel.{NetworkModel}
+use Rattle.plan_model.specs.Network.{NetworkModel}
 use Rattle.plan_model.specs.Network.{count, outcomes}
 use Rattle.plan_model.specs.Strategy.{IsBoardable}
 use Rattle.plan_model.specs.Unfold.{end_of, arrival_of}
 use Rattle.plan_graph.specs.declared.PlaceTable.{PlaceTable}
 use Rattle.plan_graph.specs.declared.PlanGraph.{PlanGraph}
-use Rattle.plan_graph.specs.PickedRows.{pick_at}
+use Rattle.plan_graph.specs.Unfold.{pick_at}
 
 -- each connection is no later than by some delay of its class
 abbrev pub AreUpTo : NetworkModel → (ℕ → ℕ) → Type 0

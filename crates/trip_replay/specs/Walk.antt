@@ -1,7 +1,7 @@
 -- The walk down a tree by the delays that come.
 use Rattle.std.specs.Prelude.{◌≡◌, ℕ, ◌+◌, ◌≤◌, List, [], ◌∷◌, ◌++◌, length, ◌==◌, if◌then◌else◌, Result, Ok, Err}
 use Rattle.plan_model.specs.declared.model.Outcome.{Outcome}
-use Rattle.plan_model.specs.NetworkModel.{NetworkModel}
+use Rattle.plan_model.specs.Network.{NetworkModel}
 use Rattle.plan_model.specs.Network.{arr_of, outcomes}
 use Rattle.plan_model.specs.Tree.{Tree, Done, Ride, Stuck, Kids, Nil, Kid}
 use Rattle.trip_replay.specs.declared.Ridden.{Ridden}

@@ -1,7 +1,6 @@
 //! Whatever delays come, a safe trip arrives.
 ghost use Rattle.std.specs.Prelude.{ℕ};
-ghost use Rattle.plan_model.specs.Network.{IsValid};
-ghost use Rattle.plan_model.specs.NetworkModel.{NetworkModel};
+ghost use Rattle.plan_model.specs.Network.{IsValid, NetworkModel};
 ghost use Rattle.plan_model.specs.Strategy.{IsSafeFor};
 ghost use Rattle.plan_model.specs.Tree.{Tree};
 ghost use Rattle.plan_model.specs.declared.model.Query.{Query as Asked};

@@ -9,13 +9,11 @@ ghost use Rattle.std.specs.Option.{option_map};
 ghost use Rattle.plan_model.specs.Network.{count, to_of};
 ghost use Rattle.plan_model.specs.Strategy.{IsSafeFor};
 ghost use Rattle.plan_model.specs.Unfold.{by_place, unfold_after};
-ghost use Rattle.plan_graph.specs.PickedRows.{pick_at};
+ghost use Rattle.plan_graph.specs.Unfold.{pick_at, unfold_plan};
 ghost use Rattle.plan_graph.specs.Ready.{IsLegOf};
 ghost use Rattle.plan_graph.specs.Tidy.{IsFit};
-ghost use Rattle.plan_graph.specs.Unfold.{unfold_plan};
 ghost use Rattle.trip_replay.specs.Walk.{walk, IsAnswer, IsSafeAnswer};
-ghost use Rattle.trip_replay.specs.Positions.{delayed_arrival, tree_at};
-ghost use Rattle.trip_replay.specs.Rides.{IsRidden, arrival_after, IsStuckAfter};
+ghost use Rattle.trip_replay.specs.Rides.{delayed_arrival, tree_at, IsRidden, arrival_after, IsStuckAfter};
 
 mod laws;
 

@@ -9,11 +9,11 @@ use Rattle.plan_model.specs.Tree.{Tree, Kids, Nil, Kid, Done, Ride}
 use Rattle.plan_model.specs.DelayRows.{IsValidRow, EachKid}
 use Rattle.plan_model.specs.Expected.{BelowBy, CoversBy}
 use Rattle.interval_fixed.specs.Interval.{Interval}
-use Rattle.interval_fixed.specs.Means.{weighted, mean_of}
+use Rattle.interval_fixed.specs.Interval.{weighted, mean_of}
 use Rattle.interval_fixed.proofs.Enclosed.{mean_gap_within}
 use Rattle.interval_fixed.proofs.Sums.{mean_below, mean_covers}
 use Rattle.value_laws.specs.ScoreLaws.{Scoring, ScoreLaws}
-use Rattle.value_laws.specs.Rounded.{rounded_up, sum_up, rounded_down, sum_down}
+use Rattle.value_laws.specs.Spans.{rounded_up, sum_up, rounded_down, sum_down}
 use Rattle.value_laws.specs.Spans.{span_scoring}
 
 -- the lesser of two is below what either is below

@@ -8,7 +8,7 @@ use Rattle.csv_rows.specs.declared.feed_tables.Table.TheVariants.{Stops, Routes,
 use Rattle.csv_rows.specs.declared.feed_tables.FeedFault.{FeedFault}
 use Rattle.table_files.specs.declared.loading.Loaded.{Loaded}
 use Rattle.table_files.specs.Loading.{load_in}
-use Rattle.table_files.specs.Required.{Records}
+use Rattle.table_files.specs.Loading.{Records}
 use Rattle.feed_lists.specs.Lists.{stops_from, routes_from, trips_from}
 use Rattle.feed_lists.specs.Stops.{stop_ids, stop_places, stops_fault}
 use Rattle.feed_lists.specs.Routes.{route_ids, routes_fault}
@@ -25,7 +25,7 @@ unfoldable use Rattle.change_times.specs.Transfers.{transfer_at}
 use Rattle.journey_problem.specs.FeedProblems.{GtfsFolder, IsFolder}
 use Rattle.window_laws.specs.MoreTrips.{HasLinks, HasAllOf}
 use Rattle.window_laws.proofs.Inserted.{own_links}
-use Rattle.window_laws.specs.MoreRows.{AreAmongTables, RunNoLess}
+use Rattle.window_laws.specs.MoreFiles.{AreAmongTables, RunNoLess}
 use Rattle.window_laws.specs.MoreFiles.{HasMoreRows}
 use Rattle.window_laws.proofs.Tables.{trips_among, places_same}
 

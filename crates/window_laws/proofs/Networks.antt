@@ -6,7 +6,7 @@ use Rattle.std.proofs.lemmas.List.Elements.{All-weaker, All-map}
 use Rattle.plan_model.proofs.Lists.{Contains-map}
 use Rattle.plan_model.specs.declared.model.Moment.{Moment}
 use Rattle.plan_model.specs.Strategy.{IsLeastWorst}
-use Rattle.plan_model.specs.NetworkModel.{NetworkModel}
+use Rattle.plan_model.specs.Network.{NetworkModel}
 use Rattle.stop_times.specs.declared.rows.StopRow.{StopRow}
 use Rattle.gtfs_tables.specs.Feeds.{FeedParts}
 use Rattle.gtfs_tables.specs.Timed.{rows_of}
@@ -21,7 +21,7 @@ unfoldable use Rattle.connections.specs.FeedNetworks.{connections_below, run_con
 use Rattle.connections.proofs.JoinLemmas.{All-join, Contains-join}
 use Rattle.service_laws.specs.Changed.{own, renamed, AreAmong, AreShorter, AreNoFewer, with_connections, with_changes, with_links}
 use Rattle.service_laws.specs.Embeds.{EmbedsAlike, IsNoLaterThan}
-use Rattle.service_laws.specs.SafeToo.{IsSafeToo, IsNoWorse, IsAsGood}
+use Rattle.service_laws.specs.Embeds.{IsSafeToo, IsNoWorse, IsAsGood}
 use Rattle.service_laws.proofs.Changes.{connections_alike, changes_alike, links_alike, alike_no_later, no_later_embeds}
 use Rattle.service_laws.proofs.Compose.{alike_twice}
 use Rattle.csv_rows.proofs.ListLemmas.{length-list_below, get-list_below}

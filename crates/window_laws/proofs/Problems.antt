@@ -11,7 +11,7 @@ use Rattle.journey_model.specs.declared.problem.Problem.{Problem}
 use Rattle.journey_problem.proofs.OneCutProblem.{delays_of_one}
 use Rattle.service_laws.specs.Changed.{own}
 use Rattle.service_laws.specs.Embeds.{EmbedsAlike, IsNoLaterThan}
-use Rattle.service_laws.specs.SafeToo.{IsSafeToo, IsAsGood}
+use Rattle.service_laws.specs.Embeds.{IsSafeToo, IsAsGood}
 use Rattle.window_laws.specs.MoreTrips.{HasAllOf, Timetable, IsPartOf, IsNetworkOf}
 use Rattle.window_laws.specs.MoreFiles.{AreMoreAndLess}
 use Rattle.window_laws.proofs.Folders.{has_all, stops_same, own_places}

@@ -7,7 +7,7 @@ use Rattle.plan_model.proofs.Lists.{All-from_contains, Contains-cons_cases, Cont
 use Rattle.plan_model.specs.NameLists.{AreDistinct}
 use Rattle.plan_model.specs.Results.{require, value_or}
 use Rattle.clock_text.specs.Times.{time_at}
-use Rattle.csv_rows.specs.Names.{name_in}
+use Rattle.csv_rows.specs.Ids.{name_in}
 use Rattle.csv_rows.specs.declared.columns.Column.TheVariants.{TripId, StartTime, EndTime, HeadwaySecs, ExactTimes}
 use Rattle.csv_rows.specs.declared.feed_tables.FeedFault.{FeedFault}
 use Rattle.csv_rows.specs.Tables.{row_count, number_in, field}
@@ -16,7 +16,7 @@ use Rattle.csv_rows.proofs.RowLemmas.{name_text}
 use Rattle.csv_rows.proofs.FirstLemmas.{none-both, none-each}
 use Rattle.csv_rows.proofs.ListLemmas.{length-list_below, get-list_below}
 use Rattle.csv_rows.specs.Lists.{list_below}
-use Rattle.table_files.specs.Required.{Records}
+use Rattle.table_files.specs.Loading.{Records}
 use Rattle.table_files.specs.declared.loading.Loaded.{Loaded}
 use Rattle.table_files.specs.declared.loading.Loaded.TheVariants.{Absent, NoRecord, Found}
 use Rattle.table_files.specs.Loading.{loaded_rows}
@@ -24,8 +24,8 @@ use Rattle.feed_lists.specs.Trips.{trip_ids}
 use Rattle.trip_frequencies.specs.declared.frequencies.FrequencyRow.{FrequencyRow}
 use Rattle.trip_frequencies.specs.Frequencies.{frequency_from, no_frequency, frequency_rows, repeats_of, fault_of_frequencies, bad_frequency}
 unfoldable use Rattle.trip_frequencies.specs.Frequencies.{frequency_at, frequencies_fault}
-use Rattle.trip_frequencies.specs.FrequencyForms.{headway_in, is_exact_in}
-use Rattle.window_laws.specs.MoreRows.{IsSameRow, AddsRows}
+use Rattle.trip_frequencies.specs.Frequencies.{headway_in, is_exact_in}
+use Rattle.window_laws.specs.MoreFiles.{IsSameRow, AddsRows}
 use Rattle.window_laws.specs.MoreTrips.{on_line, RepeatToo}
 use Rattle.window_laws.proofs.Types.{TripFrequency}
 use Rattle.window_laws.proofs.Rows.{turned, number_too, same_field}

@@ -6,14 +6,14 @@ use Rattle.plan_model.specs.Results.{require, value_or}
 use Rattle.csv_rows.specs.declared.columns.Column.{Column}
 use Rattle.csv_rows.specs.declared.columns.Column.TheVariants.{TripId}
 use Rattle.csv_rows.specs.Tables.{row_count, number_in, index_of, field_at, field}
-use Rattle.csv_rows.specs.Records.{field_of}
+use Rattle.csv_rows.specs.Tables.{field_of}
 use Rattle.csv_rows.proofs.IdLemmas.{number-here, found}
 use Rattle.csv_rows.proofs.ListLemmas.{length-list_below, get-list_below}
-use Rattle.table_files.specs.Required.{Records}
+use Rattle.table_files.specs.Loading.{Records}
 use Rattle.feed_lists.specs.Trips.{trip_ids}
 use Rattle.std.proofs.lemmas.Bool.{cases_lt}
 use Rattle.std.proofs.lemmas.List.{get_or_append_left}
-use Rattle.window_laws.specs.MoreRows.{IsSameRow, HasRows, AddsRows}
+use Rattle.window_laws.specs.MoreFiles.{IsSameRow, HasRows, AddsRows}
 
 -- of two readings that differ in what follows, and in their faults
 pub both : {A B E : Type 0} (P : B → B → Type 0) (d : B) → P d d → (o : Option A) (e f : E) (n m : A → Result B E)

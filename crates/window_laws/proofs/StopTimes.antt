@@ -5,23 +5,23 @@ use Rattle.std.proofs.lemmas.List.{ext_get_or}
 use Rattle.plan_model.specs.NameLists.{AreDistinct}
 use Rattle.plan_model.specs.Results.{require, value_or}
 use Rattle.clock_text.specs.Digits.{whole_of}
-use Rattle.csv_rows.specs.Names.{name_in, text_in}
+use Rattle.csv_rows.specs.Ids.{name_in, text_in}
 use Rattle.csv_rows.specs.declared.columns.Column.TheVariants.{TripId}
 use Rattle.csv_rows.specs.Tables.{header, row_count, number_in, field}
-use Rattle.csv_rows.specs.Records.{field_of}
+use Rattle.csv_rows.specs.Tables.{field_of}
 use Rattle.csv_rows.proofs.IdLemmas.{number-here}
 use Rattle.csv_rows.proofs.RowLemmas.{name_text}
 use Rattle.csv_rows.proofs.ListLemmas.{length-list_below, get-list_below}
-use Rattle.table_files.specs.Required.{Records}
+use Rattle.table_files.specs.Loading.{Records}
 use Rattle.feed_lists.specs.Trips.{trip_ids}
 use Rattle.stop_times.specs.declared.rows.StopRow.{StopRow}
 use Rattle.stop_times.specs.StopTimes.{stop_number_in, timed_from, timed_of, columns_of, time_columns, no_row, timed_rows, row_at}
 unfoldable use Rattle.stop_times.specs.StopTimes.{timed_at}
-use Rattle.stop_times.specs.StopTimeForms.{allows_in, time_in}
+use Rattle.stop_times.specs.StopTimes.{allows_in, time_in}
 use Rattle.stop_times.specs.Visits.{no_visit, AreStopTimes}
 use Rattle.journey_problem.proofs.OneOrder.{Enumerates, agree, same_size}
 use Rattle.window_laws.proofs.Types.{TimedRow}
-use Rattle.window_laws.specs.MoreRows.{IsSameRow, AddsRows}
+use Rattle.window_laws.specs.MoreFiles.{IsSameRow, AddsRows}
 use Rattle.window_laws.proofs.Rows.{both, read_on, turned, number_too, same_field, field_of-at}
 
 -- rows of two trips that are else the same

@@ -3,13 +3,13 @@ use Rattle.std.proofs.Common.{◌≡◌, ℕ, ◌<◌, List, [], length, slice_i
 use Rattle.plan_model.specs.NameLists.{AreDistinct}
 use Rattle.csv_rows.specs.declared.columns.Column.TheVariants.{TripId}
 use Rattle.csv_rows.specs.declared.feed_tables.Table.TheVariants.{Trips}
-use Rattle.csv_rows.specs.First.{first_below}
+use Rattle.csv_rows.specs.Lists.{first_below}
 use Rattle.csv_rows.specs.RowFaults.{repeated_id}
 use Rattle.csv_rows.specs.Tables.{row_count, field}
 use Rattle.csv_rows.proofs.IdLemmas.{ids_differ}
 use Rattle.csv_rows.proofs.FirstLemmas.{none-both}
 use Rattle.csv_rows.proofs.ListLemmas.{length-list_below, get-list_below}
-use Rattle.table_files.specs.Required.{Records}
+use Rattle.table_files.specs.Loading.{Records}
 use Rattle.table_files.specs.Loading.{loaded_rows}
 use Rattle.feed_lists.specs.Routes.{route_ids}
 use Rattle.feed_lists.specs.Stops.{stop_ids, stop_places}
@@ -23,7 +23,7 @@ use Rattle.gtfs_tables.specs.Timed.{rows_of}
 use Rattle.service_days.specs.Services.{ServiceParts}
 use Rattle.connections.specs.TripRuns.{frequencies_of}
 use Rattle.connections.specs.FeedNetworks.{route_of}
-use Rattle.window_laws.specs.MoreRows.{IsSameRow, AreAmongTables, RunNoLess}
+use Rattle.window_laws.specs.MoreFiles.{IsSameRow, AreAmongTables, RunNoLess}
 use Rattle.window_laws.specs.MoreTrips.{RepeatToo, HasTrips}
 use Rattle.window_laws.proofs.Rows.{both, same_field}
 use Rattle.window_laws.proofs.StopTimes.{same_visits}

@@ -2,7 +2,7 @@
 use Rattle.connections.specs.Window.{window_of, day_at}
 use Rattle.connections.specs.TripRuns.{no_run}
 use Rattle.connections.specs.RepeatedRuns.{repeat_of}
-use Rattle.gtfs_tables.specs.TripRepeats.{repeat_at}
+use Rattle.gtfs_tables.specs.Timed.{repeat_at}
 use Rattle.stop_times.specs.StopTimes.{no_row}
 use Rattle.trip_frequencies.specs.Frequencies.{no_frequency}
 use Rattle.std.specs.Prelude.{[]}

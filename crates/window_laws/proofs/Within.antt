@@ -11,7 +11,7 @@ use Rattle.plan_model.specs.Bounds.{seconds_per_day}
 use Rattle.stop_times.specs.declared.rows.StopRow.{StopRow}
 use Rattle.stop_times.specs.StopTimeBounds.{end_of_times}
 use Rattle.trip_frequencies.specs.declared.frequencies.FrequencyRow.{FrequencyRow}
-use Rattle.gtfs_tables.specs.TripRepeats.{repeat_at}
+use Rattle.gtfs_tables.specs.Timed.{repeat_at}
 use Rattle.connections.specs.Window.{window_of, day_at, holds}
 use Rattle.connections.specs.Origins.{origin_of_day}
 use Rattle.connections.specs.Steps.{departs, steps_of, has_connection}

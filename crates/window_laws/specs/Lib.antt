@@ -1,4 +1,3 @@
 pub mod MoreTrips
 pub mod NewTrip
-pub mod MoreRows
 pub mod MoreFiles

@@ -10,7 +10,7 @@ use Rattle.journey_problem.specs.FeedProblems.{GtfsFolder}
 use Rattle.delay_table.specs.DelayLists.{DelayLists}
 use Rattle.plan_model.specs.NameLists.{NameLists}
 use Rattle.plan_model.specs.Network.{IsValid}
-use Rattle.plan_model.specs.NetworkModel.{NetworkModel}
+use Rattle.plan_model.specs.Network.{NetworkModel}
 use Rattle.plan_model.specs.declared.model.Way.{Way}
 use Rattle.connections.specs.Cut.{IsNetworkFrom}
 use Rattle.connections.specs.TripRuns.{frequencies_of}

@@ -3,12 +3,11 @@ ghost use Rattle.std.specs.Prelude.{◌≡◌, ◌≤◌, ℕ, Option, length};
 ghost use Rattle.delay_table.specs.DelayLists.{DelayLists};
 ghost use Rattle.gtfs_tables.specs.Feeds.{IsSoundFeed};
 ghost use Rattle.journey_problem.specs.FeedProblems.{GtfsFolder};
-ghost use Rattle.plan_model.specs.NetworkModel.{NetworkModel};
+ghost use Rattle.plan_model.specs.Network.{NetworkModel};
 ghost use Rattle.plan_model.specs.Strategy.{IsLeastWorst};
 ghost use Rattle.plan_model.specs.declared.model.Moment.{Moment as At};
 ghost use Rattle.service_laws.specs.Changed.{own};
-ghost use Rattle.service_laws.specs.Embeds.{EmbedsAlike, IsNoLaterThan};
-ghost use Rattle.service_laws.specs.SafeToo.{IsSafeToo, IsAsGood, IsNoWorse};
+ghost use Rattle.service_laws.specs.Embeds.{EmbedsAlike, IsNoLaterThan, IsSafeToo, IsAsGood, IsNoWorse};
 ghost use Rattle.window_laws.specs.MoreTrips.{HasAllOf, Timetable, IsPartOf, IsNetworkOf};
 ghost use Rattle.window_laws.specs.NewTrip.{NewTrip, with_trip};
 

@@ -10,11 +10,9 @@ ghost use Rattle.journey_problem.specs.FeedProblems.{GtfsFolder, IsFolder};
 ghost use Rattle.plan_model.specs.Strategy.{IsLeastWorst};
 ghost use Rattle.plan_model.specs.declared.model.Moment.{Moment as At};
 ghost use Rattle.service_laws.specs.Changed.{own};
-ghost use Rattle.service_laws.specs.Embeds.{EmbedsAlike, IsNoLaterThan};
-ghost use Rattle.service_laws.specs.SafeToo.{IsSafeToo, IsAsGood};
-ghost use Rattle.table_files.specs.Required.{Records};
-ghost use Rattle.window_laws.specs.MoreFiles.{HasMoreRows, AreMoreAndLess};
-ghost use Rattle.window_laws.specs.MoreRows.{HasRows, AddsRows};
+ghost use Rattle.service_laws.specs.Embeds.{EmbedsAlike, IsNoLaterThan, IsSafeToo, IsAsGood};
+ghost use Rattle.table_files.specs.Loading.{Records};
+ghost use Rattle.window_laws.specs.MoreFiles.{HasMoreRows, AreMoreAndLess, HasRows, AddsRows};
 ghost use Rattle.window_laws.specs.MoreTrips.{HasAllOf};
 
 /// A law, with no code: a folder that has the rows of another and more trips has all that is in it.

@@ -1,5 +1,5 @@
 use Rattle.change_times.proofs.Common.{◌≡◌, None, bad_transfer, AreCollected}
-use Rattle.csv_rows.specs.First.{first_below}
+use Rattle.csv_rows.specs.Lists.{first_below}
 use Rattle.change_times.proofs.changes.collect.Given as goal
 
 abbrev pub invariant-loop-i : goal.invariant-loop-i

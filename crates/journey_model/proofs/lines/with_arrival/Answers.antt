@@ -1,6 +1,6 @@
 use Rattle.std.proofs.Common.{◌∙◌, codes}
 use Rattle.clock_text.specs.Civil.{moment_text}
-use Rattle.printed_rows.specs.Writers.{place_name}
+use Rattle.printed_rows.specs.Records.{place_name}
 use Rattle.printed_rows.proofs.Lines.{name_is}
 use Rattle.journey_model.proofs.Pieces.{placed}
 use Rattle.journey_model.proofs.lines.with_arrival.Goals as goal
