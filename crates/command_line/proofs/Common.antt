@@ -8,6 +8,7 @@ pub use Rattle.std.specs.List.{list_all, position_or_len}
 pub use Rattle.command_line.specs.Options.{all_options, option_name, option_named}
 pub use Rattle.command_line.specs.Settings.{Setting, is_new, spelled, text_of}
 unfoldable pub use Rattle.command_line.specs.Settings.{are_settings, value_in, value_of}
-pub use Rattle.command_line.specs.Values.{are_delays, delay_in, is_delay, last_until, longest_promise, moment_of, pieces}
+pub use Rattle.command_line.specs.Values.{are_delays, delay_in, is_delay, last_until, moment_of, pieces}
+pub use Rattle.command_line.specs.declared.values.TheConstants.{LONGEST_PROMISE}
 pub use Rattle.command_line.specs.declared.options.OptionName.{OptionName}
 pub use Rattle.command_line.specs.declared.options.OptionName.TheVariants.{Alpha, At, By, Cut, Delays, Feed, From, Graph, Horizon, Last, Late, Proof, Size, To, Until}

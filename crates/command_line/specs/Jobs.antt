@@ -8,7 +8,8 @@ use Rattle.command_line.specs.declared.job.WordsFault.TheVariants.{Line, Unknown
 use Rattle.command_line.specs.Options.{all_options, option_number, command_named}
 use Rattle.command_line.specs.Settings.{value_of, text_of, are_settings}
 use Rattle.command_line.specs.Uses.{is_useless, is_missing}
-use Rattle.command_line.specs.Values.{default_alpha, default_horizon, least_size, start_of, promise_at, later_at, alpha_at, horizon_at, size_at, late_at, is_bad, last_until, longest_promise}
+use Rattle.command_line.specs.Values.{default_alpha, default_horizon, least_size, start_of, promise_at, later_at, alpha_at, horizon_at, size_at, late_at, is_bad, last_until}
+use Rattle.command_line.specs.declared.values.TheConstants.{LONGEST_PROMISE}
 use Rattle.command_line.specs.declared.options.Command.TheVariants as command
 
 -- where the connections come from: a cut file, or the folder of a feed, with the hours of departures that are looked at
@@ -156,7 +157,7 @@ IsInTime start (Replay graph late) = Unit {0}
 IsInTime start (Certify alpha) = Unit {0}
 IsInTime start (CheckProof proof) = Unit {0}
 IsInTime start (CheckGraph graph) = Unit {0}
-IsInTime start (Punctual alpha promise) = (start ≤ promise) × (promise ≤ start + longest_promise)
+IsInTime start (Punctual alpha promise) = (start ≤ promise) × (promise ≤ start + LONGEST_PROMISE)
 IsInTime start (Departures until last) = IsLater start until × IsLater start last
 IsInTime start (Latest until) = IsLater start until
 IsInTime start (Reach until) = IsLater start until

@@ -14,10 +14,6 @@ use Rattle.command_line.specs.declared.options.OptionName.TheVariants.{Cut, Feed
 abbrev pub last_until : ℕ
 last_until = LAST_UNTIL
 
--- how long after the start one may promise to be there, in seconds: a week
-abbrev pub longest_promise : ℕ
-longest_promise = LONGEST_PROMISE
-
 -- the percentages of a deadline, and the one that is taken where none is given
 abbrev pub least_alpha : ℕ
 least_alpha = 100
@@ -49,10 +45,6 @@ most_size = 400
 abbrev pub longest_delay : ℕ
 longest_delay = seconds_per_day
 
--- how many delays are taken at most
-abbrev pub most_delays : ℕ
-most_delays = MOST_DELAYS
-
 -- at least so much
 abbrev pub from_on : ℕ → ℕ → Option ℕ
 from_on least n = if nat_le least n then Some n else None
@@ -75,7 +67,7 @@ start_of settings = unwrap_or (start_at (text_of settings At)) first_start
 
 -- a moment by which the journey of settings may be promised to end
 abbrev pub promise_at : List (List ℕ) → Option ℕ
-promise_at settings = moment_of (start_of settings) (start_of settings + longest_promise) (text_of settings By)
+promise_at settings = moment_of (start_of settings) (start_of settings + LONGEST_PROMISE) (text_of settings By)
 
 -- the moment of an option, which is not before the journey of settings begins
 abbrev pub later_at : List (List ℕ) → OptionName → Option ℕ
@@ -114,7 +106,7 @@ delay_in text = unwrap_or (delay_at text) 0
 
 -- one delay or more, not too many
 abbrev pub are_delays : List (List ℕ) → Bool
-are_delays texts = nat_le (length texts) most_delays && list_all is_delay texts
+are_delays texts = nat_le (length texts) MOST_DELAYS && list_all is_delay texts
 
 -- the delays of a text: none, or those joined by commas
 abbrev pub late_at : List ℕ → Option (List ℕ)

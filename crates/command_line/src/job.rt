@@ -3,7 +3,8 @@ ghost use Rattle.std.specs.Prelude.{◌≡◌, ◌≤◌, ◌+◌, map, string_b
 ghost use Rattle.command_line.specs.Jobs.{promise_of, later_of, alpha_of, horizon_of, size_of, source_of, journey_of, check_of, source_or_target, ask_of, wanted_of, job_of, IsInTime, IsJobInTime};
 ghost use Rattle.command_line.specs.Settings.{value_of};
 ghost use Rattle.command_line.specs.Shown.{source_shown, journey_shown, ask_shown, wanted_job, answer_shown};
-ghost use Rattle.command_line.specs.Values.{start_of, number_at, last_until, longest_promise};
+ghost use Rattle.command_line.specs.Values.{start_of, number_at, last_until};
+ghost use Rattle.command_line.specs.declared.values.TheConstants.{LONGEST_PROMISE};
 
 use crate::options::{Command, OptionName, option_word};
 use crate::ranges::{FeedSize, Hours, Percent, Start};
@@ -201,7 +202,7 @@ fn journey_of(settings: &[String]) -> Journey<'_>
 fn promise_of(settings: &[String]) -> Moment
     ensures promise { result.0 ≡ promise_of (map string_bytes settings.now) }
     ensures in_range { (start_of (map string_bytes settings.now) ≤ result.0)
-        × (result.0 ≤ start_of (map string_bytes settings.now) + longest_promise) }
+        × (result.0 ≤ start_of (map string_bytes settings.now) + LONGEST_PROMISE) }
 {
     match read_promise(settings) {
         None => start_of(settings).moment,

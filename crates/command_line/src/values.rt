@@ -1,6 +1,7 @@
 //! The forms of the values.
 ghost use Rattle.std.specs.Prelude.{◌≡◌, ◌≤◌, ◌+◌, option_map, map, string_bytes, is_some, IfSome, IfOk};
-ghost use Rattle.command_line.specs.Values.{last_until, longest_promise, most_delays, moment_of, start_of, promise_at, later_at, number_at, late_at, pieces, is_delay, delay_in, are_delays, has_form};
+ghost use Rattle.command_line.specs.Values.{last_until, moment_of, start_of, promise_at, later_at, number_at, late_at, pieces, is_delay, delay_in, are_delays, has_form};
+ghost use Rattle.command_line.specs.declared.values.TheConstants.{LONGEST_PROMISE, MOST_DELAYS};
 ghost use Rattle.command_line.specs.Jobs.{late_in};
 
 use crate::options::OptionName;
@@ -54,8 +55,8 @@ const MOST_DELAYS: usize = 4_096;
 /// are taken at most.
 pub fn numbers_of_words()
     ensures until { last_until ≡ 13601087999 }
-    ensures promise { longest_promise ≡ 604800 }
-    ensures delays { most_delays ≡ 4096 }
+    ensures promise { LONGEST_PROMISE ≡ 604800 }
+    ensures delays { MOST_DELAYS ≡ 4096 }
 {}
 
 /// The moment of a text, if it is of this range.
@@ -91,7 +92,7 @@ pub(crate) fn start_of(settings: &[String]) -> Start
 pub(crate) fn read_promise(settings: &[String]) -> Option<Moment>
     ensures promise { option_map (λ moment. moment.0) result ≡ promise_at (map string_bytes settings.now) }
     ensures in_range { IfSome result (λ moment. (start_of (map string_bytes settings.now) ≤ moment.0)
-        × (moment.0 ≤ start_of (map string_bytes settings.now) + longest_promise)) }
+        × (moment.0 ≤ start_of (map string_bytes settings.now) + LONGEST_PROMISE)) }
 {
     let start = start_of(settings).moment;
     let text = text_of(settings, OptionName::By);

@@ -4,7 +4,7 @@ ghost use Rattle.plan_model.specs.Bounds.{end_of_time};
 ghost use Rattle.plan_model.specs.Network.{IsValid};
 ghost use Rattle.plan_model.specs.Propositions.{IsValid-prop};
 ghost use Rattle.decision_graph.specs.Planned.{IsNoneSafe};
-ghost use Rattle.late_chance.specs.Chances.{seconds_per_week};
+ghost use Rattle.late_chance.specs.declared.shift.TheConstants.{SECONDS_PER_WEEK};
 ghost use Rattle.late_chance.specs.Punctual.{IsPunctual, asked_for, seen_for};
 ghost use Rattle.decision_graph.specs.LeastChances.{IsLeastChance, IsSeenLater};
 
@@ -36,11 +36,11 @@ pub struct PromisedQuery<'a> {
     /// That the deadline is not before the start.
     pub ghost order: { query.start.0 ≤ query.deadline.0 },
     /// That the start is at least a week after the first of all time.
-    pub ghost week: { seconds_per_week ≤ query.start.0 },
+    pub ghost week: { SECONDS_PER_WEEK ≤ query.start.0 },
     /// That the promised moment is not before the start.
     pub ghost later: { query.start.0 ≤ moment.0 },
     /// That it is at most a week later.
-    pub ghost soon: { moment.0 ≤ query.start.0 + seconds_per_week },
+    pub ghost soon: { moment.0 ≤ query.start.0 + SECONDS_PER_WEEK },
 }
 
 /// The decision graph of a query with the least chance of an arrival after the moment that represents a

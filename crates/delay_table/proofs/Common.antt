@@ -24,7 +24,10 @@ pub use Rattle.plan_model.specs.Bounds.{seconds_per_day}
 pub use Rattle.plan_model.specs.DelayRows.{IsValidRow}
 pub use Rattle.plan_model.specs.NameLists.{Adds, AreDistinct}
 pub use Rattle.plan_model.specs.declared.model.Outcome.{Outcome}
-pub use Rattle.delay_table.specs.DelayBounds.{end_of_types, last_type, most_groups, whole_weight}
+pub use Rattle.delay_table.specs.DelayLists.{end_of_types}
+pub use Rattle.delay_table.specs.declared.lines.TheConstants.{LAST_TYPE}
+pub use Rattle.delay_table.specs.declared.sums.TheConstants.{MOST_GROUPS}
+pub use Rattle.plan_model.specs.declared.units.TheConstants.{WHOLE_WEIGHT}
 pub use Rattle.delay_table.specs.DelayLists.{DelayLists, class_at, hour_class, hour_of, other_class, route_class, type_class}
 unfoldable pub use Rattle.delay_table.specs.DelayLists.{class_for, type_index}
 pub use Rattle.delay_table.specs.Delays.{Line, begins, class_name, class_rows, class_sum, class_type, delay_class_in, delay_rises, fault_after, fault_of, given, group_of, group_sum, group_sum_at}

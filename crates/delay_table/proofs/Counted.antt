@@ -1,6 +1,6 @@
 -- The number of the groups is reported where there are too many, and by no other fault.
 use Rattle.delay_table.proofs.Common.{◌≡◌, ℕ, ◌<◌, ◌+◌, nat_lt, Bool, true, List, length, Option, Some, None, option_map, if◌then◌else◌, arith, cases_Bool, nat_tests, Outcome, first_below}
-use Rattle.delay_table.proofs.Common.{row_count, first-is, option_or, DelayFault, MissingColumn, TooManyClasses, WeightSum, GroupSum, most_groups, Group, Line, class_name, class_rows, class_sum}
+use Rattle.delay_table.proofs.Common.{row_count, first-is, option_or, DelayFault, MissingColumn, TooManyClasses, WeightSum, GroupSum, MOST_GROUPS, Group, Line, class_name, class_rows, class_sum}
 use Rattle.delay_table.proofs.Common.{fault_of, groups_fault, line_fault, missing_column, no_default_of, other_sum, group_outcomes}
 use Rattle.csv_rows.specs.declared.columns.Column.{Column}
 use Rattle.delay_table.specs.Delays.{line_at}
@@ -30,10 +30,10 @@ default-other r n e = grind arith
 counted : (b : Bool) (count n : ℕ) (rest : Option DelayFault) → IsOther rest → option_or (if b then Some (TooManyClasses count) else None) rest ≡ Some (TooManyClasses n) → (n ≡ count) × (b ≡ true)
 counted b count n rest h e = grind (arith, cases_Bool b)
 
-passes : (count : ℕ) → nat_lt most_groups count ≡ true → most_groups < count
+passes : (count : ℕ) → nat_lt MOST_GROUPS count ≡ true → MOST_GROUPS < count
 passes count h = grind (arith, nat_tests)
 
-pub reported-count : (rows : Group → List Outcome) (groups : List Group) (line_of : ℕ → ℕ) (n : ℕ) → groups_fault rows groups line_of ≡ Some (TooManyClasses n) → (n ≡ length groups) × (most_groups < n)
+pub reported-count : (rows : Group → List Outcome) (groups : List Group) (line_of : ℕ → ℕ) (n : ℕ) → groups_fault rows groups line_of ≡ Some (TooManyClasses n) → (n ≡ length groups) × (MOST_GROUPS < n)
 reported-count rows groups line_of n h = grind (arith, either, class-other, first, group_if, default-other, counted, passes)
 
 column_if : (b : Bool) (column : Column) → IsOther (if b then Some (MissingColumn column) else None)

@@ -1,8 +1,8 @@
 -- The classes of a table without a fault are valid.
 use Rattle.delay_table.proofs.Common.{◌≡◌, ℕ, ◌+◌, ◌<◌, ◌≤◌, nat_lt, Bool, true, false, List, [], ◌∷◌, ◌++◌, length, map, get_or, sum_by, Option, Some, None, IfSome, option_map, if◌then◌else◌}
 use Rattle.delay_table.proofs.Common.{refl, sym, ap, ◌∙◌, subst, arith, All, length-append, eqb-true, ltb-false, cases_Bool, get_or_default, length-map, All-cons, All-append, All-map, option_or}
-use Rattle.delay_table.proofs.Common.{Outcome, IsValidRow, first_below, none-both, none-each, DelayFault, TooManyClasses, WeightSum, GroupSum, GroupRows, DelayLists, end_of_types, most_groups}
-use Rattle.delay_table.proofs.Common.{whole_weight, Group, group_in, is_plain, of_class, plain_types, class_name, class_rows, class_sum, delays_in, group_sum, group_sum_at, groups_fault, groups_of}
+use Rattle.delay_table.proofs.Common.{Outcome, IsValidRow, first_below, none-both, none-each, DelayFault, TooManyClasses, WeightSum, GroupSum, GroupRows, DelayLists, end_of_types, MOST_GROUPS}
+use Rattle.delay_table.proofs.Common.{WHOLE_WEIGHT, Group, group_in, is_plain, of_class, plain_types, class_name, class_rows, class_sum, delays_in, group_sum, group_sum_at, groups_fault, groups_of}
 use Rattle.delay_table.proofs.Common.{route_types_below, no_default_of, other_sum, others, too_many_classes, type_rows, type_sum_at, AreGroupsRead, line_at, read_outcomes, AreDelays, IsGroupStart}
 use Rattle.delay_table.proofs.Common.{row_count, first-same, delays_of, first_delay_fault, first_line, firsts, groups_at, line_fault, missing_column, group_outcomes, IsReadTo}
 use mathlib.Core.Path.{fun_ext}
@@ -24,7 +24,7 @@ few_if b e h = grind (arith, cases_Bool b)
 sum_if : (b : Bool) (n : ℕ) → (if b then None else Some n) ≡ None → b ≡ true
 sum_if b n h = grind (arith, cases_Bool b)
 
-sum_right : (r : List Outcome) → 0 < length r → other_sum r ≡ None → sum_by (λ o. o.weight) r ≡ whole_weight
+sum_right : (r : List Outcome) → 0 < length r → other_sum r ≡ None → sum_by (λ o. o.weight) r ≡ WHOLE_WEIGHT
 sum_right r some h = grind (arith, eqb-true, sum_by, sum_if)
 
 valid_row : (r : List Outcome) → IsGroupStart r → 0 < length r → other_sum r ≡ None → IsValidRow r
@@ -81,8 +81,8 @@ module _ (groups : List Group) (read : List GroupRows) (is : AreGroupsRead group
   default_valid : IsValidRow (class_rows own None)
   default_valid = valid_row (class_rows own None) (is.starts (of_class None)) default_there (none_mapped (WeightSum (class_name None)) (other_sum (class_rows own None)) parts.1)
 
-  few : length groups ≤ most_groups
-  few = ltb-false most_groups (length groups) (few_if (nat_lt most_groups (length groups)) (TooManyClasses (length groups)) parts.0)
+  few : length groups ≤ MOST_GROUPS
+  few = ltb-false MOST_GROUPS (length groups) (few_if (nat_lt MOST_GROUPS (length groups)) (TooManyClasses (length groups)) parts.0)
 
   counted : length types + 1 + length (others groups (length groups)) ≡ length groups
   counted = groups-are groups read is size default_there

@@ -6,6 +6,10 @@ use Rattle.csv_rows.specs.Lists.{first_below}
 use Rattle.plan_model.specs.declared.units.TheConstants.{HOURS_PER_DAY, SECONDS_PER_HOUR}
 use Rattle.delay_table.specs.Groups.{Group, group_index}
 
+-- each route type is below it
+abbrev pub end_of_types : ℕ
+end_of_types = 65535
+
 -- the named route types, rising; the groups that name a route or an hour; and the outcomes of class 0, of each route type
 -- and of each such group
 pub record DelayLists : Type 0 where

@@ -15,7 +15,11 @@ use Rattle.delay_table.specs.declared.faults.DelayFault.TheVariants.{MissingColu
 use Rattle.csv_rows.specs.Lists.{first_below}
 use Rattle.csv_rows.specs.Ids.{name_in}
 use Rattle.csv_rows.specs.Tables.{index_of, field, row_count}
-use Rattle.delay_table.specs.DelayBounds.{most_rows, most_groups, last_type, end_of_types, whole_weight}
+use Rattle.delay_table.specs.DelayLists.{end_of_types}
+use Rattle.delay_table.specs.declared.reading.TheConstants.{MOST_ROWS}
+use Rattle.delay_table.specs.declared.sums.TheConstants.{MOST_GROUPS}
+use Rattle.delay_table.specs.declared.lines.TheConstants.{LAST_TYPE}
+use Rattle.plan_model.specs.declared.units.TheConstants.{WHOLE_WEIGHT}
 use Rattle.delay_table.specs.declared.lines.TheConstants.{LAST_HOUR}
 use Rattle.delay_table.specs.DelayLists.{DelayLists}
 use Rattle.delay_table.specs.Groups.{Group, of_class, group_in, is_plain, same_group}
@@ -39,7 +43,7 @@ class_type (Route route) = Some route
 
 -- `*`, or a route type
 abbrev pub delay_class_in : List ℕ → Option (Option ℕ)
-delay_class_in text = if bytes_eq text (codes "*") then Some None else option_map Some (whole_of last_type text)
+delay_class_in text = if bytes_eq text (codes "*") then Some None else option_map Some (whole_of LAST_TYPE text)
 
 -- a whole number from 1 on
 abbrev pub not_zero : Option ℕ → Option ℕ
@@ -64,7 +68,7 @@ abbrev pub line_from : (class delay weight route hour : List ℕ) → Option Lin
 line_from class delay weight route hour =
     given (delay_class_in class) (λ class'.
     given (whole_of seconds_per_day delay) (λ delay'.
-    given (not_zero (whole_of whole_weight weight)) (λ weight'.
+    given (not_zero (whole_of WHOLE_WEIGHT weight)) (λ weight'.
     given (route_in class' route) (λ route'.
     given (hour_in hour) (λ hour'.
     Some (record {
@@ -105,7 +109,7 @@ too_many group number = if is_plain group then TooManyRows (class_name group.cla
 -- the fault of a row after these of its group
 abbrev pub fault_after : List Outcome → Line → ℕ → Option DelayFault
 fault_after earlier line number =
-    if nat_le most_rows (length earlier) then Some (too_many line.group number)
+    if nat_le MOST_ROWS (length earlier) then Some (too_many line.group number)
     else if delay_rises (slice_get earlier (length earlier - 1)) line.outcome.delay then None
     else Some (NotRising number)
 
@@ -141,12 +145,12 @@ unfoldable pub groups_at : List (List (List ℕ)) → List ℕ → List Group
 groups_at t rows = map (λ i. group_of (line_at t i)) rows
 
 abbrev pub too_many_classes : ℕ → Option DelayFault
-too_many_classes count = if nat_lt most_groups count then Some (TooManyClasses count) else None
+too_many_classes count = if nat_lt MOST_GROUPS count then Some (TooManyClasses count) else None
 
 -- the sum of the weights of outcomes, where there are some and it is not the whole
 abbrev pub other_sum : List Outcome → Option ℕ
 other_sum [] = None
-other_sum (o ∷ os) = if sum_by (λ o. o.weight) (o ∷ os) == whole_weight then None else Some (sum_by (λ o. o.weight) (o ∷ os))
+other_sum (o ∷ os) = if sum_by (λ o. o.weight) (o ∷ os) == WHOLE_WEIGHT then None else Some (sum_by (λ o. o.weight) (o ∷ os))
 
 -- the outcomes of a class alone, and those of a route type
 abbrev pub class_rows : (Group → List Outcome) → Option ℕ → List Outcome

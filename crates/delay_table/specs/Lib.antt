@@ -1,4 +1,3 @@
-pub mod DelayBounds
 pub mod Groups
 pub mod DelayLists
 pub mod FaultTexts

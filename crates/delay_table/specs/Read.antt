@@ -4,7 +4,7 @@ use Rattle.plan_model.specs.declared.model.Outcome.{Outcome}
 use Rattle.delay_table.specs.declared.reading.GroupRows.{GroupRows}
 use Rattle.delay_table.specs.Delays.{Line, group_outcomes, firsts, groups_at}
 use Rattle.delay_table.specs.Groups.{Group, group_in, same_group, group_index}
-use Rattle.delay_table.specs.DelayBounds.{end_of_types}
+use Rattle.delay_table.specs.DelayLists.{end_of_types}
 use Rattle.delay_table.specs.Slots.{IsGroupStart}
 
 abbrev pub no_rows : GroupRows

@@ -3,7 +3,8 @@ use Rattle.std.specs.Prelude.{◌≡◌, ℕ, ◌+◌, ◌<◌, ◌≤◌, List,
 use Rattle.plan_model.specs.declared.model.Outcome.{Outcome}
 use Rattle.plan_model.specs.DelayRows.{IsValidRow}
 use Rattle.plan_model.specs.Bounds.{seconds_per_day}
-use Rattle.delay_table.specs.DelayBounds.{most_rows, most_groups}
+use Rattle.delay_table.specs.declared.reading.TheConstants.{MOST_ROWS}
+use Rattle.delay_table.specs.declared.sums.TheConstants.{MOST_GROUPS}
 use Rattle.delay_table.specs.DelayLists.{DelayLists}
 
 abbrev pub slot : List (List Outcome) → ℕ → List Outcome
@@ -11,7 +12,7 @@ slot slots c = slice_index_or slots c []
 
 -- what holds of the outcomes of a group before its last row
 pub record IsGroupStart (r : List Outcome) : Type 0 where
-  pub few : length r ≤ most_rows
+  pub few : length r ≤ MOST_ROWS
   pub rising : AllPairs (λ a b. a.delay < b.delay) r
   pub delays : All (λ o. o.delay ≤ seconds_per_day) r
   pub weights : All (λ o. 1 ≤ o.weight) r
@@ -19,7 +20,7 @@ pub record IsGroupStart (r : List Outcome) : Type 0 where
 -- the route types rise, and each class has a valid row
 pub record AreDelays (f : DelayLists) : Type 0 where
   pub rising : (i j : ℕ) → i < j → j < length f.types → slice_index_or f.types i 0 < slice_index_or f.types j 0
-  pub few : length f.classes ≤ most_groups
+  pub few : length f.classes ≤ MOST_GROUPS
   pub each : length f.classes ≡ length f.types + 1 + length f.others
   pub rows : (k : ℕ) → k < length f.classes → IsValidRow (slice_index_or f.classes k [])
 

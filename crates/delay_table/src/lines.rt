@@ -3,7 +3,7 @@ ghost use Rattle.std.specs.Prelude.{◌≡◌, ◌<◌, ◌≤◌, option_map, I
 ghost use Rattle.csv_rows.specs.Tables.{row_count};
 ghost use Rattle.clock_text.specs.Digits.{whole_of};
 ghost use Rattle.plan_model.specs.Bounds.{seconds_per_day};
-ghost use Rattle.delay_table.specs.DelayBounds.{whole_weight};
+ghost use Rattle.plan_model.specs.declared.units.TheConstants.{WHOLE_WEIGHT};
 ghost use Rattle.delay_table.specs.Delays.{delay_class_in, hour_in, not_zero, route_in, class_name, column_fault, line_from, line_at, missing_column};
 ghost use Rattle.delay_table.specs.DelayColumns.{AreDelayColumns};
 
@@ -119,7 +119,7 @@ fn read_hour(text: &[u8]) -> Option<Option<u8>>
 
 /// A weight, which is 1 or more.
 fn read_weight(text: &[u8]) -> Option<u16>
-    ensures { result ≡ not_zero (whole_of whole_weight text.now) }
+    ensures { result ≡ not_zero (whole_of WHOLE_WEIGHT text.now) }
 {
     let weight = read_whole(text, WHOLE_WEIGHT)?;
     if weight == 0 {

@@ -1,7 +1,8 @@
 //! The faults of the groups of a whole delay file.
 ghost use Rattle.std.specs.Prelude.{◌≡◌, ◌≤◌, length};
 ghost use Rattle.csv_rows.specs.Lists.{first_below};
-ghost use Rattle.delay_table.specs.DelayBounds.{end_of_types, most_rows};
+ghost use Rattle.delay_table.specs.DelayLists.{end_of_types};
+ghost use Rattle.delay_table.specs.declared.reading.TheConstants.{MOST_ROWS};
 ghost use Rattle.delay_table.specs.Delays.{class_sum, group_sum_at, groups_fault, route_types_below, no_default_of, other_sum, too_many_classes, type_sum_at};
 ghost use Rattle.delay_table.specs.Read.{line_at, read_outcomes};
 
@@ -15,7 +16,7 @@ const MOST_GROUPS: u64 = 1 << 16;
 
 /// The sum of the weights of a row, if there is one and it is not the whole.
 fn other_sum(row: &[Outcome]) -> Option<u32>
-    requires { length row.now ≤ most_rows }
+    requires { length row.now ≤ MOST_ROWS }
     ensures { result ≡ other_sum row.now }
 {
     if row.is_empty() {

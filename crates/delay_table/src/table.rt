@@ -1,7 +1,7 @@
 //! The delays by class.
 ghost use Rattle.std.specs.Prelude.{ℕ, ◌≡◌, ◌≢◌, ◌<◌, ◌≤◌, ◌++◌, ◌∷◌, List, [], length, map, slice_index_or, option_map, Some, None, All, Any, Contains, OnOk, IfOk, IfErr, IfSome, IfNone};
 ghost use Rattle.delay_table.specs.DelayLists.{class_at, class_for, hour_of, other_class, route_class, type_class};
-ghost use Rattle.delay_table.specs.DelayBounds.{most_groups};
+ghost use Rattle.delay_table.specs.declared.sums.TheConstants.{MOST_GROUPS};
 ghost use Rattle.delay_table.specs.Delays.{class_rows, class_type, delays_in, delays_of, first_delay_fault, groups_fault, groups_of, others, type_rows};
 ghost use Rattle.delay_table.specs.Groups.{numbered_route, routes_of};
 ghost use Rattle.delay_table.specs.Read.{line_at, read_outcomes};
@@ -126,7 +126,7 @@ fn table_of(alloc: Global, key: HashKey, read: &ReadRows<'_>) -> Result<DelayTab
         → groups_fault (read_outcomes read.now.groups read.now.rows.items)
         read.now.groups (line_at read.now.rows.items) ≡ Some f) }
     ensures count { IfErr result (λ f. (n : ℕ) → f ≡ DelayFault.TooManyClasses n
-        → (n ≡ length read.now.groups) × (most_groups < n)) }
+        → (n ≡ length read.now.groups) × (MOST_GROUPS < n)) }
 {
     let types = named_types(alloc, read)?;
     if let Some(fault) = groups_fault(read, types.as_slice()) {
@@ -170,7 +170,7 @@ impl DelayTable {
         ensures none { OnOk result (first_delay_fault rows.now ≡ None) }
         ensures fault { IfErr result (λ f. f ≢ DelayFault.NoMemory → first_delay_fault rows.now ≡ Some f) }
         ensures count { IfErr result (λ f. (n : ℕ) → f ≡ DelayFault.TooManyClasses n
-            → (n ≡ length (groups_of rows.now)) × (most_groups < n)) }
+            → (n ≡ length (groups_of rows.now)) × (MOST_GROUPS < n)) }
         ensures classes { OnOk result (length (delays_of rows.now).classes
             ≡ length (groups_of rows.now)) }
     {

@@ -1,6 +1,6 @@
 //! The route types that a delay file names.
 ghost use Rattle.std.specs.Prelude.{◌≡◌, length, IfOk};
-ghost use Rattle.delay_table.specs.DelayBounds.{end_of_types};
+ghost use Rattle.delay_table.specs.DelayLists.{end_of_types};
 ghost use Rattle.delay_table.specs.Delays.{route_types_below};
 ghost use Rattle.delay_table.specs.Groups.{plain_types};
 ghost use Rattle.delay_table.specs.Read.{read_outcomes};

@@ -6,7 +6,7 @@ ghost use Rattle.plan_graph.specs.Unfold.{unfold_plan};
 ghost use Rattle.plan_model.specs.Strategy.{IsSafeFor};
 ghost use Rattle.decision_graph.specs.Planned.{IsNoneSafe};
 ghost use Rattle.graph_score.specs.Scores.{IsScored};
-ghost use Rattle.late_chance.specs.Chances.{seconds_per_week};
+ghost use Rattle.late_chance.specs.declared.shift.TheConstants.{SECONDS_PER_WEEK};
 ghost use Rattle.late_chance.specs.Punctual.{IsPunctual};
 ghost use Rattle.decision_graph.specs.LeastChances.{IsSeenLater};
 ghost use Rattle.journey_answers.specs.Answers.{InQuery, IsNoAnswer};
@@ -31,9 +31,9 @@ use std::alloc::Global;
 struct Promise<'a> {
     asked: Asked<'a>,
     moment: Moment,
-    ghost week: { seconds_per_week ≤ asked.query.start.0 },
+    ghost week: { SECONDS_PER_WEEK ≤ asked.query.start.0 },
     ghost later: { asked.query.start.0 ≤ moment.0 },
-    ghost soon: { moment.0 ≤ asked.query.start.0 + seconds_per_week },
+    ghost soon: { moment.0 ≤ asked.query.start.0 + SECONDS_PER_WEEK },
 }
 
 /// A graph that was found for a promise: it fits the network, and its strategy is safe.
@@ -137,7 +137,7 @@ pub fn punctual_over(
     promise: Moment,
 ) -> Answered
     requires later { start.moment.0 ≤ promise.0 }
-    requires soon { promise.0 ≤ start.moment.0 + seconds_per_week }
+    requires soon { promise.0 ≤ start.moment.0 + SECONDS_PER_WEEK }
     ensures answer { IfOk result (λ a. InQuery problem.now start.moment.0 alpha.value
         (AnswersPunctual problem.now promise.0 (findings_of a.report) a.text.items)) }
     ensures fault { IfErr result (IsNoAnswer problem.now start.moment.0) }

@@ -23,7 +23,8 @@ pub use Rattle.plan_model.specs.View.{IsSeen, IsView, all_later_by, later_by}
 pub use Rattle.plan_model.specs.declared.model.Outcome.{Outcome}
 pub use Rattle.plan_model.specs.declared.model.Query.{Query}
 pub use Rattle.value_laws.specs.Spans.{rounded_down, rounded_up, sum_down, sum_up}
-pub use Rattle.late_chance.specs.Chances.{itself, promised, seconds_per_week}
+pub use Rattle.late_chance.specs.Chances.{itself, promised}
+pub use Rattle.late_chance.specs.declared.shift.TheConstants.{SECONDS_PER_WEEK}
 pub use Rattle.late_chance.specs.LaterGraphs.{IsShown, LaterAlike, later_graph, later_query, later_row, later_table}
 pub use Rattle.late_chance.specs.Punctual.{IsAboutNetwork, IsPunctual, PunctualAlike, asked_for, seen_for, shift_for}
 pub use Rattle.late_chance.specs.Punctual.{shifted_connection, shifted_parts}

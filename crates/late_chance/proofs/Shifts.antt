@@ -1,6 +1,6 @@
 -- From a graph over the network that is seen for a promise to one over the network.
 use Rattle.late_chance.proofs.Common.{◌≡◌, ℕ, ◌+◌, ◌-◌, ◌<◌, ◌≤◌, ◌^◌, All, get_or, Some, subst, refl, arith, Interval, Query, end_of_arrivals, end_of_time, NetworkModel, IsValid, Tree, IsSafeFor}
-use Rattle.late_chance.proofs.Common.{later_by, limit_of-some, start_there, GraphRow, PlanGraph, IsTidy, IsFitRow, promised, seconds_per_week, later_graph, later_query, IsShown, IsPunctual}
+use Rattle.late_chance.proofs.Common.{later_by, limit_of-some, start_there, GraphRow, PlanGraph, IsTidy, IsFitRow, promised, SECONDS_PER_WEEK, later_graph, later_query, IsShown, IsPunctual}
 use Rattle.late_chance.proofs.Common.{PunctualAlike, IsAboutNetwork, shift_for, seen_for, asked_for}
 use Rattle.plan_model.specs.declared.model.PlaceId.{PlaceId}
 use Rattle.late_chance.proofs.SeenFrom.{valid, view}
@@ -16,7 +16,7 @@ early_row : (n : NetworkModel) → IsValid n → (place : ℕ) (row : GraphRow) 
 early_row n v place row fit = grind (arith, limit_of-some)
 
 module _ (m : NetworkModel) (q : Query) (promise : ℕ) (v : IsValid m) (early : q.start.0 < end_of_time) (order : q.start.0 ≤ q.deadline.0)
-    (past : seconds_per_week ≤ promise) (later : q.start.0 ≤ promise) (soon : promise ≤ q.start.0 + seconds_per_week) where
+    (past : SECONDS_PER_WEEK ≤ promise) (later : q.start.0 ≤ promise) (soon : promise ≤ q.start.0 + SECONDS_PER_WEEK) where
   abbrev shift : ℕ
   shift = shift_for promise
 

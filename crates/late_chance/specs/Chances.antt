@@ -9,12 +9,9 @@ use Rattle.value_laws.specs.Spans.{span_scoring}
 use Rattle.value_laws.specs.SpanLaws.{span_laws}
 use Rattle.clock_text.specs.Digits.{digits}
 
-abbrev pub seconds_per_week : ℕ
-seconds_per_week = SECONDS_PER_WEEK
-
 -- the moment that represents the promised one: a week after the first of all time
 abbrev pub promised : ℕ
-promised = seconds_per_week
+promised = SECONDS_PER_WEEK
 
 -- a span as clauses see a chance
 abbrev pub itself : Interval → Interval

@@ -15,7 +15,7 @@ ghost use Rattle.plan_model.specs.View.{IsView, SafeAlike};
 ghost use Rattle.plan_graph.specs.declared.PlanGraph.{PlanGraph};
 ghost use Rattle.plan_graph.specs.Tidy.{IsTidy};
 ghost use Rattle.plan_graph.specs.Unfold.{unfold_plan};
-ghost use Rattle.late_chance.specs.Chances.{seconds_per_week};
+ghost use Rattle.late_chance.specs.declared.shift.TheConstants.{SECONDS_PER_WEEK};
 ghost use Rattle.late_chance.specs.LaterGraphs.{IsShown, LaterAlike};
 ghost use Rattle.late_chance.specs.Punctual.{shifted_parts, IsPunctual, PunctualAlike, IsAboutNetwork};
 ghost use Rattle.interval_fixed.specs.Interval.{Interval};
@@ -53,12 +53,12 @@ pub fn punctual_in_view()
 /// network for its own query and promise; and if nothing is safe in the one, nothing is in the other.
 pub fn punctual_by_shift()
     ensures { (m : NetworkModel) (q : Query) (promise : ℕ) → IsValid m → q.start.0 < end_of_time → q.start.0 ≤ q.deadline.0 →
-        seconds_per_week ≤ promise → q.start.0 ≤ promise → promise ≤ q.start.0 + seconds_per_week → IsAboutNetwork m q promise }
+        SECONDS_PER_WEEK ≤ promise → q.start.0 ≤ promise → promise ≤ q.start.0 + SECONDS_PER_WEEK → IsAboutNetwork m q promise }
 {}
 
 /// A law, with no code: the seconds of a week, which are the moment that represents a promise.
 pub fn week_is_seven_days()
-    ensures { seconds_per_week ≡ 604800 }
+    ensures { SECONDS_PER_WEEK ≡ 604800 }
 {}
 
 /// A law, with no code: if the promised moment is not before the deadline, both bounds are 0.

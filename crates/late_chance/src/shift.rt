@@ -2,7 +2,7 @@
 ghost use Rattle.std.specs.Prelude.{◌≡◌, ◌+◌, ◌-◌, ◌^◌, ◌<◌, ◌≤◌, All, IfOk, map};
 ghost use Rattle.plan_model.specs.Network.{IsValid};
 ghost use Rattle.plan_model.specs.View.{IsView};
-ghost use Rattle.late_chance.specs.Chances.{seconds_per_week};
+ghost use Rattle.late_chance.specs.declared.shift.TheConstants.{SECONDS_PER_WEEK};
 ghost use Rattle.late_chance.specs.LaterGraphs.{later_row, later_graph, sooner_query};
 ghost use Rattle.late_chance.specs.Punctual.{shifted_connection, shifted_parts};
 
@@ -104,9 +104,9 @@ pub fn shifted(
     start: Moment,
     promise: Moment,
 ) -> Result<Network, NoMemory>
-    requires { promise.0 ≤ start.0 + seconds_per_week }
-    ensures parts { IfOk result (λ seen. seen ≡ shifted_parts (promise.0 - seconds_per_week) start.0 network.now) }
-    ensures view { IfOk result (λ seen. IsView seen network.now (promise.0 - seconds_per_week) start.0) }
+    requires { promise.0 ≤ start.0 + SECONDS_PER_WEEK }
+    ensures parts { IfOk result (λ seen. seen ≡ shifted_parts (promise.0 - SECONDS_PER_WEEK) start.0 network.now) }
+    ensures view { IfOk result (λ seen. IsView seen network.now (promise.0 - SECONDS_PER_WEEK) start.0) }
 {
     let shift = promise.0.saturating_sub(SECONDS_PER_WEEK);
     let connections = seen_connections(alloc, network, start, shift)?;

@@ -1,6 +1,6 @@
 //! The plain values against those of the scans and the plans.
 ghost use Rattle.std.specs.Prelude.{◌<◌, ◌≤◌, ◌+◌, length};
-ghost use Rattle.late_chance.specs.Chances.{seconds_per_week};
+ghost use Rattle.late_chance.specs.declared.shift.TheConstants.{SECONDS_PER_WEEK};
 ghost use Rattle.plan_model.specs.Bounds.{end_of_time};
 
 use crate::made::{FIRST, Numbers, cut_text, delay_text};
@@ -188,7 +188,7 @@ fn compare_worst(
 fn promised<'a>(network: &'a Network, query: &Query) -> PromisedQuery<'a>
     requires source { query.now.source.0 < length network.now.change }
     requires target { query.now.target.0 < length network.now.change }
-    requires week { seconds_per_week ≤ query.now.start.0 }
+    requires week { SECONDS_PER_WEEK ≤ query.now.start.0 }
     requires start { query.now.start.0 < end_of_time }
     requires order { query.now.start.0 ≤ query.now.deadline.0 }
 {
@@ -213,7 +213,7 @@ fn compare(
 ) -> Result<bool, Fail>
     requires source { source.0 < length network.now.change }
     requires target { target.0 < length network.now.change }
-    requires week { seconds_per_week ≤ start.0 }
+    requires week { SECONDS_PER_WEEK ≤ start.0 }
     requires start { start.0 < end_of_time }
 {
     let found = compare_worst(alloc, network, source, target, start)?;
