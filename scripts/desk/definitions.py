@@ -64,6 +64,23 @@ def kind_of(head: str) -> str:
     return next((kind for kind in ("mutual", "module", "data") if kind in words[:3]), "")
 
 
+def taken(module: str, group: str) -> Iterator[tuple[str, str]]:
+    """What a `use` of a module takes by a group of names, each with its module. A group may have groups of modules below it."""
+    depth, part = 0, ""
+    for sign in group + ",":
+        depth += (sign == "{") - (sign == "}")
+        if sign != "," or depth:
+            part += sign
+            continue
+        below, brace, inner = part.strip().partition(".{")
+        if brace:
+            yield from taken(f"{module}.{below}", inner[:-1])
+        else:
+            path, _, name = below.rpartition(".")
+            yield f"{module}.{path}".rstrip("."), name
+        part = ""
+
+
 class Module:
     """A file of definitions: these by their names, and what it takes from elsewhere, each as a module and a name there."""
 
@@ -98,9 +115,9 @@ class Module:
         module, names, alias = found.groups() if found else ("", "", "")
         if alias:
             self.used[alias] = module, ""
-        for name in (names or "").split(", "):
+        for home, name in taken(module, names or ""):
             there, _, here = name.partition(" as ")
-            self.used[(here or there).strip("◌").partition("◌")[0]] = module, there
+            self.used[(here or there).strip("◌").partition("◌")[0]] = home, there
 
 
 def taken_by(path: str) -> dict[str, str]:

@@ -1,24 +1,13 @@
 -- The change time of each place of a feed, and the links between places.
-use Rattle.std.specs.Prelude.{◌≡◌, ℕ, ◌<◌, ◌≤◌, max, nat_eq, List, length, All, count_by, is_none, Option, None, Some, Result}
-use Rattle.std.specs.Map.{lookup}
-use Rattle.plan_model.specs.Results.{and_then, unless}
+use Rattle.std.specs.{Prelude.{◌≡◌, ℕ, ◌<◌, ◌≤◌, max, nat_eq, List, length, All, count_by, is_none, Option, None, Some, Result}, Map.lookup}
+use Rattle.plan_model.specs.{Results.{and_then, unless}, declared.model.Way.Way}
 use Rattle.file_ports.specs.Ports.{FileMap}
-use Rattle.csv_rows.specs.declared.feed_tables.Table.{Table}
-use Rattle.csv_rows.specs.declared.feed_tables.Table.TheVariants.{Transfers}
-use Rattle.csv_rows.specs.declared.feed_tables.FeedFault.{FeedFault}
-use Rattle.table_files.specs.declared.loading.Loaded.{Loaded}
-use Rattle.table_files.specs.declared.loading.Loaded.TheVariants.{Absent, NoRecord, Found}
-use Rattle.csv_rows.specs.declared.limits.Limits.{Limits}
-use Rattle.csv_rows.specs.Lists.{list_below}
+use Rattle.csv_rows.specs.{declared.{feed_tables.{Table.{Table, TheVariants.Transfers}, FeedFault.FeedFault}, limits.Limits.Limits}, Lists.list_below}
 use Rattle.csv_rows.specs.Tables.{row_count}
-use Rattle.table_files.specs.Loading.{load_in, loaded_rows}
-use Rattle.plan_model.specs.declared.model.Way.{Way}
-use Rattle.table_files.specs.Loading.{Records}
+use Rattle.table_files.specs.{declared.loading.Loaded.{Loaded, TheVariants.{Absent, NoRecord, Found}}, Loading.{load_in, loaded_rows, Records}}
 use Rattle.gtfs_tables.specs.Feeds.{FeedParts}
-use Rattle.change_times.specs.Transfers.{transfer_reported_by, transfers_fault}
-use Rattle.change_times.specs.Walks.{greatest_below}
-use Rattle.change_times.specs.Links.{ways_at, ways_below}
-use Rattle.change_times.specs.Walks.{seconds_between, link_between}
+use Rattle.change_times.specs.{Transfers.{transfer_reported_by, transfers_fault}, Walks.{greatest_below, seconds_between, link_between}, Links.ways_at}
+use Rattle.change_times.specs.Links.{ways_below}
 
 -- a change takes a second at least, and 120 if no row says it
 abbrev pub change_seconds : Option ℕ → ℕ

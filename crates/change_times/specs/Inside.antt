@@ -1,11 +1,7 @@
 -- The change times of places and the links between them, as they are kept.
-use Rattle.std.specs.Prelude.{ℕ, ◌≤◌, nat_eq, IfSome}
-use Rattle.plan_model.specs.Bounds.{seconds_per_day}
-use Rattle.std.specs.HashMap.{get}
-use Rattle.change_times.specs.declared.changes.Changes.TheInside.{Inside}
-use Rattle.change_times.specs.Changes.{ChangeParts}
-use Rattle.change_times.specs.Links.{ways_at}
-use Rattle.plan_model.specs.Network.{AreLinksInto}
+use Rattle.std.specs.{Prelude.{ℕ, ◌≤◌, nat_eq, IfSome}, HashMap.get}
+use Rattle.plan_model.specs.{Bounds.seconds_per_day, Network.AreLinksInto}
+use Rattle.change_times.specs.{declared.changes.Changes.TheInside.Inside, Changes.ChangeParts, Links.ways_at}
 
 abbrev pub change_parts_of : Inside → ChangeParts
 change_parts_of c = record { reported = c.seconds.entries; links = c.links.items; passed = c.passed }

@@ -1,22 +1,14 @@
 -- The rows of `transfers.txt`: the forms of their fields (GTFS Schedule reference), their transfers between places, and their faults. Row i is line i + 2.
-use Rattle.std.specs.Prelude.{ℕ, ◌==◌, Bool, true, false, ◌||◌, List, length, Option, Some, None, if◌then◌else◌, codes, ◌+◌, ◌&&◌, slice_index, Result, Ok, option_map, [], ◌∷◌}
-use Rattle.std.specs.Str.{bytes_eq}
-use Rattle.std.specs.Option.{option_or}
-use Rattle.std.specs.Result.{result_err}
+use Rattle.std.specs.Prelude.{ℕ, ◌==◌, Bool, true, false, ◌||◌, List, length, Option, Some, None, if◌then◌else◌, codes, ◌+◌, ◌&&◌, slice_index, Result, Ok}
+use Rattle.std.specs.{Prelude.{option_map, [], ◌∷◌}, Str.bytes_eq, Option.option_or, Result.result_err}
 use Rattle.plan_model.specs.Results.{and_then, require, value_or}
 use Rattle.clock_text.specs.Digits.{optional_seconds_of}
-use Rattle.csv_rows.specs.declared.columns.Column.{Column}
-use Rattle.csv_rows.specs.declared.columns.Column.TheVariants.{FromStopId, ToStopId, TransferType, MinTransferTime, FromRouteId, ToRouteId, FromTripId, ToTripId}
-use Rattle.csv_rows.specs.declared.feed_tables.Table.TheVariants.{Transfers}
-use Rattle.csv_rows.specs.declared.feed_tables.FeedFault.{FeedFault}
-use Rattle.csv_rows.specs.declared.feed_tables.FeedFault.TheVariants.{BadField, UnknownKey}
-use Rattle.csv_rows.specs.Lists.{first_below}
-use Rattle.csv_rows.specs.Ids.{name_in}
-use Rattle.csv_rows.specs.RowFaults.{first_missing}
+use Rattle.csv_rows.specs.declared.columns.Column.{Column, TheVariants.{FromStopId, ToStopId, TransferType, MinTransferTime, FromRouteId, ToRouteId}}
+use Rattle.csv_rows.specs.declared.{columns.Column.TheVariants.{FromTripId, ToTripId}, feed_tables.{Table.TheVariants.Transfers, FeedFault.FeedFault}}
+use Rattle.csv_rows.specs.{declared.feed_tables.FeedFault.TheVariants.{BadField, UnknownKey}, Lists.first_below, Ids.name_in, RowFaults.first_missing}
 use Rattle.csv_rows.specs.Tables.{row_count, number_in, index_of, field_at}
 use Rattle.gtfs_tables.specs.Feeds.{FeedParts}
-use Rattle.change_times.specs.declared.transfers.Transfer.{Transfer}
-use Rattle.change_times.specs.declared.transfers.TransferColumns.{TransferColumns}
+use Rattle.change_times.specs.declared.transfers.{Transfer.Transfer, TransferColumns.TransferColumns}
 
 -- whether a transfer wants a time at least: type 2 does, and an empty type is 0
 abbrev pub is_timed_in : List ℕ → Option Bool

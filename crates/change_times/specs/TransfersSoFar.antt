@@ -1,12 +1,10 @@
 -- What the first rows of a table say, as it is noted.
-use Rattle.std.specs.Prelude.{◌≡◌, ℕ, ◌≤◌, nat_eq, length, IfSome}
+use Rattle.std.specs.{Prelude.{◌≡◌, ℕ, ◌≤◌, nat_eq, length, IfSome}, HashMap.get}
 use Rattle.plan_model.specs.Bounds.{seconds_per_day}
-use Rattle.std.specs.HashMap.{get}
 use Rattle.table_files.specs.Loading.{Records}
 use Rattle.gtfs_tables.specs.Feeds.{FeedParts}
-use Rattle.change_times.specs.declared.changes.TransfersSoFar.{TransfersSoFar}
-use Rattle.change_times.specs.Walks.{walks_of, most_to}
-use Rattle.change_times.specs.Changes.{greatest_change, greatest_link, passed_below}
+use Rattle.change_times.specs.{declared.changes.TransfersSoFar.TransfersSoFar, Walks.{walks_of, most_to}, Changes.{greatest_change, greatest_link}}
+use Rattle.change_times.specs.Changes.{passed_below}
 
 -- it is what the first n rows say, and no seconds are more than a day
 pub record AreCollected (feed : FeedParts) (t : Records) (n : ℕ) (reported : TransfersSoFar) : Type 0 where

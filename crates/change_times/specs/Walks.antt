@@ -1,7 +1,6 @@
 -- What transfers say for changes and for links, and the greatest of it.
 use Rattle.std.specs.Prelude.{ℕ, zero, suc, max, Option, None, Some, ◌==◌, ◌&&◌, List, [], ◌∷◌, slice_index_or, if◌then◌else◌}
-use Rattle.change_times.specs.declared.links.Walk.{Walk}
-use Rattle.change_times.specs.declared.transfers.Transfer.{Transfer}
+use Rattle.change_times.specs.declared.{links.Walk.Walk, transfers.Transfer.Transfer}
 
 -- the greater of two, where they are there
 abbrev pub greater : Option ℕ → Option ℕ → Option ℕ

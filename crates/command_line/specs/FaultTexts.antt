@@ -1,8 +1,6 @@
 -- The texts of refusals of words.
 use Rattle.std.specs.Prelude.{ℕ, List, ◌++◌, codes}
-use Rattle.command_line.specs.declared.job.WordsFault.{WordsFault}
-use Rattle.command_line.specs.declared.job.WordsFault.TheVariants.{Line, UnknownCommand, NotUsed, Missing, BadValue}
-use Rattle.command_line.specs.Options.{option_word}
+use Rattle.command_line.specs.{declared.job.WordsFault.{WordsFault, TheVariants.{Line, UnknownCommand, NotUsed, Missing, BadValue}}, Options.option_word}
 
 -- the text of a fault of the words
 abbrev pub words_fault_text : WordsFault → List ℕ

@@ -1,11 +1,8 @@
 -- The commands and the options by their words.
-use Rattle.std.specs.Prelude.{ℕ, List, [], ◌∷◌, Option, codes, find, ◌==◌}
-use Rattle.std.specs.Option.{option_map_or}
-use Rattle.std.specs.Str.{bytes_eq}
-use Rattle.command_line.specs.declared.options.Command.{Command}
-use Rattle.command_line.specs.declared.options.Command.TheVariants.{Safe, Expand, Plan, Replay, Certify, Check, Punctual, Departures, Latest, Reach, Sample}
-use Rattle.command_line.specs.declared.options.OptionName.{OptionName}
-use Rattle.command_line.specs.declared.options.OptionName.TheVariants.{Cut, Feed, Delays, From, To, At, Alpha, Horizon, Graph, Late, Size, Proof, By, Until, Last}
+use Rattle.std.specs.{Prelude.{ℕ, List, [], ◌∷◌, Option, codes, find, ◌==◌}, Option.option_map_or, Str.bytes_eq}
+use Rattle.command_line.specs.declared.options.Command.{Command, TheVariants.{Safe, Expand, Plan, Replay, Certify, Check, Punctual, Departures, Latest, Reach}}
+use Rattle.command_line.specs.declared.options.{Command.TheVariants.Sample, OptionName.{OptionName, TheVariants.{Cut, Feed, Delays, From, To, At, Alpha}}}
+use Rattle.command_line.specs.declared.options.OptionName.TheVariants.{Horizon, Graph, Late, Size, Proof, By, Until, Last}
 
 -- the word of an option
 abbrev pub option_name : OptionName → List ℕ

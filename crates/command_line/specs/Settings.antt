@@ -1,9 +1,7 @@
 -- A line of words: a command, and pairs of an option and its value.
 use Rattle.std.specs.Prelude.{◌≡◌, ◌≢◌, ℕ, List, [], ◌∷◌, Option, Some, None, Bool, true, false, ◌&&◌, is_none, is_some, unwrap_or, if◌then◌else◌, AllPairs}
-use Rattle.std.specs.List.{flat_map}
-use Rattle.std.specs.Str.{bytes_eq}
-use Rattle.command_line.specs.declared.options.OptionName.{OptionName}
-use Rattle.command_line.specs.Options.{option_name, option_named}
+use Rattle.std.specs.{List.flat_map, Str.bytes_eq}
+use Rattle.command_line.specs.{declared.options.OptionName.OptionName, Options.{option_name, option_named}}
 
 -- an option with its value
 pub record Setting : Type 0 where

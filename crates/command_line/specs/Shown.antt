@@ -1,15 +1,11 @@
 -- A job by what it says.
 use Rattle.std.specs.Prelude.{Result, Ok, Err, option_map}
-use Rattle.command_line.specs.declared.job.WordsFault.{WordsFault}
-use Rattle.command_line.specs.declared.job.Source.{Source}
+use Rattle.command_line.specs.{declared.job.{WordsFault.WordsFault, Source.Source, Journey.Journey, Ask.Ask, Job.Job}, Jobs.{SourceModel, CutFile, FeedFolder}}
+use Rattle.command_line.specs.Jobs.{JourneyModel, AskModel, Safe, Expand, Plan, Replay, Certify, CheckProof, CheckGraph, Punctual, Departures, Latest, Reach}
+use Rattle.command_line.specs.Jobs.{JobModel, Ask as Asks, Sample, late_in}
 use Rattle.command_line.specs.declared.job.Source.TheVariants as source
-use Rattle.command_line.specs.declared.job.Journey.{Journey}
-use Rattle.command_line.specs.declared.job.Ask.{Ask}
 use Rattle.command_line.specs.declared.job.Ask.TheVariants as ask
-use Rattle.command_line.specs.declared.job.Job.{Job}
 use Rattle.command_line.specs.declared.job.Job.TheVariants as job
-use Rattle.command_line.specs.Jobs.{SourceModel, CutFile, FeedFolder, JourneyModel, AskModel, Safe, Expand, Plan, Replay, Certify, CheckProof, CheckGraph}
-use Rattle.command_line.specs.Jobs.{Punctual, Departures, Latest, Reach, JobModel, Ask as Asks, Sample, late_in}
 
 abbrev pub source_shown : Source → SourceModel
 source_shown (source.Cut path) = CutFile path.now

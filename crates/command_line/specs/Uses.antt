@@ -1,14 +1,9 @@
 -- What a command does with each option, and which options of a line it cannot take or are missing.
 use Rattle.std.specs.Prelude.{ℕ, List, Option, Some, None, Bool, true, false, not, ◌&&◌, nat_lt}
-use Rattle.command_line.specs.declared.options.Command.{Command}
+use Rattle.command_line.specs.declared.options.{Command.Command, OptionName.{OptionName, TheVariants.{Cut, Feed, Delays, From, To, At, Alpha, Horizon, Graph}}}
+use Rattle.command_line.specs.declared.options.{OptionName.TheVariants.{Late, Size, Proof, By, Until, Last}, OwnUses.OwnUses, Use.{Use, TheVariants.Needed}}
+use Rattle.command_line.specs.{declared.options.Use.TheVariants.{Optional, Unused, OneOf, With}, Options.option_number, Settings.is_given}
 use Rattle.command_line.specs.declared.options.Command.TheVariants as command
-use Rattle.command_line.specs.declared.options.OptionName.{OptionName}
-use Rattle.command_line.specs.declared.options.OptionName.TheVariants.{Cut, Feed, Delays, From, To, At, Alpha, Horizon, Graph, Late, Size, Proof, By, Until, Last}
-use Rattle.command_line.specs.declared.options.OwnUses.{OwnUses}
-use Rattle.command_line.specs.declared.options.Use.{Use}
-use Rattle.command_line.specs.declared.options.Use.TheVariants.{Needed, Optional, Unused, OneOf, With}
-use Rattle.command_line.specs.Options.{option_number}
-use Rattle.command_line.specs.Settings.{is_given}
 
 -- a command about a journey that takes none of the options which not each such command takes
 abbrev pub no_own : OwnUses

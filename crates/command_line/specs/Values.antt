@@ -1,14 +1,11 @@
 -- The forms of the values.
-use Rattle.std.specs.Prelude.{ℕ, ◌+◌, List, [], ◌∷◌, Option, Some, None, Bool, true, false, not, ◌&&◌, is_some, if◌then◌else◌, nat_le, ◌==◌, map, length, codes, option_and_then, unwrap_or}
-use Rattle.std.specs.List.{slice_split, list_all}
-use Rattle.std.specs.Str.{bytes_eq}
+use Rattle.std.specs.Prelude.{ℕ, ◌+◌, List, [], ◌∷◌, Option, Some, None, Bool, true, false, not, ◌&&◌, is_some, if◌then◌else◌, nat_le, ◌==◌, map, length, codes}
+use Rattle.std.specs.{Prelude.{option_and_then, unwrap_or}, List.{slice_split, list_all}, Str.bytes_eq}
 use Rattle.plan_model.specs.Bounds.{first_start, last_start, seconds_per_day}
-use Rattle.clock_text.specs.Digits.{whole_of}
-use Rattle.clock_text.specs.Times.{moment_at}
-use Rattle.command_line.specs.Settings.{is_given, text_of}
-use Rattle.command_line.specs.declared.values.TheConstants.{LAST_UNTIL, LONGEST_PROMISE, MOST_DELAYS}
-use Rattle.command_line.specs.declared.options.OptionName.{OptionName}
-use Rattle.command_line.specs.declared.options.OptionName.TheVariants.{Cut, Feed, Delays, From, To, At, Alpha, Horizon, Graph, Late, Size, Proof, By, Until, Last}
+use Rattle.clock_text.specs.{Digits.whole_of, Times.moment_at}
+use Rattle.command_line.specs.{Settings.{is_given, text_of}, declared.values.TheConstants.{LAST_UNTIL, LONGEST_PROMISE, MOST_DELAYS}}
+use Rattle.command_line.specs.declared.options.OptionName.{OptionName, TheVariants.{Cut, Feed, Delays, From, To, At, Alpha, Horizon, Graph, Late, Size, Proof}}
+use Rattle.command_line.specs.declared.options.OptionName.TheVariants.{By, Until, Last}
 
 -- the last moment of a deadline, and at which departures are looked for: 2400-12-31T23:59:59
 abbrev pub last_until : ℕ

@@ -2,25 +2,14 @@
 use Rattle.std.specs.Prelude.{ℕ, ◌&&◌, nat_lt, ◌<◌, ◌≤◌, ◌+◌, List, [], ◌∷◌, length, sum_by, if◌then◌else◌}
 use Rattle.plan_model.specs.declared.model.PlaceId.{PlaceId}
 use Rattle.trip_frequencies.specs.declared.frequencies.FrequencyRow.{FrequencyRow}
-use Rattle.stop_times.specs.declared.rows.StopRow.{StopRow}
-use Rattle.gtfs_tables.specs.Feeds.{FeedParts}
-use Rattle.stop_times.specs.StopTimeBounds.{end_of_times}
-use Rattle.gtfs_tables.specs.Timed.{repeat_at}
-use Rattle.gtfs_tables.specs.Timed.{rows_of, kept_at}
+use Rattle.stop_times.specs.{declared.rows.StopRow.StopRow, StopTimeBounds.end_of_times}
+use Rattle.gtfs_tables.specs.{Feeds.FeedParts, Timed.{repeat_at, rows_of, kept_at}}
 use Rattle.run_repeat.specs.Runs.{departure}
 use Rattle.service_days.specs.Services.{ServiceParts}
 use Rattle.change_times.specs.Changes.{ChangeParts, links_of}
-use Rattle.connections.specs.declared.counts.Counted.{Counted}
-use Rattle.connections.specs.declared.counts.Counted.TheVariants.{Connections, Entries}
-use Rattle.connections.specs.declared.origins.ServiceDay.{ServiceDay}
-use Rattle.connections.specs.declared.origins.Origin.{Origin}
-use Rattle.connections.specs.declared.window.Window.{Window}
-use Rattle.connections.specs.Joins.{sum_below}
-use Rattle.connections.specs.Origins.{origin_of_day}
-use Rattle.connections.specs.Window.{holds, day_at}
-use Rattle.connections.specs.Steps.{is_active_trip, departs, steps_of}
-use Rattle.connections.specs.RepeatedRuns.{origin_at, row_repeats}
-use Rattle.connections.specs.TripRuns.{frequencies_of, days}
+use Rattle.connections.specs.declared.{counts.Counted.{Counted, TheVariants.{Connections, Entries}}, origins.{ServiceDay.ServiceDay, Origin.Origin}}
+use Rattle.connections.specs.{declared.window.Window.Window, Joins.sum_below, Origins.origin_of_day, Window.{holds, day_at}, Steps.{is_active_trip, departs}}
+use Rattle.connections.specs.{Steps.steps_of, RepeatedRuns.{origin_at, row_repeats}, TripRuns.{frequencies_of, days}}
 
 -- what the connections of a run with these kept rows add up to, by the places that they leave
 abbrev pub steps_sum : (PlaceId → ℕ) → Window → List StopRow → Origin → ℕ

@@ -1,19 +1,13 @@
 -- The network of a feed from a start on, this many hours long, and when there is none.
-use Rattle.std.specs.Prelude.{ℕ, nat_lt, Option, Some, None, if◌then◌else◌, length}
-use Rattle.std.specs.Option.{option_or}
-use Rattle.csv_rows.specs.declared.limits.Limits.{Limits}
-use Rattle.connections.specs.declared.cuts.WindowFault.{WindowFault}
-use Rattle.connections.specs.declared.cuts.WindowFault.TheVariants.{TooMany, TooManyEntries}
-use Rattle.csv_rows.specs.Lists.{list_below}
-use Rattle.plan_model.specs.NameLists.{NameLists}
-use Rattle.plan_model.specs.Network.{NetworkModel}
+use Rattle.std.specs.{Prelude.{ℕ, nat_lt, Option, Some, None, if◌then◌else◌, length}, Option.option_or}
+use Rattle.csv_rows.specs.{declared.limits.Limits.Limits, Lists.list_below}
+use Rattle.connections.specs.{declared.cuts.WindowFault.{WindowFault, TheVariants.{TooMany, TooManyEntries}}, Window.window_of, Counts.{count_in, entries_in}}
+use Rattle.connections.specs.FeedNetworks.{IsNetworkOf}
+use Rattle.plan_model.specs.{NameLists.NameLists, Network.NetworkModel}
 use Rattle.change_times.specs.Changes.{ChangeParts, place_seconds, links_of}
 use Rattle.delay_table.specs.DelayLists.{DelayLists}
 use Rattle.gtfs_tables.specs.Feeds.{FeedParts}
 use Rattle.service_days.specs.Services.{ServiceParts}
-use Rattle.connections.specs.Window.{window_of}
-use Rattle.connections.specs.Counts.{count_in, entries_in}
-use Rattle.connections.specs.FeedNetworks.{IsNetworkOf}
 
 -- the first fault of a window with this many connections and entries
 abbrev pub window_fault : Limits → (count entries : ℕ) → Option WindowFault

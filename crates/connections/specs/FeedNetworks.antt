@@ -1,24 +1,14 @@
 -- The network of a feed in a window of time, and its names.
-use Rattle.std.specs.Prelude.{◌≡◌, ℕ, ℤ, ◌+◌, ◌<◌, ◌≤◌, List, [], ◌∷◌, ◌++◌, map, length, slice_index, slice_index_or, Option, Some, None, decimal, unsigned_abs}
-use Rattle.plan_model.specs.Bounds.{seconds_per_day}
+use Rattle.std.specs.Prelude.{◌≡◌, ℕ, ℤ, ◌+◌, ◌<◌, ◌≤◌, List, [], ◌∷◌, ◌++◌, map, length, slice_index, slice_index_or, Option, Some, None, decimal}
+use Rattle.std.specs.Prelude.{unsigned_abs}
+use Rattle.plan_model.specs.{Bounds.seconds_per_day, declared.model.{Connection.Connection, Way.Way}, NameLists.NameLists, Network.NetworkModel}
 use Rattle.clock_text.specs.Times.{date_at}
-use Rattle.plan_model.specs.declared.model.Connection.{Connection}
-use Rattle.plan_model.specs.declared.model.Way.{Way}
-use Rattle.plan_model.specs.NameLists.{NameLists}
-use Rattle.plan_model.specs.Network.{NetworkModel}
 use Rattle.delay_table.specs.DelayLists.{DelayLists, class_for}
 use Rattle.stop_times.specs.declared.rows.StopRow.{StopRow}
-use Rattle.gtfs_tables.specs.Feeds.{FeedParts}
-use Rattle.gtfs_tables.specs.Timed.{rows_of, kept_at}
+use Rattle.gtfs_tables.specs.{Feeds.FeedParts, Timed.{rows_of, kept_at}}
 use Rattle.service_days.specs.Services.{ServiceParts}
-use Rattle.connections.specs.declared.origins.Origin.{Origin}
-use Rattle.connections.specs.declared.repeats.Repeat.{Repeat}
-use Rattle.connections.specs.declared.window.Window.{Window}
-use Rattle.connections.specs.declared.runs.Run.{Run}
-use Rattle.connections.specs.Joins.{join_below}
-use Rattle.connections.specs.Origins.{moment_of}
-use Rattle.connections.specs.Steps.{departs}
-use Rattle.connections.specs.TripRuns.{run_steps, run_at, window_runs}
+use Rattle.connections.specs.{declared.{origins.Origin.Origin, repeats.Repeat.Repeat, window.Window.Window, runs.Run.Run}, Joins.join_below, Origins.moment_of}
+use Rattle.connections.specs.{Steps.departs, TripRuns.{run_steps, run_at, window_runs}}
 
 -- when the connection from the k-th kept row to the next arrives
 abbrev pub arrives : List StopRow → Origin → ℕ → ℤ

@@ -1,15 +1,9 @@
 -- What holds of the runs of a feed, and the service days on which its trips may run in a window.
 use Rattle.std.specs.Prelude.{◌≡◌, ℕ, pos, ◌+ℤ◌, ◌≤ℤ◌, ◌<◌, ◌^◌, List, length, Option, Some, None, ◌≤◌, []}
 use Rattle.clock_text.specs.Civil.{last_day}
-use Rattle.gtfs_tables.specs.Feeds.{FeedParts}
-use Rattle.connections.specs.declared.origins.ServiceDay.{ServiceDay}
-use Rattle.connections.specs.declared.repeats.Repeat.{Repeat}
-use Rattle.connections.specs.declared.runs.Run.{Run}
-use Rattle.connections.specs.declared.window.Window.{Window}
-use Rattle.connections.specs.TripRuns.{run_at, run_steps, frequencies_of}
-use Rattle.gtfs_tables.specs.Timed.{rows_of, kept_at}
-use Rattle.connections.specs.Origins.{origin_of_day}
-use Rattle.connections.specs.Steps.{steps_of}
+use Rattle.gtfs_tables.specs.{Feeds.FeedParts, Timed.{rows_of, kept_at}}
+use Rattle.connections.specs.{declared.{origins.ServiceDay.ServiceDay, repeats.Repeat.Repeat, runs.Run.Run, window.Window.Window}, TripRuns.{run_at, run_steps}}
+use Rattle.connections.specs.{TripRuns.frequencies_of, Origins.origin_of_day, Steps.steps_of}
 
 -- a day of the windows: from 1969-12-25 to 9999-12-31
 pub record IsDay (day : ServiceDay) : Type 0 where

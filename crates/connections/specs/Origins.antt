@@ -1,8 +1,7 @@
 -- The moments from which the times of runs count.
 use Rattle.std.specs.Prelude.{ℕ, ℤ, pos, ◌+ℤ◌, ◌*ℤ◌}
 use Rattle.plan_model.specs.Bounds.{seconds_per_day}
-use Rattle.connections.specs.declared.origins.ServiceDay.{ServiceDay}
-use Rattle.connections.specs.declared.origins.Origin.{Origin}
+use Rattle.connections.specs.declared.origins.{ServiceDay.ServiceDay, Origin.Origin}
 
 -- the start of a service day
 abbrev pub origin_of_day : ServiceDay → Origin

@@ -1,17 +1,11 @@
 -- The runs that the rows of frequencies of a trip start on a service day (GTFS Schedule reference).
 use Rattle.std.specs.Prelude.{ℕ, pos, ◌-ℤ◌, ◌&&◌, ◌||◌, ◌==◌, nat_lt, Bool, List, [], ◌∷◌, length, if◌then◌else◌}
 use Rattle.trip_frequencies.specs.declared.frequencies.FrequencyRow.{FrequencyRow}
-use Rattle.stop_times.specs.declared.rows.StopRow.{StopRow}
-use Rattle.stop_times.specs.StopTimeBounds.{end_of_times}
-use Rattle.gtfs_tables.specs.Timed.{repeat_at}
-use Rattle.gtfs_tables.specs.Timed.{kept_at}
+use Rattle.stop_times.specs.{declared.rows.StopRow.StopRow, StopTimeBounds.end_of_times}
+use Rattle.gtfs_tables.specs.Timed.{repeat_at, kept_at}
 use Rattle.run_repeat.specs.Runs.{departure}
-use Rattle.connections.specs.declared.origins.ServiceDay.{ServiceDay}
-use Rattle.connections.specs.declared.origins.Origin.{Origin}
-use Rattle.connections.specs.declared.repeats.Repeat.{Repeat}
-use Rattle.connections.specs.declared.window.Window.{Window}
-use Rattle.connections.specs.Joins.{join_below, only_if}
-use Rattle.connections.specs.Steps.{has_connection}
+use Rattle.connections.specs.{declared.{origins.{ServiceDay.ServiceDay, Origin.Origin}, repeats.Repeat.Repeat, window.Window.Window}, Joins.join_below}
+use Rattle.connections.specs.{Joins.only_if, Steps.has_connection}
 
 -- the m-th run of a row, from 0 on
 abbrev pub repeat_of : FrequencyRow → ℕ → Repeat

@@ -1,12 +1,9 @@
 -- The routes of a feed by their numbers among those that delays name.
 use Rattle.std.specs.Prelude.{◌≡◌, ℕ, List, [], length, slice_index_or, Option}
-use Rattle.csv_rows.specs.Lists.{list_below}
-use Rattle.csv_rows.specs.Tables.{number_in}
-use Rattle.delay_table.specs.DelayLists.{DelayLists, hour_of}
-use Rattle.delay_table.specs.Groups.{routes_of}
+use Rattle.csv_rows.specs.{Lists.list_below, Tables.number_in}
+use Rattle.delay_table.specs.{DelayLists.{DelayLists, hour_of}, Groups.routes_of}
 use Rattle.gtfs_tables.specs.Feeds.{FeedParts}
-use Rattle.connections.specs.FeedNetworks.{route_of, class_of_trip}
-use Rattle.connections.specs.declared.window_connections.HourClass.{HourClass}
+use Rattle.connections.specs.{FeedNetworks.{route_of, class_of_trip}, declared.window_connections.HourClass.HourClass}
 
 -- the number of a route, where the delays name it
 abbrev pub route_number : DelayLists → List ℕ → Option ℕ

@@ -1,15 +1,9 @@
 -- Which kept rows a run leaves in a window.
 use Rattle.std.specs.Prelude.{ℕ, ℤ, ◌-◌, ◌<◌, ◌≤◌, nat_lt, Bool, List, [], length, slice_index_or}
-use Rattle.stop_times.specs.declared.rows.StopRow.{StopRow}
-use Rattle.gtfs_tables.specs.Feeds.{FeedParts}
-use Rattle.stop_times.specs.StopTimeBounds.{end_of_times}
-use Rattle.gtfs_tables.specs.Timed.{kept_at}
+use Rattle.stop_times.specs.{declared.rows.StopRow.StopRow, StopTimeBounds.end_of_times}
+use Rattle.gtfs_tables.specs.{Feeds.FeedParts, Timed.kept_at}
 use Rattle.service_days.specs.Services.{ServiceParts, runs}
-use Rattle.connections.specs.declared.origins.ServiceDay.{ServiceDay}
-use Rattle.connections.specs.declared.origins.Origin.{Origin}
-use Rattle.connections.specs.declared.window.Window.{Window}
-use Rattle.connections.specs.Joins.{join_below, only_if}
-use Rattle.connections.specs.Origins.{moment_of}
+use Rattle.connections.specs.{declared.{origins.{ServiceDay.ServiceDay, Origin.Origin}, window.Window.Window}, Joins.{join_below, only_if}, Origins.moment_of}
 use Rattle.connections.specs.Window.{holds}
 
 -- when a run leaves the k-th kept row of its trip

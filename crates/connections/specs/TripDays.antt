@@ -1,7 +1,6 @@
 -- The services of trips by their numbers.
 use Rattle.std.specs.Prelude.{ℕ, List, [], length, slice_index_or, Option}
-use Rattle.csv_rows.specs.Lists.{list_below}
-use Rattle.csv_rows.specs.Tables.{number_in}
+use Rattle.csv_rows.specs.{Lists.list_below, Tables.number_in}
 use Rattle.gtfs_tables.specs.Feeds.{FeedParts}
 use Rattle.service_days.specs.Services.{ServiceParts}
 

@@ -2,18 +2,11 @@
 use Rattle.std.specs.Prelude.{ℕ, pos, List, [], ◌∷◌, length, map, slice_index_or, Some, None, if◌then◌else◌}
 use Rattle.trip_frequencies.specs.declared.frequencies.FrequencyRow.{FrequencyRow}
 use Rattle.stop_times.specs.declared.rows.StopRow.{StopRow}
-use Rattle.gtfs_tables.specs.Feeds.{FeedParts}
-use Rattle.gtfs_tables.specs.Timed.{rows_of}
+use Rattle.gtfs_tables.specs.{Feeds.FeedParts, Timed.rows_of}
 use Rattle.service_days.specs.Services.{ServiceParts}
-use Rattle.connections.specs.declared.origins.ServiceDay.{ServiceDay}
-use Rattle.connections.specs.declared.repeats.Repeat.{Repeat}
-use Rattle.connections.specs.declared.runs.Run.{Run}
-use Rattle.connections.specs.declared.window.Window.{Window}
-use Rattle.connections.specs.Joins.{join_below, only_if}
-use Rattle.connections.specs.Origins.{origin_of_day}
-use Rattle.connections.specs.Window.{day_at}
-use Rattle.connections.specs.Steps.{has_connection, steps_of, is_active_trip}
-use Rattle.connections.specs.RepeatedRuns.{origin_at, rows_repeats, in_order}
+use Rattle.connections.specs.{declared.{origins.ServiceDay.ServiceDay, repeats.Repeat.Repeat, runs.Run.Run, window.Window.Window}, Joins.{join_below, only_if}}
+use Rattle.connections.specs.{Origins.origin_of_day, Window.day_at, Steps.{has_connection, steps_of, is_active_trip}, RepeatedRuns.{origin_at, rows_repeats}}
+use Rattle.connections.specs.RepeatedRuns.{in_order}
 
 -- the rows of frequencies of a trip
 abbrev pub frequencies_of : FeedParts → ℕ → List FrequencyRow

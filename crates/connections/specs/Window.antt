@@ -1,8 +1,7 @@
 -- A window of time, and the service days whose trips may depart in it.
 use Rattle.std.specs.Prelude.{ℕ, ℤ, pos, ◌+◌, ◌*◌, ◌/◌, ◌-ℤ◌, ◌≤◌, ◌&&◌, int_le, Bool}
 use Rattle.plan_model.specs.Bounds.{first_start, last_start, seconds_per_day}
-use Rattle.connections.specs.declared.origins.ServiceDay.{ServiceDay}
-use Rattle.connections.specs.declared.window.Window.{Window}
+use Rattle.connections.specs.declared.{origins.ServiceDay.ServiceDay, window.Window.Window}
 
 -- from the start to this many hours later, both ends included
 abbrev pub window_of : ℕ → ℕ → Window

@@ -1,9 +1,7 @@
 -- The texts of faults.
 use Rattle.std.specs.Prelude.{ℕ, List, ◌++◌, codes, decimal}
-use Rattle.csv_rows.specs.Columns.{name_of}
-use Rattle.csv_rows.specs.FeedTables.{file_name}
-use Rattle.csv_rows.specs.declared.feed_tables.FeedFault.{FeedFault}
-use Rattle.csv_rows.specs.declared.feed_tables.FeedFault.TheVariants.{Read, TooLong, MissingTable, MissingColumn, BadField, UnknownKey, DuplicateKey, BackwardTime, TooManyRows, NoMemory}
+use Rattle.csv_rows.specs.{Columns.name_of, FeedTables.file_name, declared.feed_tables.FeedFault.{FeedFault, TheVariants.{Read, TooLong, MissingTable}}}
+use Rattle.csv_rows.specs.declared.feed_tables.FeedFault.TheVariants.{MissingColumn, BadField, UnknownKey, DuplicateKey, BackwardTime, TooManyRows, NoMemory}
 
 -- what is wrong at a line of a file
 abbrev pub at_line : (file : List ℕ) → ℕ → (what : List ℕ) → List ℕ

@@ -1,9 +1,8 @@
 -- The tables of a feed by the names of their files.
 use Rattle.std.specs.Prelude.{◌≡◌, ℕ, ◌==◌, Bool, false, List, ◌∷◌, ◌++◌, codes, Option, Some, None, IfSome}
-use Rattle.csv_rows.specs.declared.feed_tables.Table.{Table}
-use Rattle.csv_rows.specs.declared.feed_tables.Table.TheVariants.{Stops, Routes, Trips, StopTimes, Frequencies, Calendar, CalendarDates, Transfers}
-use Rattle.csv_rows.specs.declared.feed_tables.FeedFault.{FeedFault}
-use Rattle.csv_rows.specs.declared.feed_tables.FeedFault.TheVariants.{Read, TooLong, MissingTable, MissingColumn, BadField, UnknownKey, DuplicateKey, BackwardTime, TooManyRows, NoMemory}
+use Rattle.csv_rows.specs.declared.feed_tables.Table.{Table, TheVariants.{Stops, Routes, Trips, StopTimes, Frequencies, Calendar, CalendarDates, Transfers}}
+use Rattle.csv_rows.specs.declared.feed_tables.FeedFault.{FeedFault, TheVariants.{Read, TooLong, MissingTable, MissingColumn, BadField, UnknownKey}}
+use Rattle.csv_rows.specs.declared.feed_tables.FeedFault.TheVariants.{DuplicateKey, BackwardTime, TooManyRows, NoMemory}
 
 -- the name of a table's file
 abbrev pub file_name : Table → List ℕ

@@ -1,9 +1,6 @@
 -- The ways to write records.
-use Rattle.std.specs.Prelude.{◌≡◌, ◌≢◌, ◌⊎◌, ◌==◌, ◌||◌, ℕ, Bool, true, false, List, [], ◌∷◌, ◌++◌}
-use Rattle.std.specs.List.{list_all}
-use Rattle.csv.specs.Machine.{carriage_return, line_feed}
-use Rattle.csv.specs.Reading.{strip_bom}
-use Rattle.csv.specs.Writing.{comma, default_writer, needs_quotes, quoted}
+use Rattle.std.specs.{Prelude.{◌≡◌, ◌≢◌, ◌⊎◌, ◌==◌, ◌||◌, ℕ, Bool, true, false, List, [], ◌∷◌, ◌++◌}, List.list_all}
+use Rattle.csv.specs.{Machine.{carriage_return, line_feed}, Reading.strip_bom, Writing.{comma, default_writer, needs_quotes, quoted}}
 
 -- whether a byte ends a line
 abbrev pub is_line_end : ℕ → Bool

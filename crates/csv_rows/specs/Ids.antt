@@ -1,6 +1,5 @@
 -- Fields that name something, texts, and ids by their numbers.
-use Rattle.std.specs.Prelude.{ℕ, ◌==◌, List, length, Option, Some, None, if◌then◌else◌, All}
-use Rattle.std.specs.Str.{is_utf8}
+use Rattle.std.specs.{Prelude.{ℕ, ◌==◌, List, length, Option, Some, None, if◌then◌else◌, All}, Str.is_utf8}
 use Rattle.plan_model.specs.NameLists.{IsNameList, IsTrimmed}
 
 -- a name is UTF-8 and not empty

@@ -1,7 +1,7 @@
 -- The rows of a table by group, order and position in the file.
-use Rattle.std.specs.Prelude.{◌≡◌, ◌≢◌, ℕ, ◌-◌, ◌<◌, ◌≤◌, ◌==◌, nat_lt, ◌⊎◌, Bool, true, not, ◌&&◌, List, length, slice_index_or, Option, Some, None, if◌then◌else◌}
-use Rattle.csv_rows.specs.Lists.{any_below}
-use Rattle.csv_rows.specs.declared.keys.Key.{Key}
+use Rattle.std.specs.Prelude.{◌≡◌, ◌≢◌, ℕ, ◌-◌, ◌<◌, ◌≤◌, ◌==◌, nat_lt, ◌⊎◌, Bool, true, not, ◌&&◌, List, length, slice_index_or, Option, Some, None}
+use Rattle.std.specs.Prelude.{if◌then◌else◌}
+use Rattle.csv_rows.specs.{Lists.any_below, declared.keys.Key.Key}
 
 abbrev pub no_key : Key
 no_key = record { group = 0; order = 0; row = 0 }

@@ -1,10 +1,8 @@
 -- How much is read at most.
 use Rattle.std.specs.Prelude.{ℕ}
 use Rattle.std.proofs.Common.{le_refl}
-use Rattle.csv_rows.specs.declared.feed_tables.Table.{Table}
-use Rattle.csv_rows.specs.declared.feed_tables.Table.TheVariants.{Stops, Routes, Trips, StopTimes, Frequencies, Calendar, CalendarDates, Transfers}
-use Rattle.csv_rows.specs.declared.limits.Limits.{Limits}
-use Rattle.csv_rows.specs.declared.limits.TheConstants.{MOST_BYTES, MOST_STOPS, MOST_ROUTES, MOST_TRIPS, MOST_STOP_TIMES, MOST_FREQUENCIES}
+use Rattle.csv_rows.specs.declared.feed_tables.Table.{Table, TheVariants.{Stops, Routes, Trips, StopTimes, Frequencies, Calendar, CalendarDates, Transfers}}
+use Rattle.csv_rows.specs.declared.limits.{Limits.Limits, TheConstants.{MOST_BYTES, MOST_STOPS, MOST_ROUTES, MOST_TRIPS, MOST_STOP_TIMES, MOST_FREQUENCIES}}
 use Rattle.csv_rows.specs.declared.limits.TheConstants.{MOST_CALENDAR, MOST_CALENDAR_DATES, MOST_TRANSFERS, MOST_CUT_ROWS, MOST_CONNECTIONS, MOST_ENTRIES}
 
 -- the standard limits

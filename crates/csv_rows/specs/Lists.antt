@@ -1,6 +1,5 @@
 -- The values of a function in a list, and the first of the faults that hold, in the order in which they are listed.
-use Rattle.std.specs.Prelude.{ℕ, zero, suc, List, [], ◌∷◌, ◌++◌, Bool, false, ◌||◌, Option, None}
-use Rattle.std.specs.Option.{option_or}
+use Rattle.std.specs.{Prelude.{ℕ, zero, suc, List, [], ◌∷◌, ◌++◌, Bool, false, ◌||◌, Option, None}, Option.option_or}
 
 -- f at 0, 1 and on below n
 unfoldable pub list_below : {A : Type 0} → (ℕ → A) → ℕ → List A

@@ -1,14 +1,8 @@
 -- The faults that tables have alike. Row i is line i + 2.
-use Rattle.std.specs.Prelude.{◌≡◌, ◌≢◌, ℕ, ◌+◌, List, [], ◌∷◌, Option, None, Some, is_none, Result, MatchResult, if◌then◌else◌}
-use Rattle.std.specs.Option.{option_or}
+use Rattle.std.specs.{Prelude.{◌≡◌, ◌≢◌, ℕ, ◌+◌, List, [], ◌∷◌, Option, None, Some, is_none, Result, MatchResult, if◌then◌else◌}, Option.option_or}
 use Rattle.std.specs.Str.{bytes_eq}
-use Rattle.csv_rows.specs.declared.columns.Column.{Column}
-use Rattle.csv_rows.specs.declared.feed_tables.Table.{Table}
-use Rattle.csv_rows.specs.declared.feed_tables.FeedFault.{FeedFault}
-use Rattle.csv_rows.specs.declared.feed_tables.FeedFault.TheVariants.{MissingColumn, DuplicateKey, NoMemory}
-use Rattle.csv_rows.specs.FeedTables.{unread_table, IsFaultOf}
-use Rattle.csv_rows.specs.Lists.{any_below}
-use Rattle.csv_rows.specs.Tables.{index_of}
+use Rattle.csv_rows.specs.declared.{columns.Column.Column, feed_tables.{Table.Table, FeedFault.{FeedFault, TheVariants.{MissingColumn, DuplicateKey}}}}
+use Rattle.csv_rows.specs.{declared.feed_tables.FeedFault.TheVariants.NoMemory, FeedTables.{unread_table, IsFaultOf}, Lists.any_below, Tables.index_of}
 
 -- a required column is not in the header
 abbrev pub lack : Table → Column → Option ℕ → Option FeedFault

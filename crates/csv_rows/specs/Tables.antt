@@ -1,11 +1,7 @@
 -- A table: its records, the header first, and its fields by row and column.
-use Rattle.std.specs.Prelude.{ℕ, List, [], slice_index_or, Option, Some, None, ◌+◌, ◌-◌, map, length, if◌then◌else◌}
-use Rattle.std.specs.Str.{bytes_eq}
+use Rattle.std.specs.{Prelude.{ℕ, List, [], slice_index_or, Option, Some, None, ◌+◌, ◌-◌, map, length, if◌then◌else◌}, Str.bytes_eq}
 use Rattle.csv.specs.Reading.{default_config, records, strip_bom}
-use Rattle.csv_rows.specs.declared.columns.Column.{Column}
-use Rattle.csv_rows.specs.Columns.{name_of}
-use Rattle.csv_rows.specs.Lists.{first_below}
-use Rattle.csv_rows.specs.Spaces.{trimmed_text}
+use Rattle.csv_rows.specs.{declared.columns.Column.Column, Columns.name_of, Lists.first_below, Spaces.trimmed_text}
 
 -- the field of a record at an index: empty past its end, and where there is no index
 abbrev pub field_of : List (List ℕ) → Option ℕ → List ℕ

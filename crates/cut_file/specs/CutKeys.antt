@@ -1,10 +1,7 @@
 -- The rows in the order of run and step, and what shows there.
 use Rattle.std.specs.Prelude.{ℕ, ◌+◌, ◌==◌, nat_lt, true, false, List, length, slice_index_or, Option, Some, None, if◌then◌else◌}
-use Rattle.csv_rows.specs.declared.keys.Key.{Key}
-use Rattle.csv_rows.specs.Keys.{AreSorted}
-use Rattle.cut_file.specs.declared.rows.CutRow.{CutRow}
-use Rattle.cut_file.specs.declared.faults.CutFault.{CutFault}
-use Rattle.cut_file.specs.declared.faults.CutFault.TheVariants.{Backward, Broken}
+use Rattle.csv_rows.specs.{declared.keys.Key.Key, Keys.AreSorted}
+use Rattle.cut_file.specs.declared.{rows.CutRow.CutRow, faults.CutFault.{CutFault, TheVariants.{Backward, Broken}}}
 
 abbrev pub no_row : CutRow
 no_row = record { run = 0; step = 0; from = 0; to = 0; dep = 0; arr = 0; class = None; board = false; exit = false; change = None }

@@ -1,20 +1,10 @@
 -- The network and the names that the rows of a cut file make with the delays of a table.
 use Rattle.std.specs.Prelude.{◌≡◌, ℕ, zero, suc, ◌<◌, ◌==◌, max, Bool, List, [], length, slice_index_or, Option, Some, None, if◌then◌else◌, slice_get}
-use Rattle.plan_model.specs.declared.model.Connection.{Connection}
-use Rattle.plan_model.specs.Network.{NetworkModel}
-use Rattle.plan_model.specs.Network.{change_of, count, connection}
-use Rattle.delay_table.specs.DelayLists.{DelayLists, class_for}
-use Rattle.cut_file.specs.declared.rows.CutRow.{CutRow}
-use Rattle.csv_rows.specs.declared.keys.Key.{Key}
-use Rattle.csv_rows.specs.Keys.{key_at}
-use Rattle.cut_file.specs.CutKeys.{cut_row}
-use Rattle.cut_file.specs.Read.{Cut}
 use Rattle.std.specs.Str.{bytes_eq}
-use Rattle.plan_model.specs.NameLists.{NameLists}
-use Rattle.csv_rows.specs.Tables.{row_count}
-use Rattle.cut_file.specs.CutRows.{Row}
-use Rattle.cut_file.specs.Faults.{row}
-use Rattle.cut_file.specs.NumberedRows.{run_names, place_names}
+use Rattle.plan_model.specs.{declared.model.Connection.Connection, Network.{NetworkModel, change_of, count, connection}, NameLists.NameLists}
+use Rattle.delay_table.specs.DelayLists.{DelayLists, class_for}
+use Rattle.cut_file.specs.{declared.rows.CutRow.CutRow, CutKeys.cut_row, Read.Cut, CutRows.Row, Faults.row, NumberedRows.{run_names, place_names}}
+use Rattle.csv_rows.specs.{declared.keys.Key.Key, Keys.key_at, Tables.row_count}
 
 -- a row as a connection; a cut file has no routes
 pub record IsConnection (delays : DelayLists) (r : CutRow) (c : Connection) : Type 0 where

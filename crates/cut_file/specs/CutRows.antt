@@ -1,18 +1,10 @@
 -- The rows of a cut file, and the forms of their fields.
 use Rattle.std.specs.Prelude.{ℕ, ◌==◌, nat_lt, Bool, true, false, ◌||◌, List, length, Option, Some, None, option_map, if◌then◌else◌, codes, Result, Ok, Err}
 use Rattle.std.specs.Str.{bytes_eq}
-use Rattle.clock_text.specs.Digits.{whole_of, optional_seconds_of}
-use Rattle.clock_text.specs.Times.{moment_at}
-use Rattle.plan_model.specs.Bounds.{end_of_arrivals}
-use Rattle.cut_file.specs.declared.fields.TheConstants.{LAST_TYPE}
-use Rattle.plan_model.specs.Results.{require}
-use Rattle.csv_rows.specs.declared.columns.Column.{Column}
-use Rattle.csv_rows.specs.declared.columns.Column.TheVariants.{Class, Run, Step, From, To, Dep, Arr, Board, Exit, Change}
-use Rattle.csv_rows.specs.Tables.{field}
-use Rattle.csv_rows.specs.Ids.{name_in}
-use Rattle.cut_file.specs.declared.lines.TheConstants.{MOST_STEP}
-use Rattle.cut_file.specs.declared.lines.Fields.{Fields}
-use Rattle.cut_file.specs.declared.lines.NamedRow.{NamedRow}
+use Rattle.clock_text.specs.{Digits.{whole_of, optional_seconds_of}, Times.moment_at}
+use Rattle.plan_model.specs.{Bounds.end_of_arrivals, Results.require}
+use Rattle.cut_file.specs.declared.{fields.TheConstants.LAST_TYPE, lines.{TheConstants.MOST_STEP, Fields.Fields, NamedRow.NamedRow}}
+use Rattle.csv_rows.specs.{declared.columns.Column.{Column, TheVariants.{Class, Run, Step, From, To, Dep, Arr, Board, Exit, Change}}, Tables.field, Ids.name_in}
 
 abbrev pub before_end : Option ℕ → Option ℕ
 before_end None = None

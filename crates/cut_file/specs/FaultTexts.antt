@@ -1,9 +1,7 @@
 -- The texts of the faults of a cut file.
 use Rattle.std.specs.Prelude.{ℕ, List, ◌++◌, codes}
-use Rattle.csv_rows.specs.Columns.{name_of}
-use Rattle.csv_rows.specs.FaultTexts.{at_line, too_many_rows}
-use Rattle.cut_file.specs.declared.faults.CutFault.{CutFault}
-use Rattle.cut_file.specs.declared.faults.CutFault.TheVariants.{MissingColumn, TooManyRows, BadField, DuplicateStep, Backward, Broken, NoMemory}
+use Rattle.csv_rows.specs.{Columns.name_of, FaultTexts.{at_line, too_many_rows}}
+use Rattle.cut_file.specs.declared.faults.CutFault.{CutFault, TheVariants.{MissingColumn, TooManyRows, BadField, DuplicateStep, Backward, Broken, NoMemory}}
 
 -- the text of a fault of a cut file
 abbrev pub cut_fault_text : CutFault → List ℕ

@@ -1,13 +1,9 @@
 -- The faults of a cut file, and which comes first.
 use Rattle.std.specs.Prelude.{ℕ, ◌+◌, ◌==◌, nat_lt, Bool, false, not, ◌&&◌, ◌||◌, List, [], Option, Some, None, Result, Ok, Err, is_none, if◌then◌else◌}
-use Rattle.std.specs.Str.{bytes_eq}
-use Rattle.std.specs.Option.{option_or}
-use Rattle.csv_rows.specs.declared.columns.Column.{Column}
-use Rattle.csv_rows.specs.declared.columns.Column.TheVariants.{Run, Step, From, To, Dep, Arr}
-use Rattle.csv_rows.specs.Lists.{first_below, any_below}
-use Rattle.csv_rows.specs.Tables.{index_of, row_count}
-use Rattle.cut_file.specs.declared.faults.CutFault.{CutFault}
-use Rattle.cut_file.specs.declared.faults.CutFault.TheVariants.{MissingColumn, TooManyRows, BadField, DuplicateStep, Backward, Broken}
+use Rattle.std.specs.{Str.bytes_eq, Option.option_or}
+use Rattle.csv_rows.specs.{declared.columns.Column.{Column, TheVariants.{Run, Step, From, To, Dep, Arr}}, Lists.{first_below, any_below}, Tables.index_of}
+use Rattle.csv_rows.specs.Tables.{row_count}
+use Rattle.cut_file.specs.declared.faults.CutFault.{CutFault, TheVariants.{MissingColumn, TooManyRows, BadField, DuplicateStep, Backward, Broken}}
 use Rattle.cut_file.specs.CutRows.{Row, row_at}
 
 abbrev pub column_fault : List (List (List ℕ)) → Column → Option CutFault

@@ -1,15 +1,8 @@
 -- The rows of a cut file by the numbers of their names.
-use Rattle.std.specs.Prelude.{◌≡◌, ℕ, zero, suc, List, [], ◌∷◌, ◌++◌, slice_get, Option, Some, None, is_some, is_none, if◌then◌else◌}
-use Rattle.std.specs.Option.{option_or}
-use Rattle.csv_rows.specs.declared.columns.Column.{Column}
-use Rattle.cut_file.specs.declared.faults.CutFault.{CutFault}
-use Rattle.cut_file.specs.declared.faults.CutFault.TheVariants.{MissingColumn}
-use Rattle.csv_rows.specs.declared.columns.Column.TheVariants.{Class, Run, Step, From, To, Dep, Arr, Board, Exit, Change}
-use Rattle.csv_rows.specs.Tables.{number_in, index_of}
-use Rattle.cut_file.specs.declared.rows.CutRow.{CutRow}
-use Rattle.cut_file.specs.declared.rows.Columns.{Columns}
-use Rattle.cut_file.specs.CutRows.{Row}
-use Rattle.cut_file.specs.Faults.{row}
+use Rattle.std.specs.{Prelude.{◌≡◌, ℕ, zero, suc, List, [], ◌∷◌, ◌++◌, slice_get, Option, Some, None, is_some, is_none, if◌then◌else◌}, Option.option_or}
+use Rattle.csv_rows.specs.{declared.columns.Column.{Column, TheVariants.{Class, Run, Step, From, To, Dep, Arr, Board, Exit, Change}}, Tables.number_in}
+use Rattle.csv_rows.specs.Tables.{index_of}
+use Rattle.cut_file.specs.{declared.{faults.CutFault.{CutFault, TheVariants.MissingColumn}, rows.{CutRow.CutRow, Columns.Columns}}, CutRows.Row, Faults.row}
 
 -- a name goes last, unless it is there
 unfoldable pub add_new : List (List ℕ) → List ℕ → List (List ℕ)

@@ -1,12 +1,8 @@
 -- A cut file that is read, and one with no fault.
 use Rattle.std.specs.Prelude.{◌≡◌, ℕ, ◌<◌, List, length, ◌≤◌, None}
-use Rattle.csv_rows.specs.Tables.{row_count}
-use Rattle.cut_file.specs.declared.rows.CutRow.{CutRow}
-use Rattle.csv_rows.specs.declared.keys.Key.{Key}
-use Rattle.cut_file.specs.Faults.{row, first_cut_fault}
-use Rattle.cut_file.specs.NumberedRows.{run_names, place_names, IsNumbered}
-use Rattle.cut_file.specs.CutKeys.{cut_row, AreCutKeys}
-use Rattle.csv_rows.specs.Spaces.{AreTrimmed}
+use Rattle.csv_rows.specs.{Tables.row_count, declared.keys.Key.Key, Spaces.AreTrimmed}
+use Rattle.cut_file.specs.{declared.rows.CutRow.CutRow, Faults.{row, first_cut_fault}, NumberedRows.{run_names, place_names, IsNumbered}, CutKeys.cut_row}
+use Rattle.cut_file.specs.CutKeys.{AreCutKeys}
 use Rattle.plan_model.specs.Bounds.{most_connections}
 
 -- its names in the order in which they first occur, its rows with their numbers, and the order of the rows by run and step

@@ -1,15 +1,9 @@
 -- What the value of a decision graph says.
 use Rattle.std.specs.Prelude.{◌≡◌, ◌-◌, ◌*◌, ◌≤◌}
-use Rattle.plan_model.specs.Bounds.{nanos_per_second}
-use Rattle.interval_fixed.specs.Interval.{Interval}
-use Rattle.plan_model.specs.Expected.{Below, Encloses, arrival}
-use Rattle.plan_model.specs.declared.model.Query.{Query}
-use Rattle.plan_model.specs.Network.{NetworkModel}
-use Rattle.plan_model.specs.Network.{count}
-use Rattle.plan_model.specs.Tree.{Tree}
+use Rattle.plan_model.specs.{Bounds.nanos_per_second, Expected.{Below, Encloses, arrival}, declared.model.Query.Query, Network.{NetworkModel, count}, Tree.Tree}
 use Rattle.plan_model.specs.Strategy.{IsSafeFor}
-use Rattle.value_laws.specs.Spans.{rounded_up, rounded_down}
-use Rattle.value_laws.specs.ScoreLaws.{Scoring}
+use Rattle.interval_fixed.specs.Interval.{Interval}
+use Rattle.value_laws.specs.{Spans.{rounded_up, rounded_down}, ScoreLaws.Scoring}
 
 -- the strategy is safe; the value covers it and is below every safe strategy, this one too;
 -- its gap is at most the number of connections; if source and target are one place, it is that of having arrived at the start

@@ -1,14 +1,10 @@
 -- The decision graph with the least chance of being late.
 use Rattle.std.specs.Prelude.{◌≡◌, ◌≢◌, ℕ}
 use Rattle.interval_fixed.specs.Interval.{Interval}
-use Rattle.plan_model.specs.declared.model.Query.{Query}
-use Rattle.plan_model.specs.Network.{NetworkModel}
-use Rattle.plan_graph.specs.declared.PlanGraph.{PlanGraph}
-use Rattle.plan_graph.specs.Unfold.{unfold_plan}
+use Rattle.plan_model.specs.{declared.model.Query.Query, Network.NetworkModel}
+use Rattle.plan_graph.specs.{declared.PlanGraph.PlanGraph, Unfold.unfold_plan}
 use Rattle.meat_scan.specs.Rules.{IsByRules}
-use Rattle.late_chance.specs.Chances.{promised, chance_scoring}
-use Rattle.late_chance.specs.LaterGraphs.{later_graph}
-use Rattle.late_chance.specs.Punctual.{IsPunctual, shift_for, seen_for, asked_for}
+use Rattle.late_chance.specs.{Chances.{promised, chance_scoring}, LaterGraphs.later_graph, Punctual.{IsPunctual, shift_for, seen_for, asked_for}}
 
 -- the graph has the least chance to arrive after the moment that represents a promise; it and its chance are those that the rules of the
 -- scan keep, or, if source and target are one place, the chance is that of having arrived

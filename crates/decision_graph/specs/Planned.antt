@@ -1,22 +1,13 @@
 -- The decision graph ride by ride, and with one table for each place.
 use Rattle.std.specs.Prelude.{◌≢◌, ℕ, All, Option, None, []}
 use Rattle.interval_fixed.specs.Interval.{Interval}
-use Rattle.plan_model.specs.declared.model.Leg.{Leg}
-use Rattle.plan_model.specs.declared.model.Query.{Query}
-use Rattle.plan_model.specs.Network.{NetworkModel}
-use Rattle.plan_model.specs.Tree.{Tree}
-use Rattle.plan_model.specs.Strategy.{IsSafeFor}
-use Rattle.plan_graph.specs.declared.ExpandedGraph.{ExpandedGraph}
-use Rattle.plan_graph.specs.Unfold.{unfold_expanded, unfold_plan}
-use Rattle.plan_graph.specs.Ready.{IsReady, IsBusy}
-use Rattle.plan_graph.specs.Coherent.{IsSteady, Follows}
-use Rattle.value_laws.specs.Means.{mean_scoring, from_span}
-use Rattle.value_laws.specs.ScoreLaws.{Scoring}
+use Rattle.plan_model.specs.{declared.model.{Leg.Leg, Query.Query}, Network.NetworkModel, Tree.Tree, Strategy.IsSafeFor}
+use Rattle.plan_graph.specs.{declared.{ExpandedGraph.ExpandedGraph, PlanGraph.PlanGraph}, Unfold.{unfold_expanded, unfold_plan}, Ready.{IsReady, IsBusy}}
+use Rattle.plan_graph.specs.{Coherent.{IsSteady, Follows}, Tidy.IsTidy}
+use Rattle.value_laws.specs.{Means.{mean_scoring, from_span}, ScoreLaws.Scoring}
 use Rattle.meat_scan.specs.Rules.{IsByRules}
 use Rattle.leg_extract.specs.Extracted.{HasArrivals, HasEachRide}
 use Rattle.decision_graph.specs.GraphValues.{IsBestBy, IsBest}
-use Rattle.plan_graph.specs.declared.PlanGraph.{PlanGraph}
-use Rattle.plan_graph.specs.Tidy.{IsTidy}
 
 -- the graph in which nothing is ridden
 abbrev pub no_rides : ExpandedGraph

@@ -1,7 +1,6 @@
 -- The indexes of the columns of a delay file.
 use Rattle.std.specs.Prelude.{◌≡◌, ℕ, List}
-use Rattle.csv_rows.specs.declared.columns.Column.TheVariants.{Class, Delay, Weight, RouteId, Hour}
-use Rattle.csv_rows.specs.Tables.{index_of}
+use Rattle.csv_rows.specs.{declared.columns.Column.TheVariants.{Class, Delay, Weight, RouteId, Hour}, Tables.index_of}
 use Rattle.delay_table.specs.declared.lines.Columns.{Columns}
 
 pub record AreDelayColumns (t : List (List (List ℕ))) (c : Columns) : Type 0 where

@@ -1,9 +1,7 @@
 -- A delay table as lists, and which of its classes a connection has.
-use Rattle.std.specs.Prelude.{ℕ, ◌+◌, ◌==◌, ◌/◌, ◌%◌, List, length, slice_index, Option, Some, None, option_map, unwrap_or, if◌then◌else◌}
-use Rattle.std.specs.Option.{option_or}
-use Rattle.plan_model.specs.declared.model.Outcome.{Outcome}
+use Rattle.std.specs.{Prelude.{ℕ, ◌+◌, ◌==◌, ◌/◌, ◌%◌, List, length, slice_index, Option, Some, None, option_map, unwrap_or, if◌then◌else◌}, Option.option_or}
+use Rattle.plan_model.specs.declared.{model.Outcome.Outcome, units.TheConstants.{HOURS_PER_DAY, SECONDS_PER_HOUR}}
 use Rattle.csv_rows.specs.Lists.{first_below}
-use Rattle.plan_model.specs.declared.units.TheConstants.{HOURS_PER_DAY, SECONDS_PER_HOUR}
 use Rattle.delay_table.specs.Groups.{Group, group_index}
 
 -- each route type is below it

@@ -1,28 +1,14 @@
 -- What a delay table is, and which of its faults comes first.
-use Rattle.std.specs.Prelude.{ℕ, zero, suc, ◌+◌, ◌-◌, ◌==◌, nat_lt, nat_le, true, Bool, List, [], ◌∷◌, ◌++◌, length, map, sum_by, slice_get, slice_index, Option, Some}
-use Rattle.std.specs.Prelude.{None, option_map, is_none, if◌then◌else◌, codes}
-use Rattle.std.specs.Str.{bytes_eq}
-use Rattle.std.specs.Option.{option_or}
+use Rattle.std.specs.Prelude.{ℕ, zero, suc, ◌+◌, ◌-◌, ◌==◌, nat_lt, nat_le, true, Bool, List, [], ◌∷◌, ◌++◌, length, map, sum_by, slice_get, slice_index}
+use Rattle.std.specs.{Prelude.{Option, Some, None, option_map, is_none, if◌then◌else◌, codes}, Str.bytes_eq, Option.option_or}
 use Rattle.clock_text.specs.Digits.{whole_of}
-use Rattle.plan_model.specs.declared.model.Outcome.{Outcome}
-use Rattle.plan_model.specs.Bounds.{seconds_per_day}
-use Rattle.csv_rows.specs.declared.columns.Column.{Column}
-use Rattle.csv_rows.specs.declared.columns.Column.TheVariants.{Class, Delay, Weight, RouteId, Hour}
-use Rattle.delay_table.specs.declared.faults.ClassName.{ClassName}
-use Rattle.delay_table.specs.declared.faults.ClassName.TheVariants.{Any, Route}
-use Rattle.delay_table.specs.declared.faults.DelayFault.{DelayFault}
-use Rattle.delay_table.specs.declared.faults.DelayFault.TheVariants.{MissingColumn, BadField, TooManyRows, GroupRows, NotRising, TooManyClasses, WeightSum, GroupSum, NoDefault}
-use Rattle.csv_rows.specs.Lists.{first_below}
-use Rattle.csv_rows.specs.Ids.{name_in}
-use Rattle.csv_rows.specs.Tables.{index_of, field, row_count}
-use Rattle.delay_table.specs.DelayLists.{end_of_types}
-use Rattle.delay_table.specs.declared.reading.TheConstants.{MOST_ROWS}
-use Rattle.delay_table.specs.declared.sums.TheConstants.{MOST_GROUPS}
-use Rattle.delay_table.specs.declared.lines.TheConstants.{LAST_TYPE}
-use Rattle.plan_model.specs.declared.units.TheConstants.{WHOLE_WEIGHT}
-use Rattle.delay_table.specs.declared.lines.TheConstants.{LAST_HOUR}
-use Rattle.delay_table.specs.DelayLists.{DelayLists}
-use Rattle.delay_table.specs.Groups.{Group, of_class, group_in, is_plain, same_group}
+use Rattle.plan_model.specs.{declared.{model.Outcome.Outcome, units.TheConstants.WHOLE_WEIGHT}, Bounds.seconds_per_day}
+use Rattle.csv_rows.specs.{declared.columns.Column.{Column, TheVariants.{Class, Delay, Weight, RouteId, Hour}}, Lists.first_below, Ids.name_in, Tables.index_of}
+use Rattle.csv_rows.specs.Tables.{field, row_count}
+use Rattle.delay_table.specs.declared.faults.{ClassName.{ClassName, TheVariants.{Any, Route}}, DelayFault.{DelayFault, TheVariants.{MissingColumn, BadField}}}
+use Rattle.delay_table.specs.declared.faults.DelayFault.TheVariants.{TooManyRows, GroupRows, NotRising, TooManyClasses, WeightSum, GroupSum, NoDefault}
+use Rattle.delay_table.specs.declared.{reading.TheConstants.MOST_ROWS, sums.TheConstants.MOST_GROUPS, lines.TheConstants.{LAST_TYPE, LAST_HOUR}}
+use Rattle.delay_table.specs.{DelayLists.{end_of_types, DelayLists}, Groups.{Group, of_class, group_in, is_plain, same_group}}
 
 -- a row: the group that it is of, and its outcome
 pub record Line : Type 0 where

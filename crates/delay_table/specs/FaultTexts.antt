@@ -1,11 +1,9 @@
 -- The texts of classes, and of the faults of a delay file.
 use Rattle.std.specs.Prelude.{ℕ, List, ◌++◌, codes, decimal}
-use Rattle.csv_rows.specs.Columns.{name_of}
-use Rattle.csv_rows.specs.FaultTexts.{at_line}
-use Rattle.delay_table.specs.declared.faults.ClassName.{ClassName}
-use Rattle.delay_table.specs.declared.faults.ClassName.TheVariants.{Any, Route}
-use Rattle.delay_table.specs.declared.faults.DelayFault.{DelayFault}
-use Rattle.delay_table.specs.declared.faults.DelayFault.TheVariants.{MissingColumn, BadField, TooManyRows, GroupRows, NotRising, TooManyClasses, WeightSum, GroupSum, NoDefault, NoMemory}
+use Rattle.csv_rows.specs.{Columns.name_of, FaultTexts.at_line}
+use Rattle.delay_table.specs.declared.faults.{ClassName.{ClassName, TheVariants.{Any, Route}}, DelayFault.{DelayFault, TheVariants.{MissingColumn, BadField}}}
+use Rattle.delay_table.specs.declared.faults.DelayFault.TheVariants.{TooManyRows, GroupRows, NotRising, TooManyClasses, WeightSum, GroupSum, NoDefault}
+use Rattle.delay_table.specs.declared.faults.DelayFault.TheVariants.{NoMemory}
 
 -- a class, as a delay file names it
 abbrev pub class_text : ClassName → List ℕ

@@ -1,8 +1,7 @@
 -- Groups of the rows of a delay file: each is of one class, one route and one hour.
-use Rattle.std.specs.Prelude.{ℕ, zero, suc, ◌==◌, Bool, true, false, ◌&&◌, List, [], ◌∷◌, ◌++◌, length, slice_index_or, fold, Option, Some, None, is_none, is_some, option_map, if◌then◌else◌}
-use Rattle.std.specs.Str.{bytes_eq}
-use Rattle.csv_rows.specs.Lists.{first_below}
-use Rattle.csv_rows.specs.Tables.{number_in}
+use Rattle.std.specs.Prelude.{ℕ, zero, suc, ◌==◌, Bool, true, false, ◌&&◌, List, [], ◌∷◌, ◌++◌, length, slice_index_or, fold, Option, Some, None, is_none}
+use Rattle.std.specs.{Prelude.{is_some, option_map, if◌then◌else◌}, Str.bytes_eq}
+use Rattle.csv_rows.specs.{Lists.first_below, Tables.number_in}
 
 -- what the rows are of: the route type of the class, and none for `*`; a route and an hour, if there are
 pub record Group : Type 0 where

@@ -1,14 +1,10 @@
 -- Groups by the numbers of their routes.
-use Rattle.std.specs.Prelude.{◌≡◌, ℕ, ◌<◌, Bool, ◌&&◌, List, map, length, slice_index_or, Option, None, IfSome, option_map, position}
-use Rattle.std.specs.Borrow.{Bor}
-use Rattle.std.specs.HashMap.{get}
+use Rattle.std.specs.{Prelude.{◌≡◌, ℕ, ◌<◌, Bool, ◌&&◌, List, map, length, slice_index_or, Option, None, IfSome, option_map, position}, Borrow.Bor, HashMap.get}
 use Rattle.std.specs.Str.{bytes_eq}
-use Rattle.delay_table.specs.declared.groups.LineGroup.{LineGroup}
-use Rattle.delay_table.specs.declared.groups.Groups.TheInside as line_groups
-use Rattle.delay_table.specs.declared.numbered.NumberedGroup.{NumberedGroup}
-use Rattle.delay_table.specs.declared.numbered.NumberedGroups.TheInside as numbered
-use Rattle.delay_table.specs.declared.other_groups.OtherGroups.TheInside.{Inside}
+use Rattle.delay_table.specs.declared.{groups.LineGroup.LineGroup, numbered.NumberedGroup.NumberedGroup, other_groups.OtherGroups.TheInside.Inside}
 use Rattle.delay_table.specs.Groups.{Group, same_if, same_number, numbered_route, routes_of}
+use Rattle.delay_table.specs.declared.groups.Groups.TheInside as line_groups
+use Rattle.delay_table.specs.declared.numbered.NumberedGroups.TheInside as numbered
 
 -- the group of a line's class, route and hour
 abbrev pub line_group : LineGroup → Group

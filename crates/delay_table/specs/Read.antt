@@ -1,11 +1,8 @@
 -- The rows of a delay file by their groups, as far as they are read.
 use Rattle.std.specs.Prelude.{◌≡◌, ℕ, ◌+◌, ◌<◌, false, List, [], ◌∷◌, ◌++◌, length, slice_index, slice_index_or, Option, Some, None}
 use Rattle.plan_model.specs.declared.model.Outcome.{Outcome}
-use Rattle.delay_table.specs.declared.reading.GroupRows.{GroupRows}
-use Rattle.delay_table.specs.Delays.{Line, group_outcomes, firsts, groups_at}
-use Rattle.delay_table.specs.Groups.{Group, group_in, same_group, group_index}
-use Rattle.delay_table.specs.DelayLists.{end_of_types}
-use Rattle.delay_table.specs.Slots.{IsGroupStart}
+use Rattle.delay_table.specs.{declared.reading.GroupRows.GroupRows, Delays.{Line, group_outcomes, firsts, groups_at}, Groups.{Group, group_in, same_group}}
+use Rattle.delay_table.specs.{Groups.group_index, DelayLists.end_of_types, Slots.IsGroupStart}
 
 abbrev pub no_rows : GroupRows
 no_rows = record { line = 0; outcomes = [] }

@@ -1,11 +1,7 @@
 -- The outcomes of the classes by their numbers.
 use Rattle.std.specs.Prelude.{◌≡◌, ℕ, ◌+◌, ◌<◌, ◌≤◌, List, [], length, slice_index_or, slice_get, Some, Contains, All, AllPairs, zero, suc}
-use Rattle.plan_model.specs.declared.model.Outcome.{Outcome}
-use Rattle.plan_model.specs.DelayRows.{IsValidRow}
-use Rattle.plan_model.specs.Bounds.{seconds_per_day}
-use Rattle.delay_table.specs.declared.reading.TheConstants.{MOST_ROWS}
-use Rattle.delay_table.specs.declared.sums.TheConstants.{MOST_GROUPS}
-use Rattle.delay_table.specs.DelayLists.{DelayLists}
+use Rattle.plan_model.specs.{declared.model.Outcome.Outcome, DelayRows.IsValidRow, Bounds.seconds_per_day}
+use Rattle.delay_table.specs.{declared.{reading.TheConstants.MOST_ROWS, sums.TheConstants.MOST_GROUPS}, DelayLists.DelayLists}
 
 abbrev pub slot : List (List Outcome) → ℕ → List Outcome
 slot slots c = slice_index_or slots c []

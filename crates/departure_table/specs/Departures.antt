@@ -1,21 +1,10 @@
 -- What a table of departures says, and what the greatest moment has to do with it and with the least worst arrival.
 use Rattle.std.specs.Prelude.{◌≡◌, ◌≢◌, ℕ, ◌-◌, ◌<◌, ◌≤◌, ◌↔◌, List, [], Option, Some, MatchOption, All, AllPairs, find, length, nat_le, None, IsSome}
-use Rattle.plan_model.specs.declared.model.Leg.{Leg}
-use Rattle.plan_model.specs.declared.model.Query.{Query}
-use Rattle.plan_model.specs.declared.model.Moment.{Moment}
-use Rattle.plan_model.specs.Bounds.{nanos_per_second}
-use Rattle.plan_model.specs.Network.{NetworkModel}
-use Rattle.plan_model.specs.Network.{IsValid, count, from_of, dep_of}
-use Rattle.plan_model.specs.Ways.{way_of}
-use Rattle.plan_model.specs.Tree.{Tree, Ride, Kids}
-use Rattle.plan_model.specs.Expected.{Below, Covers, arrival}
-use Rattle.plan_model.specs.Strategy.{IsLeg, IsSafeFromStart, IsLeastWorst}
-use Rattle.value_laws.specs.Spans.{rounded_up, rounded_down}
-use Rattle.value_laws.specs.declared.MeanSpan.{MeanSpan}
-use Rattle.value_laws.specs.Means.{mean_scoring}
-use Rattle.meat_scan.specs.ScanResult.{ScanResult, choice_of}
-use Rattle.meat_scan.specs.Solves.{SolvesEach, IsSafeAt}
-use Rattle.plan_model.specs.Gates.{IsGate}
+use Rattle.plan_model.specs.{declared.model.{Leg.Leg, Query.Query, Moment.Moment}, Bounds.nanos_per_second, Network.{NetworkModel, IsValid, count, from_of}}
+use Rattle.plan_model.specs.{Network.dep_of, Ways.way_of, Tree.{Tree, Ride, Kids}, Expected.{Below, Covers, arrival}, Strategy.{IsLeg, IsSafeFromStart}}
+use Rattle.plan_model.specs.{Strategy.IsLeastWorst, Gates.IsGate}
+use Rattle.value_laws.specs.{Spans.{rounded_up, rounded_down}, declared.MeanSpan.MeanSpan, Means.mean_scoring}
+use Rattle.meat_scan.specs.{ScanResult.{ScanResult, choice_of}, Solves.{SolvesEach, IsSafeAt}}
 use Rattle.departure_table.specs.declared.DepartureRow.{DepartureRow}
 
 -- each way from a place to where a connection can be boarded takes one second

@@ -1,18 +1,9 @@
 -- The rows that are looked up one behind the other.
-use Rattle.std.specs.Prelude.{◌≡◌, ℕ, ◌+◌, ◌-◌, ◌<◌, ◌≤◌, ◌⊎◌, List, [], ◌∷◌, Option, None, Some, length}
-use Rattle.std.specs.Option.{option_map}
-use Rattle.plan_model.specs.declared.model.ConnectionId.{ConnectionId}
-use Rattle.plan_model.specs.declared.model.Leg.{Leg}
-use Rattle.plan_model.specs.declared.model.PlaceId.{PlaceId}
-use Rattle.plan_model.specs.declared.model.Query.{Query}
-use Rattle.plan_model.specs.Network.{NetworkModel}
-use Rattle.plan_model.specs.Network.{connection}
-use Rattle.value_laws.specs.declared.MeanSpan.{MeanSpan}
-use Rattle.value_laws.specs.Means.{mean_scoring}
-use Rattle.plan_model.specs.Order.{IsScanOrder}
-use Rattle.meat_scan.specs.Rules.{FollowsRules}
-use Rattle.meat_scan.specs.ScanResult.{ScanResult, choice_of}
-use Rattle.plan_model.specs.Gates.{extended_by}
+use Rattle.std.specs.{Prelude.{◌≡◌, ℕ, ◌+◌, ◌-◌, ◌<◌, ◌≤◌, ◌⊎◌, List, [], ◌∷◌, Option, None, Some, length}, Option.option_map}
+use Rattle.plan_model.specs.{declared.model.{ConnectionId.ConnectionId, Leg.Leg, PlaceId.PlaceId, Query.Query}, Network.{NetworkModel, connection}}
+use Rattle.plan_model.specs.{Order.IsScanOrder, Gates.extended_by}
+use Rattle.value_laws.specs.{declared.MeanSpan.MeanSpan, Means.mean_scoring}
+use Rattle.meat_scan.specs.{Rules.FollowsRules, ScanResult.{ScanResult, choice_of}}
 use Rattle.departure_table.specs.declared.DepartureRow.{DepartureRow}
 
 -- the row of a leg with its value, by its departure

@@ -1,21 +1,12 @@
 -- What the reach of a target says.
-use Rattle.std.specs.Prelude.{◌≡◌, ◌≢◌, ℕ, ◌+◌, ◌<◌, ◌==◌, List, ◌∷◌, [], Option, Some, MatchOption, All, AllPairs, find, length, map}
-use Rattle.std.specs.List.{range_with_len}
+use Rattle.std.specs.{Prelude.{◌≡◌, ◌≢◌, ℕ, ◌+◌, ◌<◌, ◌==◌, List, ◌∷◌, [], Option, Some, MatchOption, All, AllPairs, find, length, map}, List.range_with_len}
 use Rattle.interval_fixed.specs.Interval.{Interval}
-use Rattle.plan_model.specs.declared.model.PlaceId.{PlaceId}
-use Rattle.plan_model.specs.declared.model.Query.{Query}
-use Rattle.plan_model.specs.Network.{NetworkModel}
-use Rattle.departure_table.specs.Departures.{SafeFrom, IsNoneSafeFrom, IsGreatestMoment, IsBestFrom}
-use Rattle.value_laws.specs.declared.MeanSpan.{MeanSpan}
-use Rattle.value_laws.specs.Means.{mean_scoring}
-use Rattle.plan_model.specs.declared.model.ConnectionId.{ConnectionId}
-use Rattle.plan_model.specs.Order.{IsScanOrder}
-use Rattle.meat_scan.specs.Rules.{FollowsRules}
+use Rattle.plan_model.specs.{declared.model.{PlaceId.PlaceId, Query.Query, ConnectionId.ConnectionId}, Network.NetworkModel, Order.IsScanOrder}
 use Rattle.plan_model.specs.Gates.{extended_by}
-use Rattle.meat_scan.specs.ScanResult.{ScanResult}
-use Rattle.departure_table.specs.declared.DepartureRow.{DepartureRow}
-use Rattle.departure_table.specs.Looked.{asked_at, row_found, AreLooked}
-use Rattle.departure_table.specs.declared.reach_rows.ReachRow.{ReachRow}
+use Rattle.departure_table.specs.{Departures.{SafeFrom, IsNoneSafeFrom, IsGreatestMoment, IsBestFrom}, declared.DepartureRow.DepartureRow}
+use Rattle.departure_table.specs.{declared.reach_rows.ReachRow.ReachRow, Looked.{asked_at, row_found, AreLooked}}
+use Rattle.value_laws.specs.{declared.MeanSpan.MeanSpan, Means.mean_scoring}
+use Rattle.meat_scan.specs.{Rules.FollowsRules, ScanResult.ScanResult}
 
 -- so many places, by rising number
 abbrev pub places_up_to : ℕ → List PlaceId

@@ -1,19 +1,12 @@
 -- What is read of the tables of stops, routes and trips.
 use Rattle.std.specs.Prelude.{◌≡◌, ℕ, ◌<◌, ◌≤◌, List, length, All, Result, Ok, Err}
-use Rattle.plan_model.specs.NameLists.{texts}
-use Rattle.plan_model.specs.Results.{and_then, unless}
-use Rattle.csv_rows.specs.declared.columns.Column.TheVariants.{StopId, RouteId}
-use Rattle.csv_rows.specs.declared.feed_tables.Table.TheVariants.{Stops as StopsTable, Routes as RoutesTable, Trips as TripsTable}
-use Rattle.csv_rows.specs.declared.feed_tables.FeedFault.{FeedFault}
-use Rattle.table_files.specs.declared.loading.Loaded.{Loaded}
-use Rattle.table_files.specs.Loading.{Records, required, IsOfSomeTable}
-use Rattle.feed_lists.specs.declared.routes.Routes.{Routes}
-use Rattle.feed_lists.specs.declared.stops.Stops.{Stops}
-use Rattle.feed_lists.specs.declared.trips.Trips.{Trips}
-use Rattle.feed_lists.specs.ListBounds.{most_stops, most_trips}
-use Rattle.feed_lists.specs.Stops.{stop_ids, stop_places, stops_fault}
-use Rattle.feed_lists.specs.Routes.{route_ids, route_types, routes_fault}
-use Rattle.feed_lists.specs.Trips.{trip_ids, trip_routes, trip_services, trip_types, trips_fault}
+use Rattle.plan_model.specs.{NameLists.texts, Results.{and_then, unless}}
+use Rattle.csv_rows.specs.declared.{columns.Column.TheVariants.{StopId, RouteId}, feed_tables.Table.TheVariants.{Stops as StopsTable, Routes as RoutesTable}}
+use Rattle.csv_rows.specs.declared.feed_tables.{Table.TheVariants.Trips as TripsTable, FeedFault.FeedFault}
+use Rattle.table_files.specs.{declared.loading.Loaded.Loaded, Loading.{Records, required, IsOfSomeTable}}
+use Rattle.feed_lists.specs.{declared.{routes.Routes.Routes, stops.Stops.Stops, trips.Trips.Trips}, ListBounds.{most_stops, most_trips}, Stops.stop_ids}
+use Rattle.feed_lists.specs.{Stops.{stop_places, stops_fault}, Routes.{route_ids, route_types, routes_fault}, Trips.{trip_ids, trip_routes, trip_services}}
+use Rattle.feed_lists.specs.Trips.{trip_types, trips_fault}
 
 -- each table by what was loaded of it
 abbrev pub stops_from : Result Loaded FeedFault → Result Records FeedFault

@@ -1,19 +1,11 @@
 -- The routes of a feed: their ids and types.
-use Rattle.std.specs.Prelude.{ℕ, ◌+◌, List, [], ◌∷◌, Option, Result, Ok}
-use Rattle.std.specs.Option.{option_or}
-use Rattle.std.specs.Result.{result_err}
+use Rattle.std.specs.{Prelude.{ℕ, ◌+◌, List, [], ◌∷◌, Option, Result, Ok}, Option.option_or, Result.result_err}
 use Rattle.plan_model.specs.Results.{require, value_or}
 use Rattle.clock_text.specs.Digits.{whole_of}
-use Rattle.csv_rows.specs.declared.columns.Column.TheVariants.{RouteId, RouteType}
-use Rattle.csv_rows.specs.declared.feed_tables.Table.TheVariants.{Routes}
-use Rattle.csv_rows.specs.declared.feed_tables.FeedFault.{FeedFault}
-use Rattle.csv_rows.specs.declared.feed_tables.FeedFault.TheVariants.{BadField}
-use Rattle.csv_rows.specs.Lists.{first_below}
-use Rattle.csv_rows.specs.Ids.{name_in}
-use Rattle.csv_rows.specs.Tables.{row_count, index_of, field_at, field}
+use Rattle.csv_rows.specs.declared.{columns.Column.TheVariants.{RouteId, RouteType}, feed_tables.{Table.TheVariants.Routes, FeedFault.FeedFault}}
+use Rattle.csv_rows.specs.{declared.feed_tables.FeedFault.TheVariants.BadField, Lists.{first_below, list_below}, Ids.name_in, Tables.{row_count, index_of}}
+use Rattle.csv_rows.specs.{Tables.{field_at, field}, RowFaults.{first_missing, repeated_id}}
 use Rattle.feed_lists.specs.declared.routes.RouteColumns.{RouteColumns}
-use Rattle.csv_rows.specs.RowFaults.{first_missing, repeated_id}
-use Rattle.csv_rows.specs.Lists.{list_below}
 
 -- a route by its id and its type
 pub record Route : Type 0 where

@@ -1,19 +1,11 @@
 -- The stops of a feed: their ids, the place of each, and the forms of their fields (GTFS Schedule reference).
-use Rattle.std.specs.Prelude.{ℕ, ◌==◌, Bool, true, false, ◌||◌, List, [], length, Option, Some, None, if◌then◌else◌, codes, ◌+◌, ◌∷◌, Result, Ok, is_some, unwrap_or}
-use Rattle.std.specs.Str.{bytes_eq}
-use Rattle.csv_rows.specs.Ids.{text_in, name_in}
-use Rattle.std.specs.Option.{option_or}
-use Rattle.std.specs.Result.{result_err}
+use Rattle.std.specs.Prelude.{ℕ, ◌==◌, Bool, true, false, ◌||◌, List, [], length, Option, Some, None, if◌then◌else◌, codes, ◌+◌, ◌∷◌, Result, Ok, is_some}
+use Rattle.std.specs.{Prelude.unwrap_or, Str.bytes_eq, Option.option_or, Result.result_err}
+use Rattle.csv_rows.specs.{Ids.{text_in, name_in}, declared.columns.Column.TheVariants.{StopId, LocationType, ParentStation}}
+use Rattle.csv_rows.specs.{declared.feed_tables.{Table.TheVariants.Stops, FeedFault.{FeedFault, TheVariants.{BadField, UnknownKey}}}, Lists.first_below}
+use Rattle.csv_rows.specs.{Lists.list_below, Tables.{row_count, number_in, index_of, field_at, field}, RowFaults.{first_missing, repeated_id}}
 use Rattle.plan_model.specs.Results.{require, value_or}
-use Rattle.csv_rows.specs.declared.columns.Column.TheVariants.{StopId, LocationType, ParentStation}
-use Rattle.csv_rows.specs.declared.feed_tables.Table.TheVariants.{Stops}
-use Rattle.csv_rows.specs.declared.feed_tables.FeedFault.{FeedFault}
-use Rattle.csv_rows.specs.declared.feed_tables.FeedFault.TheVariants.{BadField, UnknownKey}
-use Rattle.csv_rows.specs.Lists.{first_below}
-use Rattle.csv_rows.specs.Tables.{row_count, number_in, index_of, field_at, field}
 use Rattle.feed_lists.specs.declared.stops.StopColumns.{StopColumns}
-use Rattle.csv_rows.specs.RowFaults.{first_missing, repeated_id}
-use Rattle.csv_rows.specs.Lists.{list_below}
 
 -- whether a location is a stop or a platform; else it is a station, an entrance, a node or a boarding area
 abbrev pub is_stop_in : List ℕ → Option Bool

@@ -1,18 +1,10 @@
 -- The trips of a feed: their ids, services, routes and route types.
-use Rattle.std.specs.Prelude.{ℕ, ◌+◌, List, [], ◌∷◌, slice_index, Option, Result, Ok}
-use Rattle.std.specs.Option.{option_or}
-use Rattle.std.specs.Result.{result_err}
+use Rattle.std.specs.{Prelude.{ℕ, ◌+◌, List, [], ◌∷◌, slice_index, Option, Result, Ok}, Option.option_or, Result.result_err}
 use Rattle.plan_model.specs.Results.{require, value_or}
-use Rattle.csv_rows.specs.declared.columns.Column.TheVariants.{RouteId, ServiceId, TripId}
-use Rattle.csv_rows.specs.declared.feed_tables.Table.TheVariants.{Trips}
-use Rattle.csv_rows.specs.declared.feed_tables.FeedFault.{FeedFault}
-use Rattle.csv_rows.specs.declared.feed_tables.FeedFault.TheVariants.{BadField, UnknownKey}
-use Rattle.csv_rows.specs.Lists.{first_below}
-use Rattle.csv_rows.specs.Ids.{name_in}
-use Rattle.csv_rows.specs.Tables.{row_count, number_in, index_of, field_at, field}
+use Rattle.csv_rows.specs.declared.{columns.Column.TheVariants.{RouteId, ServiceId, TripId}, feed_tables.{Table.TheVariants.Trips, FeedFault.FeedFault}}
+use Rattle.csv_rows.specs.{declared.feed_tables.FeedFault.TheVariants.{BadField, UnknownKey}, Lists.{first_below, list_below}, Ids.name_in, Tables.row_count}
+use Rattle.csv_rows.specs.{Tables.{number_in, index_of, field_at, field}, RowFaults.{first_missing, repeated_id}}
 use Rattle.feed_lists.specs.declared.trips.TripColumns.{TripColumns}
-use Rattle.csv_rows.specs.RowFaults.{first_missing, repeated_id}
-use Rattle.csv_rows.specs.Lists.{list_below}
 
 -- a trip by the number of its route, its service and its id
 pub record Trip : Type 0 where

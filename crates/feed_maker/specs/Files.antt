@@ -1,10 +1,7 @@
 -- The meaning of the files of a made timetable.
 use Rattle.std.specs.Prelude.{ℕ, List, ◌∷◌, Option, Some, codes, if◌then◌else◌}
-use Rattle.file_ports.specs.Ports.{FileMap, FilesState}
-use Rattle.file_ports.specs.Steady.{folder_of as others_on, open_of as open_on, remaining_of as remaining_on}
-use Rattle.feed_maker.specs.StopTimes.{remaining_of as times_remaining, lines_of}
-use Rattle.feed_maker.specs.MadeTables.{stop_times_text}
-use Rattle.feed_maker.specs.declared.files.MadeFiles.{MadeFiles}
+use Rattle.file_ports.specs.{Ports.{FileMap, FilesState}, Steady.{folder_of as others_on, open_of as open_on, remaining_of as remaining_on}}
+use Rattle.feed_maker.specs.{StopTimes.{remaining_of as times_remaining, lines_of}, MadeTables.stop_times_text, declared.files.MadeFiles.MadeFiles}
 
 -- the files by their paths
 abbrev pub folder_of : MadeFiles → FileMap

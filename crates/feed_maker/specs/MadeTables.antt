@@ -1,8 +1,6 @@
 -- The tables of the feed and the delay file of a made timetable, by the number of lines, and its files.
-use Rattle.std.specs.Prelude.{ℕ, ◌+◌, ◌%◌, List, ◌++◌, codes, decimal, flat_map, ◌≡◌, [], ◌∷◌}
-use Rattle.std.specs.List.{range_with_len}
-use Rattle.feed_maker.specs.Names.{seconds_at}
-use Rattle.feed_maker.specs.Names.{hub_name, own_name, route_name, trip_name, name_at, time_text}
+use Rattle.std.specs.{Prelude.{ℕ, ◌+◌, ◌%◌, List, ◌++◌, codes, decimal, flat_map, ◌≡◌, [], ◌∷◌}, List.range_with_len}
+use Rattle.feed_maker.specs.Names.{seconds_at, hub_name, own_name, route_name, trip_name, name_at, time_text}
 use Rattle.file_ports.specs.Ports.{FileMap, file_at}
 
 -- the pieces of the numbers below `count`, one after another

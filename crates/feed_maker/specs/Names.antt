@@ -1,7 +1,6 @@
 -- Lines between ten hubs, how hubs, stops, routes, trips and times are written, and the pieces that rows of stop times have in common.
 use Rattle.std.specs.Prelude.{ℕ, ◌+◌, ◌*◌, ◌/◌, ◌%◌, List, ◌++◌, codes, decimal, nat_eq, if◌then◌else◌, ◌≡◌, ◌<◌, length, slice_get, IfSome}
-use Rattle.feed_maker.specs.declared.names.Stop.{Stop}
-use Rattle.feed_maker.specs.declared.names.Stop.TheVariants.{Hub, Own}
+use Rattle.feed_maker.specs.declared.names.Stop.{Stop, TheVariants.{Hub, Own}}
 use Rattle.arrayvec.specs.ArrayString.{ArrayString}
 
 -- the hubs where a line starts and ends

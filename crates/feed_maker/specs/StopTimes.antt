@@ -1,8 +1,6 @@
 -- The meaning of stop times that are made as they are read.
-use Rattle.std.specs.Prelude.{ℕ, ◌-◌, List, ◌++◌, drop, flat_map}
-use Rattle.std.specs.List.{range_with_len}
-use Rattle.feed_maker.specs.MadeTables.{line_rows}
-use Rattle.feed_maker.specs.declared.stop_times.StopTimes.{StopTimes}
+use Rattle.std.specs.{Prelude.{ℕ, ◌-◌, List, ◌++◌, drop, flat_map}, List.range_with_len}
+use Rattle.feed_maker.specs.{MadeTables.line_rows, declared.stop_times.StopTimes.StopTimes}
 
 -- the rows of this number of lines from one on
 abbrev pub rows_from : ℕ → ℕ → List ℕ

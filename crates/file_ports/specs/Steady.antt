@@ -1,7 +1,6 @@
 -- The meaning of files in memory that never fail.
 use Rattle.std.specs.Prelude.{◌≡◌, ℕ, List, map, if◌then◌else◌, Option, Some, option_map, option_and_then, slice_get, drop, bytes_eq, string_bytes}
-use Rattle.file_ports.specs.Ports.{FileMap, FilesState, file_at}
-use Rattle.file_ports.specs.declared.steady.SteadyFiles.{SteadyFiles}
+use Rattle.file_ports.specs.{Ports.{FileMap, FilesState, file_at}, declared.steady.SteadyFiles.SteadyFiles}
 
 -- the files by their paths
 abbrev pub folder_of : SteadyFiles → FileMap

@@ -1,14 +1,8 @@
 -- Rows gathered by place.
-use Rattle.std.specs.Prelude.{ℕ, ◌+◌, List, [], ◌∷◌, ◌==◌, if◌then◌else◌, map, slice_index_or}
-use Rattle.std.specs.Ordering.{nat_cmp, ordering_then}
-use Rattle.std.specs.declared.cmp.Ordering.{Ordering}
-use Rattle.std.specs.BTreeSet.{BTreeSet, insert_key}
-use Rattle.plan_model.specs.Network.{NetworkModel}
-use Rattle.plan_model.specs.Unfold.{end_of}
-use Rattle.plan_graph.specs.declared.GraphRow.{GraphRow}
-use Rattle.plan_graph.specs.declared.Ride.{Ride}
-use Rattle.plan_graph.specs.declared.PlaceTable.{PlaceTable}
-use Rattle.plan_graph.specs.Walked.{leg_cmp}
+use Rattle.std.specs.{Prelude.{ℕ, ◌+◌, List, [], ◌∷◌, ◌==◌, if◌then◌else◌, map, slice_index_or}, Ordering.{nat_cmp, ordering_then}}
+use Rattle.std.specs.{declared.cmp.Ordering.Ordering, BTreeSet.{BTreeSet, insert_key}}
+use Rattle.plan_model.specs.{Network.NetworkModel, Unfold.end_of}
+use Rattle.plan_graph.specs.{declared.{GraphRow.GraphRow, Ride.Ride, PlaceTable.PlaceTable}, Walked.leg_cmp}
 
 -- by moment, and then by leg
 abbrev pub row_cmp : GraphRow → GraphRow → Ordering

@@ -1,12 +1,7 @@
 -- Rows by the limits of their legs.
 use Rattle.std.specs.Prelude.{ℕ, Bool, false, List, [], ◌∷◌, Option, Some, None, ◌==◌, if◌then◌else◌}
-use Rattle.plan_model.specs.declared.model.Leg.{Leg}
-use Rattle.plan_model.specs.Network.{NetworkModel}
-use Rattle.plan_model.specs.Ways.{limit_of}
-use Rattle.plan_model.specs.Unfold.{end_of}
-use Rattle.plan_graph.specs.declared.GraphRow.{GraphRow}
-use Rattle.plan_graph.specs.declared.Ride.{Ride}
-use Rattle.plan_graph.specs.Walked.{row_by}
+use Rattle.plan_model.specs.{declared.model.Leg.Leg, Network.NetworkModel, Ways.limit_of, Unfold.end_of}
+use Rattle.plan_graph.specs.{declared.{GraphRow.GraphRow, Ride.Ride}, Walked.row_by}
 
 -- the moment is that of the row before
 abbrev pub is_last : Option ℕ → ℕ → Bool

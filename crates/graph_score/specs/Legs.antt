@@ -1,18 +1,9 @@
 -- The legs of a graph, which of them fit a network and a query, and the connections that they end with.
-use Rattle.std.specs.Prelude.{◌≡◌, ◌≢◌, ℕ, ◌+◌, List, [], ◌∷◌, ◌++◌, Option, Some, None, map, length, All, ◌<◌, ◌≤◌, AllPairs, Contains}
-use Rattle.std.specs.List.{flat_map}
-use Rattle.plan_model.specs.declared.model.Leg.{Leg}
-use Rattle.plan_model.specs.declared.model.Query.{Query}
-use Rattle.plan_model.specs.Network.{NetworkModel}
-use Rattle.plan_graph.specs.declared.PlaceTable.{PlaceTable}
-use Rattle.plan_graph.specs.declared.PlanGraph.{PlanGraph}
-use Rattle.plan_graph.specs.Tidy.{IsFitStart, IsFitRow}
-use Rattle.graph_score.specs.declared.legs.GraphLeg.{GraphLeg}
-use Rattle.graph_score.specs.declared.legs.GraphLeg.TheVariants.{Start, Row}
-use Rattle.plan_model.specs.declared.departure.Departure.{Departure}
-use Rattle.plan_model.specs.declared.model.ConnectionId.{ConnectionId}
-use Rattle.plan_model.specs.Network.{count}
+use Rattle.std.specs.{Prelude.{◌≡◌, ◌≢◌, ℕ, ◌+◌, List, [], ◌∷◌, ◌++◌, Option, Some, None, map, length, All, ◌<◌, ◌≤◌, AllPairs, Contains}, List.flat_map}
+use Rattle.plan_model.specs.{declared.{model.{Leg.Leg, Query.Query, ConnectionId.ConnectionId}, departure.Departure.Departure}, Network.{NetworkModel, count}}
 use Rattle.plan_model.specs.Order.{departure_of}
+use Rattle.plan_graph.specs.{declared.{PlaceTable.PlaceTable, PlanGraph.PlanGraph}, Tidy.{IsFitStart, IsFitRow}}
+use Rattle.graph_score.specs.declared.legs.GraphLeg.{GraphLeg, TheVariants.{Start, Row}}
 
 -- the start leg, where there is one
 abbrev pub start_leg : Option Leg → List GraphLeg

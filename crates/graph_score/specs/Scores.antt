@@ -1,21 +1,11 @@
 -- The score of a graph: bounds on the expected arrival of its tree, or where and when a traveller fails, by being stuck or arriving after the deadline.
 use Rattle.std.specs.Prelude.{◌≡◌, ℕ, ◌<◌, ◌≤◌, ◌⊎◌, ◌*◌, List, [], ◌∷◌, ◌-◌, Result, Ok, Err, All}
-use Rattle.plan_model.specs.declared.model.Query.{Query}
-use Rattle.plan_model.specs.Tree.{Tree, Done, Ride, Stuck, Kids, Nil, Kid}
-use Rattle.plan_model.specs.Bounds.{nanos_per_second}
-use Rattle.plan_model.specs.Network.{NetworkModel}
-use Rattle.plan_model.specs.Network.{outcomes, count}
-use Rattle.interval_fixed.specs.Interval.{Interval}
-use Rattle.interval_fixed.specs.Interval.{mean_of}
-use Rattle.plan_model.specs.Strategy.{IsSafeFor}
-use Rattle.plan_model.specs.Expected.{Encloses}
-use Rattle.plan_graph.specs.declared.PlanGraph.{PlanGraph}
-use Rattle.plan_graph.specs.Unfold.{unfold_plan}
-use Rattle.graph_score.specs.declared.ScoreFault.{ScoreFault}
-use Rattle.graph_score.specs.declared.ScoreFault.TheVariants.{NoSuchLeg, Unsafe, NoMemory}
-use Rattle.graph_score.specs.declared.outlooks.Outlook.{Outlook}
-use Rattle.graph_score.specs.declared.outlooks.Outlook.TheVariants.{Safe, Failing}
-use Rattle.graph_score.specs.Legs.{legs_of, IsFitLeg, IsFirstWrong}
+use Rattle.plan_model.specs.{declared.model.Query.Query, Tree.{Tree, Done, Ride, Stuck, Kids, Nil, Kid}, Bounds.nanos_per_second, Network.NetworkModel}
+use Rattle.plan_model.specs.{Network.{outcomes, count}, Strategy.IsSafeFor, Expected.Encloses}
+use Rattle.interval_fixed.specs.Interval.{Interval, mean_of}
+use Rattle.plan_graph.specs.{declared.PlanGraph.PlanGraph, Unfold.unfold_plan}
+use Rattle.graph_score.specs.declared.{ScoreFault.{ScoreFault, TheVariants.{NoSuchLeg, Unsafe, NoMemory}}, outlooks.Outlook.{Outlook, TheVariants.Safe}}
+use Rattle.graph_score.specs.{declared.outlooks.Outlook.TheVariants.Failing, Legs.{legs_of, IsFitLeg, IsFirstWrong}}
 
 abbrev mutual
   -- by the tree the traveller may be stuck at a place at a moment, or arrive there, at the target, after the deadline

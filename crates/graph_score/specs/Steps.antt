@@ -1,25 +1,12 @@
 -- What comes of a ride, by what comes of those after it.
-use Rattle.std.specs.Prelude.{◌≡◌, ℕ, ◌+◌, ◌-◌, Bool, All, List, [], ◌∷◌, Option, Some, None, ◌==◌, nat_le, nat_lt, ◌||◌, ◌&&◌, if◌then◌else◌, map, slice_index_or, Contains}
-use Rattle.plan_model.specs.declared.model.Leg.{Leg}
-use Rattle.plan_model.specs.declared.model.Outcome.{Outcome}
-use Rattle.plan_model.specs.declared.model.Query.{Query}
-use Rattle.plan_model.specs.Network.{NetworkModel}
-use Rattle.plan_model.specs.Network.{count, to_of, arr_of, outcomes}
-use Rattle.plan_model.specs.Unfold.{by_place, ride_of, unfold_after}
-use Rattle.plan_model.specs.Tree.{Tree}
-use Rattle.plan_graph.specs.declared.PlaceTable.{PlaceTable}
-use Rattle.plan_graph.specs.declared.PlanGraph.{PlanGraph}
-use Rattle.plan_graph.specs.Unfold.{pick_at}
-use Rattle.plan_graph.specs.Tidy.{IsFitRow}
-use Rattle.interval_fixed.specs.Interval.{Interval}
-use Rattle.interval_fixed.specs.Interval.{mean_of}
-use Rattle.graph_score.specs.declared.outlooks.Failure.{Failure}
-use Rattle.graph_score.specs.declared.outlooks.Outlook.{Outlook}
-use Rattle.graph_score.specs.declared.outlooks.Outlook.TheVariants.{Safe, Failing}
-use Rattle.graph_score.specs.Legs.{exit_of}
-use Rattle.graph_score.specs.Scores.{Fails, IsFirstFailure}
-use Rattle.graph_score.specs.Legs.{legs_of}
-use Rattle.graph_score.specs.Scores.{exact, span_of}
+use Rattle.std.specs.Prelude.{◌≡◌, ℕ, ◌+◌, ◌-◌, Bool, All, List, [], ◌∷◌, Option, Some, None, ◌==◌, nat_le, nat_lt, ◌||◌, ◌&&◌, if◌then◌else◌, map}
+use Rattle.std.specs.Prelude.{slice_index_or, Contains}
+use Rattle.plan_model.specs.{declared.model.{Leg.Leg, Outcome.Outcome, Query.Query}, Network.{NetworkModel, count, to_of, arr_of, outcomes}, Unfold.by_place}
+use Rattle.plan_model.specs.{Unfold.{ride_of, unfold_after}, Tree.Tree}
+use Rattle.plan_graph.specs.{declared.{PlaceTable.PlaceTable, PlanGraph.PlanGraph}, Unfold.pick_at, Tidy.IsFitRow}
+use Rattle.interval_fixed.specs.Interval.{Interval, mean_of}
+use Rattle.graph_score.specs.{declared.outlooks.{Failure.Failure, Outlook.{Outlook, TheVariants.{Safe, Failing}}}, Legs.{exit_of, legs_of}, Scores.Fails}
+use Rattle.graph_score.specs.Scores.{IsFirstFailure, exact, span_of}
 
 -- a failure at a place at a moment
 abbrev pub failure : (place moment : ℕ) → Failure

@@ -1,8 +1,7 @@
 -- The texts of the faults of a graph file.
 use Rattle.std.specs.Prelude.{ℕ, List, codes}
 use Rattle.csv_rows.specs.FaultTexts.{at_line}
-use Rattle.graph_text.specs.declared.reader.TextFault.{TextFault}
-use Rattle.graph_text.specs.declared.reader.TextFault.TheVariants.{Row, UnknownName, NotRising, NoLeg, OtherQuery, NoMemory}
+use Rattle.graph_text.specs.declared.reader.TextFault.{TextFault, TheVariants.{Row, UnknownName, NotRising, NoLeg, OtherQuery, NoMemory}}
 
 -- the text of a fault of a graph file
 abbrev pub graph_fault_text : TextFault → List ℕ

@@ -2,21 +2,12 @@
 use Rattle.std.specs.Prelude.{◌≡◌, ◌≢◌, ℕ, zero, suc, ◌+◌, ◌≤◌, List, [], ◌∷◌, Option, Some, None, IsSome, IsTrue, ◌⊎◌, codes}
 use Rattle.clock_text.specs.Times.{moment_at, nanos_at}
 use Rattle.csv_rows.specs.Tables.{table_of}
-use Rattle.plan_model.specs.declared.model.Leg.{Leg}
-use Rattle.plan_model.specs.Network.{NetworkModel}
-use Rattle.plan_model.specs.NameLists.{NameLists}
-use Rattle.plan_model.specs.Network.{from_of, dep_of}
-use Rattle.plan_graph.specs.declared.GraphRow.{GraphRow}
-use Rattle.plan_graph.specs.Ready.{IsLegOf}
-use Rattle.plan_graph.specs.Tidy.{IsFitRow}
+use Rattle.plan_model.specs.{declared.model.Leg.Leg, Network.{NetworkModel, from_of, dep_of}, NameLists.NameLists}
+use Rattle.plan_graph.specs.{declared.GraphRow.GraphRow, Ready.IsLegOf, Tidy.IsFitRow}
 use Rattle.printed_rows.specs.Fields.{field, is_kind, whole_at, number_of, rises}
-use Rattle.graph_text.specs.declared.Head.{Head}
-use Rattle.graph_text.specs.declared.reader.TextFault.{TextFault}
-use Rattle.graph_text.specs.declared.reader.TextFault.TheVariants.{Row, UnknownName, NotRising, NoLeg, OtherQuery, NoMemory}
-use Rattle.graph_text.specs.declared.version.Version.{Version}
-use Rattle.graph_text.specs.Versions.{width_of}
-use Rattle.graph_text.specs.Asked.{IsHeadOf}
-use Rattle.graph_text.specs.GraphRows.{entry_in, is_place, is_head, version_in, IsHeadRow, IsLegRow, IsPlaceRow}
+use Rattle.graph_text.specs.declared.{Head.Head, reader.TextFault.{TextFault, TheVariants.{Row, UnknownName, NotRising, NoLeg, OtherQuery, NoMemory}}}
+use Rattle.graph_text.specs.{declared.version.Version.Version, Versions.width_of, Asked.IsHeadOf, GraphRows.{entry_in, is_place, is_head, version_in}}
+use Rattle.graph_text.specs.GraphRows.{IsHeadRow, IsLegRow, IsPlaceRow}
 
 -- ---- the rules on the row of a line, in their order: it has its form, its names are known, it is later than the row before, it agrees with the network, and it is of the question
 

@@ -3,19 +3,10 @@ use Rattle.std.specs.Prelude.{◌≡◌, ℕ, ◌≤◌, List, [], ◌∷◌, �
 use Rattle.std.specs.Str.{bytes_eq}
 use Rattle.clock_text.specs.Times.{moment_at, nanos_at}
 use Rattle.csv_rows.specs.Tables.{table_of}
-use Rattle.plan_model.specs.declared.model.Leg.{Leg}
-use Rattle.plan_model.specs.Network.{NetworkModel}
-use Rattle.plan_model.specs.NameLists.{NameLists}
-use Rattle.plan_model.specs.Network.{run_of, step_of, from_of, to_of, dep_of, arr_of, change_of}
-use Rattle.plan_graph.specs.declared.GraphRow.{GraphRow}
-use Rattle.plan_graph.specs.declared.PlaceTable.{PlaceTable}
-use Rattle.plan_graph.specs.declared.PlanGraph.{PlanGraph}
-use Rattle.plan_graph.specs.Tidy.{IsFit}
+use Rattle.plan_model.specs.{declared.model.Leg.Leg, Network.{NetworkModel, run_of, step_of, from_of, to_of, dep_of, arr_of, change_of}, NameLists.NameLists}
+use Rattle.plan_graph.specs.{declared.{GraphRow.GraphRow, PlaceTable.PlaceTable, PlanGraph.PlanGraph}, Tidy.IsFit}
 use Rattle.printed_rows.specs.Fields.{field, is_kind, whole_at, number_of}
-use Rattle.graph_text.specs.declared.Head.{Head}
-use Rattle.graph_text.specs.declared.version.Version.{Version}
-use Rattle.graph_text.specs.Versions.{width_of, number_of_version}
-use Rattle.graph_text.specs.declared.version.Version.TheVariants.{First, Second}
+use Rattle.graph_text.specs.{declared.{Head.Head, version.Version.{Version, TheVariants.{First, Second}}}, Versions.{width_of, number_of_version}}
 
 -- whether the field of the entry place is empty, where the version has one
 abbrev pub has_no_entry : Version → List (List ℕ) → Bool

@@ -1,19 +1,10 @@
 -- The texts of graphs.
 use Rattle.std.specs.Prelude.{ℕ, List, [], ◌∷◌, ◌++◌, Option, Some, None, ◌==◌, if◌then◌else◌, length, codes, decimal}
 use Rattle.clock_text.specs.Civil.{moment_text, nanos_text}
-use Rattle.plan_model.specs.declared.model.Leg.{Leg}
-use Rattle.plan_model.specs.Network.{NetworkModel}
-use Rattle.plan_model.specs.NameLists.{NameLists}
-use Rattle.plan_model.specs.Network.{run_of, step_of, from_of, dep_of, arr_of, to_of, change_of}
-use Rattle.plan_graph.specs.declared.GraphRow.{GraphRow}
-use Rattle.plan_graph.specs.declared.Ride.{Ride}
-use Rattle.plan_graph.specs.declared.PlaceTable.{PlaceTable}
-use Rattle.plan_graph.specs.declared.ExpandedGraph.{ExpandedGraph}
-use Rattle.plan_graph.specs.declared.PlanGraph.{PlanGraph}
+use Rattle.plan_model.specs.{declared.model.Leg.Leg, Network.{NetworkModel, run_of, step_of, from_of, dep_of, arr_of, to_of, change_of}, NameLists.NameLists}
+use Rattle.plan_graph.specs.declared.{GraphRow.GraphRow, Ride.Ride, PlaceTable.PlaceTable, ExpandedGraph.ExpandedGraph, PlanGraph.PlanGraph}
 use Rattle.printed_rows.specs.Records.{row_of_fields, place_name, run_name}
-use Rattle.graph_text.specs.declared.Head.{Head}
-use Rattle.graph_text.specs.declared.version.Version.{Version}
-use Rattle.graph_text.specs.Versions.{number_of_version, ninth, tables_leave, rides_leave, version_by}
+use Rattle.graph_text.specs.{declared.{Head.Head, version.Version.Version}, Versions.{number_of_version, ninth, tables_leave, rides_leave, version_by}}
 
 -- the fields of a leg: run, entry step, departure, exit step, exit place, scheduled arrival, and the entry place in the second version
 abbrev pub leg_fields : NetworkModel → NameLists → Version → Leg → List (List ℕ)

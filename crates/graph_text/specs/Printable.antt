@@ -1,13 +1,7 @@
 -- Which graphs can be printed.
 use Rattle.std.specs.Prelude.{ℕ, ◌<◌, ◌≤◌, length, All, IfSome}
-use Rattle.plan_model.specs.declared.model.Query.{Query}
-use Rattle.plan_model.specs.Network.{NetworkModel}
-use Rattle.plan_graph.specs.declared.GraphRow.{GraphRow}
-use Rattle.plan_graph.specs.declared.Ride.{Ride}
-use Rattle.plan_graph.specs.declared.PlaceTable.{PlaceTable}
-use Rattle.plan_graph.specs.declared.ExpandedGraph.{ExpandedGraph}
-use Rattle.plan_graph.specs.declared.PlanGraph.{PlanGraph}
-use Rattle.plan_graph.specs.Ready.{IsLegOf}
+use Rattle.plan_model.specs.{declared.model.Query.Query, Network.NetworkModel}
+use Rattle.plan_graph.specs.{declared.{GraphRow.GraphRow, Ride.Ride, PlaceTable.PlaceTable, ExpandedGraph.ExpandedGraph, PlanGraph.PlanGraph}, Ready.IsLegOf}
 use Rattle.clock_text.specs.Civil.{last_printable}
 
 -- a moment before the year 10000

@@ -1,34 +1,16 @@
 -- How a graph is found in the rows of its text, or the first of the text's faults by line. `GraphRows` has which texts are graphs.
-use Rattle.std.specs.Prelude.{◌≡◌, ℕ, ◌+◌, ◌-◌, Bool, false, List, [], ◌∷◌, ◌++◌, length, ◌==◌, ◌&&◌, nat_le, if◌then◌else◌, codes, Option, Some, None, Result, Ok, Err, ◌⊎◌, ◌<◌, IsSome, IfSome}
-use Rattle.std.specs.Option.{option_map, option_and_then}
-use Rattle.plan_model.specs.Results.{and_then, require}
+use Rattle.std.specs.Prelude.{◌≡◌, ℕ, ◌+◌, ◌-◌, Bool, false, List, [], ◌∷◌, ◌++◌, length, ◌==◌, ◌&&◌, nat_le, if◌then◌else◌, codes, Option, Some, None, Result}
+use Rattle.std.specs.{Prelude.{Ok, Err, ◌⊎◌, ◌<◌, IsSome, IfSome}, Option.{option_map, option_and_then}}
+use Rattle.plan_model.specs.{Results.{and_then, require}, declared.model.{Leg.Leg, Moment.Moment, PlaceId.PlaceId}, Network.{NetworkModel, connection, from_of}}
+use Rattle.plan_model.specs.{Network.{to_of, dep_of, arr_of, change_of}, NameLists.NameLists, Ways.limit_of}
 use Rattle.clock_text.specs.Times.{moment_at, nanos_at}
-use Rattle.csv_rows.specs.Tables.{table_of}
-use Rattle.csv_rows.specs.declared.rows.RowsFault.{RowsFault}
-use Rattle.csv_rows.specs.declared.rows.RowsFault.TheVariants as rows
-use Rattle.plan_model.specs.declared.model.Leg.{Leg}
-use Rattle.plan_model.specs.Network.{NetworkModel}
-use Rattle.plan_model.specs.NameLists.{NameLists}
-use Rattle.plan_model.specs.Network.{connection, from_of, to_of, dep_of, arr_of, change_of}
-use Rattle.plan_model.specs.Ways.{limit_of}
-use Rattle.plan_graph.specs.declared.GraphRow.{GraphRow}
-use Rattle.plan_graph.specs.declared.PlaceTable.{PlaceTable}
-use Rattle.plan_graph.specs.declared.PlanGraph.{PlanGraph}
+use Rattle.csv_rows.specs.{Tables.table_of, declared.rows.RowsFault.RowsFault}
+use Rattle.plan_graph.specs.declared.{GraphRow.GraphRow, PlaceTable.PlaceTable, PlanGraph.PlanGraph}
 use Rattle.printed_rows.specs.Fields.{field, is_kind, whole_at, number_of, is_query, connection_of, rises}
-use Rattle.graph_text.specs.declared.Head.{Head}
-use Rattle.graph_text.specs.declared.reader.TextFault.{TextFault}
-use Rattle.graph_text.specs.declared.version.Version.{Version}
-use Rattle.graph_text.specs.Versions.{width_of}
-use Rattle.graph_text.specs.GraphRows.{entry_in, is_place, is_head, version_in}
-use Rattle.graph_text.specs.declared.reader.TextFault.TheVariants.{Row, UnknownName, NotRising, NoLeg, OtherQuery, NoMemory}
-use Rattle.graph_text.specs.declared.reader.HeadRow.{HeadRow}
-use Rattle.graph_text.specs.declared.reader.LegRow.{LegRow}
-use Rattle.graph_text.specs.declared.reader.LegNames.{LegNames}
-use Rattle.graph_text.specs.declared.reader.PlaceRow.{PlaceRow}
-use Rattle.graph_text.specs.declared.reader.TableStart.{TableStart}
-use Rattle.graph_text.specs.declared.reader.Reading.{Reading}
-use Rattle.plan_model.specs.declared.model.Moment.{Moment}
-use Rattle.plan_model.specs.declared.model.PlaceId.{PlaceId}
+use Rattle.graph_text.specs.declared.{Head.Head, reader.TextFault.{TextFault, TheVariants.{Row, UnknownName, NotRising, NoLeg, OtherQuery, NoMemory}}}
+use Rattle.graph_text.specs.declared.reader.{HeadRow.HeadRow, LegRow.LegRow, LegNames.LegNames, PlaceRow.PlaceRow, TableStart.TableStart, Reading.Reading}
+use Rattle.graph_text.specs.{declared.version.Version.Version, Versions.width_of, GraphRows.{entry_in, is_place, is_head, version_in}}
+use Rattle.csv_rows.specs.declared.rows.RowsFault.TheVariants as rows
 
 -- the numbers of a leg's row, where all are there
 abbrev pub leg_numbers : Option ℕ → Option ℕ → Option ℕ → Option ℕ → Option ℕ → Option LegRow

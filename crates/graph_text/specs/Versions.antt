@@ -1,13 +1,8 @@
 -- The two versions of a graph's text.
 use Rattle.std.specs.Prelude.{ℕ, Bool, true, List, [], ◌∷◌, ◌==◌, ◌&&◌, if◌then◌else◌, codes}
-use Rattle.plan_model.specs.Network.{NetworkModel}
-use Rattle.plan_model.specs.Network.{from_of}
-use Rattle.plan_model.specs.Unfold.{end_of}
-use Rattle.plan_graph.specs.declared.GraphRow.{GraphRow}
-use Rattle.plan_graph.specs.declared.Ride.{Ride}
-use Rattle.plan_graph.specs.declared.PlaceTable.{PlaceTable}
-use Rattle.graph_text.specs.declared.version.Version.{Version}
-use Rattle.graph_text.specs.declared.version.Version.TheVariants.{First, Second}
+use Rattle.plan_model.specs.{Network.{NetworkModel, from_of}, Unfold.end_of}
+use Rattle.plan_graph.specs.declared.{GraphRow.GraphRow, Ride.Ride, PlaceTable.PlaceTable}
+use Rattle.graph_text.specs.declared.version.Version.{Version, TheVariants.{First, Second}}
 
 -- its number, as the first row gives it
 abbrev pub number_of_version : Version → List ℕ

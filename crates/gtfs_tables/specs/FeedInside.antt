@@ -1,12 +1,9 @@
 -- The parts of a feed.
-use Rattle.std.specs.Prelude.{◌≡◌, ℕ, ◌<◌, ◌≤◌, [], slice_index_or, length, All}
-use Rattle.std.specs.List.Sorted.{IsNonDecreasing}
-use Rattle.gtfs_tables.specs.declared.feed.Feed.TheInside.{Inside}
+use Rattle.std.specs.{Prelude.{◌≡◌, ℕ, ◌<◌, ◌≤◌, [], slice_index_or, length, All}, List.Sorted.IsNonDecreasing}
+use Rattle.gtfs_tables.specs.{declared.feed.Feed.TheInside.Inside, Feeds.{FeedParts, IsSoundFeed}, Parts.parts_by}
 use Rattle.stop_times.specs.StopTimeBounds.{most_stop_times}
 use Rattle.trip_frequencies.specs.FrequencyBounds.{most_frequencies}
 use Rattle.feed_lists.specs.ListBounds.{most_stops, most_trips}
-use Rattle.gtfs_tables.specs.Feeds.{FeedParts, IsSoundFeed}
-use Rattle.gtfs_tables.specs.Parts.{parts_by}
 
 abbrev pub feed_parts_of : Inside → FeedParts
 feed_parts_of f = parts_by f.lists f.times

@@ -2,25 +2,14 @@
 use Rattle.std.specs.Prelude.{◌≡◌, ℕ, ◌<◌, List, [], length, slice_index_or, Option, None, Result, Ok, Err, IfSome}
 use Rattle.plan_model.specs.Results.{and_then}
 use Rattle.file_ports.specs.Ports.{FileMap}
-use Rattle.csv_rows.specs.declared.feed_tables.Table.{Table}
-use Rattle.csv_rows.specs.declared.feed_tables.Table.TheVariants.{Stops, Routes, Trips, StopTimes, Frequencies, Calendar, CalendarDates, Transfers}
-use Rattle.csv_rows.specs.declared.feed_tables.FeedFault.{FeedFault}
-use Rattle.csv_rows.specs.declared.limits.Limits.{Limits}
-use Rattle.table_files.specs.declared.loading.Loaded.{Loaded}
-use Rattle.csv_rows.specs.FeedTables.{table_of_fault, unread_table}
-use Rattle.table_files.specs.Loading.{load_in, loaded_rows}
-use Rattle.csv_rows.specs.Tables.{row_count}
-use Rattle.trip_frequencies.specs.declared.frequencies.FrequencyRow.{FrequencyRow}
-use Rattle.stop_times.specs.declared.rows.StopRow.{StopRow}
-use Rattle.table_files.specs.Loading.{Records}
-use Rattle.feed_lists.specs.Lists.{stops_from, routes_from, trips_from}
-use Rattle.feed_lists.specs.Stops.{stop_ids, stop_places, stops_fault}
-use Rattle.feed_lists.specs.Routes.{route_ids, route_types, routes_fault}
-use Rattle.feed_lists.specs.Trips.{trip_ids, trip_routes, trip_services, trip_types, trips_fault}
-use Rattle.stop_times.specs.StopTimes.{timed_rows, stop_times_fault}
-use Rattle.stop_times.specs.Visits.{AreStopTimes}
-use Rattle.stop_times.specs.Timetables.{stop_times_from}
-use Rattle.trip_frequencies.specs.Frequencies.{frequency_rows, fault_of_frequencies, frequencies_from, all_repeats_of}
+use Rattle.csv_rows.specs.declared.feed_tables.Table.{Table, TheVariants.{Stops, Routes, Trips, StopTimes, Frequencies, Calendar, CalendarDates, Transfers}}
+use Rattle.csv_rows.specs.{declared.{feed_tables.FeedFault.FeedFault, limits.Limits.Limits}, FeedTables.{table_of_fault, unread_table}, Tables.row_count}
+use Rattle.table_files.specs.{declared.loading.Loaded.Loaded, Loading.{load_in, loaded_rows, Records}}
+use Rattle.trip_frequencies.specs.{declared.frequencies.FrequencyRow.FrequencyRow, Frequencies.{frequency_rows, fault_of_frequencies, frequencies_from}}
+use Rattle.trip_frequencies.specs.Frequencies.{all_repeats_of}
+use Rattle.stop_times.specs.{declared.rows.StopRow.StopRow, StopTimes.{timed_rows, stop_times_fault}, Visits.AreStopTimes, Timetables.stop_times_from}
+use Rattle.feed_lists.specs.{Lists.{stops_from, routes_from, trips_from}, Stops.{stop_ids, stop_places, stops_fault}, Routes.{route_ids, route_types}}
+use Rattle.feed_lists.specs.{Routes.routes_fault, Trips.{trip_ids, trip_routes, trip_services, trip_types, trips_fault}}
 
 -- the tables of a feed
 pub record Tables : Type 0 where

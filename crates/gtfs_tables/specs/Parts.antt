@@ -1,21 +1,12 @@
 -- What is read of the tables of a feed: the stops, routes and trips, and when the trips run.
-use Rattle.std.specs.Prelude.{◌≡◌, ℕ, ◌<◌, ◌≤◌, [], slice_index_or, length, Result, Ok}
-use Rattle.std.specs.List.Sorted.{IsNonDecreasing}
+use Rattle.std.specs.{Prelude.{◌≡◌, ℕ, ◌<◌, ◌≤◌, [], slice_index_or, length, Result, Ok}, List.Sorted.IsNonDecreasing}
 use Rattle.plan_model.specs.NameLists.{texts}
-use Rattle.csv_rows.specs.declared.feed_tables.Table.{Table}
-use Rattle.csv_rows.specs.declared.feed_tables.Table.TheVariants.{Stops, Routes, Trips, StopTimes, Frequencies}
-use Rattle.csv_rows.specs.declared.feed_tables.FeedFault.{FeedFault}
-use Rattle.table_files.specs.declared.loading.Loaded.{Loaded}
-use Rattle.gtfs_tables.specs.declared.lists.FeedLists.{FeedLists}
+use Rattle.csv_rows.specs.declared.feed_tables.{Table.{Table, TheVariants.{Stops, Routes, Trips, StopTimes, Frequencies}}, FeedFault.FeedFault}
+use Rattle.table_files.specs.{declared.loading.Loaded.Loaded, Loading.{Records, IsOfSomeTable}}
+use Rattle.gtfs_tables.specs.{declared.{lists.FeedLists.FeedLists, times.TripTimes.TripTimes}, Feeds.FeedParts}
 use Rattle.feed_lists.specs.Lists.{HasStops, HasRoutes, HasTrips, AreSoundStops, AreSoundRoutes, AreSoundTrips, stops_from, routes_from, trips_from}
-use Rattle.gtfs_tables.specs.declared.times.TripTimes.{TripTimes}
-use Rattle.stop_times.specs.StopTimeBounds.{most_stop_times}
-use Rattle.trip_frequencies.specs.FrequencyBounds.{most_frequencies}
-use Rattle.table_files.specs.Loading.{Records, IsOfSomeTable}
-use Rattle.stop_times.specs.Timetables.{stop_times_from, AreVisits}
-use Rattle.gtfs_tables.specs.Feeds.{FeedParts}
-use Rattle.trip_frequencies.specs.Frequencies.{frequencies_from, AreFrequencies, fault_of_frequencies}
-use Rattle.stop_times.specs.StopTimes.{stop_times_fault}
+use Rattle.stop_times.specs.{StopTimeBounds.most_stop_times, Timetables.{stop_times_from, AreVisits}, StopTimes.stop_times_fault}
+use Rattle.trip_frequencies.specs.{FrequencyBounds.most_frequencies, Frequencies.{frequencies_from, AreFrequencies, fault_of_frequencies}}
 use Rattle.trip_frequencies.specs.Repeats.{all_repeats_in}
 
 -- the parts of a feed

@@ -1,12 +1,8 @@
 -- What holds of the kept rows of the trips of a feed, and of their rows of frequencies.
 use Rattle.std.specs.Prelude.{◌≡◌, ℕ, ◌<◌, ◌≤◌, List, [], length, slice_index_or, All, sum_by, ◌+◌}
-use Rattle.trip_frequencies.specs.declared.frequencies.FrequencyRow.{FrequencyRow}
-use Rattle.stop_times.specs.StopTimeBounds.{end_of_times, most_stop_times}
-use Rattle.trip_frequencies.specs.FrequencyBounds.{most_headway, most_frequencies}
+use Rattle.trip_frequencies.specs.{declared.frequencies.FrequencyRow.FrequencyRow, FrequencyBounds.{most_headway, most_frequencies}, Frequencies.no_frequency}
+use Rattle.stop_times.specs.{StopTimeBounds.{end_of_times, most_stop_times}, declared.rows.StopRow.StopRow, Visits.no_visit}
 use Rattle.gtfs_tables.specs.Feeds.{FeedParts}
-use Rattle.trip_frequencies.specs.Frequencies.{no_frequency}
-use Rattle.stop_times.specs.declared.rows.StopRow.{StopRow}
-use Rattle.stop_times.specs.Visits.{no_visit}
 use Rattle.plan_model.specs.Bounds.{end_of_steps}
 
 -- its headway and its times are within their bounds

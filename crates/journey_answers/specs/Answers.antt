@@ -1,26 +1,14 @@
 -- The answers about the strategies of a journey.
 use Rattle.std.specs.Prelude.{◌≡◌, ℕ, ◌<◌, ◌≤◌, List, length, None, Some}
-use Rattle.plan_model.specs.declared.model.Moment.{Moment}
-use Rattle.plan_model.specs.declared.model.Query.{Query}
-use Rattle.plan_model.specs.Network.{NetworkModel}
-use Rattle.plan_model.specs.Strategy.{IsLeastWorst, deadline_of}
+use Rattle.plan_model.specs.{declared.model.{Moment.Moment, Query.Query}, Network.NetworkModel, Strategy.{IsLeastWorst, deadline_of}, Bounds.end_of_time}
+use Rattle.plan_model.specs.Bounds.{last_start}
 use Rattle.interval_fixed.specs.Interval.{Interval}
-use Rattle.plan_graph.specs.declared.ExpandedGraph.{ExpandedGraph}
-use Rattle.plan_graph.specs.declared.PlanGraph.{PlanGraph}
-use Rattle.decision_graph.specs.Planned.{IsExpanded}
-use Rattle.decision_graph.specs.Planned.{IsPlanned}
-use Rattle.graph_text.specs.declared.Head.{Head}
-use Rattle.graph_text.specs.GraphRows.{IsTextOf}
-use Rattle.graph_text.specs.GraphTexts.{expanded_text, plan_text}
+use Rattle.plan_graph.specs.declared.{ExpandedGraph.ExpandedGraph, PlanGraph.PlanGraph}
+use Rattle.decision_graph.specs.Planned.{IsExpanded, IsPlanned}
+use Rattle.graph_text.specs.{declared.Head.Head, GraphRows.IsTextOf, GraphTexts.{expanded_text, plan_text}}
 use Rattle.printed_rows.specs.Records.{place_name}
-use Rattle.journey_model.specs.declared.faults.Fault.{Fault}
-use Rattle.journey_model.specs.declared.faults.Fault.TheVariants.{NoSafe}
-use Rattle.journey_model.specs.Sites.{last_printable}
-use Rattle.journey_model.specs.declared.problem.Problem.{Problem}
-use Rattle.journey_report.specs.Findings.{Findings, safe_findings, expand_findings, plan_findings}
-use Rattle.journey_report.specs.AnswerTexts.{safe_text}
-use Rattle.plan_model.specs.Bounds.{end_of_time, last_start}
-use Rattle.journey_model.specs.Faults.{OrNoMemory}
+use Rattle.journey_model.specs.{declared.{faults.Fault.{Fault, TheVariants.NoSafe}, problem.Problem.Problem}, Sites.last_printable, Faults.OrNoMemory}
+use Rattle.journey_report.specs.{Findings.{Findings, safe_findings, expand_findings, plan_findings}, AnswerTexts.safe_text}
 
 -- this is the least worst arrival of the query
 abbrev pub IsWorst : NetworkModel → Query → Moment → Type 0

@@ -1,19 +1,11 @@
 -- What `certify` answers, a certificate of the query, and `check`, that one holds.
 use Rattle.std.specs.Prelude.{◌≡◌, ℕ, List, Option}
-use Rattle.plan_model.specs.declared.model.Moment.{Moment}
-use Rattle.plan_model.specs.declared.model.Query.{Query}
-use Rattle.lower_proof.specs.declared.LowerBounds.{LowerBounds}
-use Rattle.lower_proof.specs.Certificates.{IsTight, IsLeastAtStart, IsAccepted, IsLastFault}
-use Rattle.lower_proof.specs.Promises.{IsBestCertificate, IsSound}
-use Rattle.lower_proof.specs.Reading.{ReadsBack}
-use Rattle.lower_proof.specs.CertificateTexts.{certificate_text}
-use Rattle.journey_model.specs.declared.problem.Problem.{Problem}
-use Rattle.journey_report.specs.Findings.{Findings, certify_findings, check_findings}
-use Rattle.plan_model.specs.declared.model.ConnectionId.{ConnectionId}
+use Rattle.plan_model.specs.declared.model.{Moment.Moment, Query.Query, ConnectionId.ConnectionId}
+use Rattle.lower_proof.specs.{declared.LowerBounds.LowerBounds, Certificates.{IsTight, IsLeastAtStart, IsAccepted, IsLastFault}, Promises.IsBestCertificate}
+use Rattle.lower_proof.specs.{Promises.IsSound, Reading.ReadsBack, CertificateTexts.certificate_text}
+use Rattle.journey_model.specs.declared.{problem.Problem.Problem, faults.Fault.{Fault, TheVariants.ProofFails}}
+use Rattle.journey_report.specs.{Findings.{Findings, certify_findings, check_findings}, AnswerTexts.holds_text}
 use Rattle.printed_rows.specs.Records.{place_name}
-use Rattle.journey_model.specs.declared.faults.Fault.{Fault}
-use Rattle.journey_model.specs.declared.faults.Fault.TheVariants.{ProofFails}
-use Rattle.journey_report.specs.AnswerTexts.{holds_text}
 
 -- the answer of `certify`: of the certificates of the query the greatest that is accepted, with the least value of the ways to leave its run at each
 -- connection that can be boarded; the text reads back

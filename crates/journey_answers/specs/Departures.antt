@@ -1,27 +1,14 @@
 -- The answers about the departures of a journey, and about the latest moment at which one can leave.
 use Rattle.std.specs.Prelude.{ℕ, List, [], ◌∷◌, length, ◌≡◌, ◌≢◌, ◌<◌, ◌≤◌, None, Some}
-use Rattle.plan_model.specs.declared.model.ConnectionId.{ConnectionId}
-use Rattle.plan_model.specs.declared.model.Query.{Query}
-use Rattle.plan_model.specs.Network.{NetworkModel}
-use Rattle.plan_model.specs.Order.{IsScanOrder}
-use Rattle.value_laws.specs.declared.MeanSpan.{MeanSpan}
-use Rattle.value_laws.specs.Means.{mean_scoring}
-use Rattle.meat_scan.specs.Rules.{FollowsRules}
-use Rattle.meat_scan.specs.ScanResult.{ScanResult}
-use Rattle.departure_table.specs.declared.DepartureRow.{DepartureRow}
-use Rattle.plan_model.specs.Gates.{extended_by}
-use Rattle.departure_table.specs.Looked.{row_found, AreLooked}
-use Rattle.journey_model.specs.declared.problem.Problem.{Problem}
-use Rattle.plan_model.specs.declared.model.Moment.{Moment}
-use Rattle.plan_model.specs.Tree.{Tree}
-use Rattle.plan_model.specs.Strategy.{IsSafeFor}
+use Rattle.plan_model.specs.{declared.model.{ConnectionId.ConnectionId, Query.Query, Moment.Moment}, Network.NetworkModel, Order.IsScanOrder, Gates.extended_by}
+use Rattle.plan_model.specs.{Tree.Tree, Strategy.IsSafeFor}
+use Rattle.value_laws.specs.{declared.MeanSpan.MeanSpan, Means.mean_scoring}
+use Rattle.meat_scan.specs.{Rules.FollowsRules, ScanResult.ScanResult}
+use Rattle.departure_table.specs.{declared.DepartureRow.DepartureRow, Looked.{row_found, AreLooked}, Departures.{SafeFrom, IsTable, IsGreatestMoment}}
+use Rattle.journey_model.specs.declared.{problem.Problem.Problem, faults.Fault.{Fault, TheVariants.NoSafe}}
 use Rattle.decision_graph.specs.Planned.{IsNoneSafe}
-use Rattle.departure_table.specs.Departures.{SafeFrom, IsTable, IsGreatestMoment}
 use Rattle.printed_rows.specs.Records.{place_name}
-use Rattle.journey_model.specs.declared.faults.Fault.{Fault}
-use Rattle.journey_model.specs.declared.faults.Fault.TheVariants.{NoSafe}
-use Rattle.journey_report.specs.DepartureTexts.{departures_text, latest_text}
-use Rattle.journey_report.specs.Findings.{Findings, departures_findings, latest_findings}
+use Rattle.journey_report.specs.{DepartureTexts.{departures_text, latest_text}, Findings.{Findings, departures_findings, latest_findings}}
 
 -- what was found is what the rules keep in the scan order
 pub record IsRuled (network : NetworkModel) (query : Query) (found : ScanResult MeanSpan) : Type 0 where

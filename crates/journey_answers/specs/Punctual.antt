@@ -1,19 +1,15 @@
 -- The answer about the least chance of an arrival after a promised moment.
 use Rattle.std.specs.Prelude.{◌≡◌, ℕ, List, ◌++◌}
-use Rattle.plan_model.specs.declared.model.Moment.{Moment}
-use Rattle.plan_model.specs.declared.model.Query.{Query}
+use Rattle.plan_model.specs.declared.model.{Moment.Moment, Query.Query}
 use Rattle.interval_fixed.specs.Interval.{Interval}
-use Rattle.plan_graph.specs.declared.PlanGraph.{PlanGraph}
-use Rattle.plan_graph.specs.Unfold.{unfold_plan}
-use Rattle.graph_text.specs.GraphTexts.{plan_text}
-use Rattle.graph_text.specs.GraphRows.{IsTextOf}
+use Rattle.plan_graph.specs.{declared.PlanGraph.PlanGraph, Unfold.unfold_plan}
+use Rattle.graph_text.specs.{GraphTexts.plan_text, GraphRows.IsTextOf}
 use Rattle.graph_score.specs.Scores.{IsScored}
 use Rattle.late_chance.specs.Punctual.{IsPunctual}
 use Rattle.decision_graph.specs.LeastChances.{IsSeenLater}
 use Rattle.journey_model.specs.declared.problem.Problem.{Problem}
 use Rattle.journey_answers.specs.Answers.{head_of}
-use Rattle.journey_report.specs.Findings.{Findings, punctual_findings}
-use Rattle.journey_report.specs.AnswerTexts.{punctual_row}
+use Rattle.journey_report.specs.{Findings.{Findings, punctual_findings}, AnswerTexts.punctual_row}
 
 -- the text of a graph with its chance is the row of the promise and the text of the graph, which is that of a graph file
 pub record IsPunctualText (p : Problem) (promise : ℕ) (query : Query) (graph : PlanGraph) (chance bounds : Interval) (text : List ℕ) : Type 0 where

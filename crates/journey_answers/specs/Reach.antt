@@ -1,16 +1,11 @@
 -- The answer about the places from which one can reach the target of a journey.
 use Rattle.std.specs.Prelude.{◌≡◌, ℕ, List, All}
-use Rattle.plan_model.specs.declared.model.Query.{Query}
-use Rattle.plan_model.specs.Network.{NetworkModel}
-use Rattle.plan_model.specs.Gates.{FitGates, extended_by}
+use Rattle.plan_model.specs.{declared.model.Query.Query, Network.NetworkModel, Gates.{FitGates, extended_by}}
 use Rattle.value_laws.specs.declared.MeanSpan.{MeanSpan}
 use Rattle.meat_scan.specs.ScanResult.{ScanResult}
-use Rattle.departure_table.specs.declared.reach_rows.ReachRow.{ReachRow}
-use Rattle.departure_table.specs.Reach.{IsReach, IsFoundAtGate, places_of}
-use Rattle.journey_model.specs.declared.faults.Fault.{Fault}
-use Rattle.journey_model.specs.declared.problem.Problem.{Problem}
-use Rattle.journey_report.specs.DepartureTexts.{reach_text}
-use Rattle.journey_report.specs.Findings.{Findings, reach_findings}
+use Rattle.departure_table.specs.{declared.reach_rows.ReachRow.ReachRow, Reach.{IsReach, IsFoundAtGate, places_of}}
+use Rattle.journey_model.specs.declared.{faults.Fault.Fault, problem.Problem.Problem}
+use Rattle.journey_report.specs.{DepartureTexts.reach_text, Findings.{Findings, reach_findings}}
 use Rattle.journey_answers.specs.Departures.{IsRuled, added_query}
 
 -- the bounds are those that the rules give in the network with a gate for each place

@@ -1,18 +1,13 @@
 -- The answer about a graph: bounds on the expected arrival of its strategy.
 use Rattle.std.specs.Prelude.{◌≡◌, List, ℕ}
-use Rattle.plan_model.specs.declared.model.Moment.{Moment}
-use Rattle.plan_model.specs.declared.model.PlaceId.{PlaceId}
+use Rattle.plan_model.specs.declared.model.{Moment.Moment, PlaceId.PlaceId}
 use Rattle.interval_fixed.specs.Interval.{Interval}
-use Rattle.plan_graph.specs.declared.PlanGraph.{PlanGraph}
-use Rattle.plan_graph.specs.Unfold.{unfold_plan}
+use Rattle.plan_graph.specs.{declared.PlanGraph.PlanGraph, Unfold.unfold_plan}
 use Rattle.graph_score.specs.Scores.{IsScored, IsUnsafe}
 use Rattle.graph_text.specs.declared.Head.{Head}
 use Rattle.printed_rows.specs.Records.{place_name}
-use Rattle.journey_model.specs.declared.faults.Fault.{Fault}
-use Rattle.journey_model.specs.declared.faults.Fault.TheVariants.{Unsafe}
-use Rattle.journey_model.specs.declared.problem.Problem.{Problem}
-use Rattle.journey_report.specs.Findings.{Findings, score_findings}
-use Rattle.journey_report.specs.AnswerTexts.{encloses_text}
+use Rattle.journey_model.specs.declared.{faults.Fault.{Fault, TheVariants.Unsafe}, problem.Problem.Problem}
+use Rattle.journey_report.specs.{Findings.{Findings, score_findings}, AnswerTexts.encloses_text}
 
 -- the answer of `check`: the bounds of a graph, whose strategy is safe for its own query
 pub record IsEnclosed (p : Problem) (found : Findings) (text : List ℕ) (head : Head) (graph : PlanGraph) : Type 0 where

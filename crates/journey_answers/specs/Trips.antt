@@ -1,18 +1,12 @@
 -- The answer about the trip by a graph, as the delays come.
 use Rattle.std.specs.Prelude.{◌≡◌, ℕ, List, [], Result, Ok, Err}
 use Rattle.plan_model.specs.Strategy.{IsSafeFor}
-use Rattle.plan_graph.specs.declared.PlanGraph.{PlanGraph}
-use Rattle.plan_graph.specs.Unfold.{unfold_plan}
+use Rattle.plan_graph.specs.{declared.PlanGraph.PlanGraph, Unfold.unfold_plan}
 use Rattle.graph_text.specs.declared.Head.{Head}
-use Rattle.trip_replay.specs.declared.Trace.{Trace}
-use Rattle.trip_replay.specs.declared.ReplayFault.{ReplayFault}
+use Rattle.trip_replay.specs.{declared.{Trace.Trace, ReplayFault.ReplayFault}, Walk.{walk, IsSafeAnswer}}
+use Rattle.journey_model.specs.declared.{faults.Fault.{Fault, TheVariants.{Replay, NoMemory}}, problem.Problem.Problem}
+use Rattle.journey_report.specs.{Findings.{Findings, replay_findings}, AnswerTexts.trace_text}
 use Rattle.trip_replay.specs.declared.ReplayFault.TheVariants as replay
-use Rattle.trip_replay.specs.Walk.{walk, IsSafeAnswer}
-use Rattle.journey_model.specs.declared.faults.Fault.{Fault}
-use Rattle.journey_model.specs.declared.faults.Fault.TheVariants.{Replay, NoMemory}
-use Rattle.journey_model.specs.declared.problem.Problem.{Problem}
-use Rattle.journey_report.specs.Findings.{Findings, replay_findings}
-use Rattle.journey_report.specs.AnswerTexts.{trace_text}
 
 -- a fault of a trip as one of the run
 abbrev pub replay_as : ReplayFault → Fault

@@ -1,21 +1,17 @@
 -- The lines of faults.
 use Rattle.std.specs.Prelude.{ℕ, List, ◌++◌, Option, codes, decimal}
-use Rattle.csv_rows.specs.FeedTables.{file_name}
-use Rattle.csv_rows.specs.FaultTexts.{too_many_rows, feed_fault_text}
+use Rattle.csv_rows.specs.{FeedTables.file_name, FaultTexts.{too_many_rows, feed_fault_text}}
 use Rattle.command_line.specs.FaultTexts.{words_fault_text}
 use Rattle.cut_file.specs.FaultTexts.{cut_fault_text}
 use Rattle.delay_table.specs.FaultTexts.{delay_fault_text}
 use Rattle.graph_text.specs.FaultTexts.{graph_fault_text}
 use Rattle.lower_proof.specs.FaultTexts.{certificate_fault_text}
 use Rattle.trip_replay.specs.FaultTexts.{replay_fault_text}
+use Rattle.journey_model.specs.declared.faults.{LimitKind.{LimitKind, TheVariants.{Bytes, Rows, CutRows, Connections, Entries}}, Fault.Fault}
+use Rattle.journey_model.specs.declared.faults.Fault.TheVariants.{Words, Feed, Cut, Missing, Delays, UnknownStop, Limit, Read, NoSafe, GraphFile, Replay}
+use Rattle.journey_model.specs.{declared.faults.Fault.TheVariants.{ProofFile, ProofFails, Unsafe, Write, NoMemory}, Faults.input_name, Sites.NamedParts}
+use Rattle.journey_model.specs.Sites.{site_of, site_text_in}
 use Rattle.journey_model.specs.declared.faults.Which.TheVariants as which
-use Rattle.journey_model.specs.declared.faults.LimitKind.{LimitKind}
-use Rattle.journey_model.specs.declared.faults.LimitKind.TheVariants.{Bytes, Rows, CutRows, Connections, Entries}
-use Rattle.journey_model.specs.declared.faults.Fault.{Fault}
-use Rattle.journey_model.specs.declared.faults.Fault.TheVariants.{Words, Feed, Cut, Missing, Delays, UnknownStop, Limit, Read, NoSafe, GraphFile, Replay, ProofFile, ProofFails, Unsafe, Write}
-use Rattle.journey_model.specs.declared.faults.Fault.TheVariants.{NoMemory}
-use Rattle.journey_model.specs.Faults.{input_name}
-use Rattle.journey_model.specs.Sites.{NamedParts, site_of, site_text_in}
 
 -- the text of what there is too much of
 abbrev pub limit_text : LimitKind → ℕ → List ℕ

@@ -1,9 +1,8 @@
 -- The faults of a run: the number that a process ends with, the file that a fault is of, and why there is no answer.
 use Rattle.std.specs.Prelude.{◌≡◌, ◌≢◌, ℕ, ◌+◌, ◌==◌, Bool, false, List, Option, None, Some, IfSome, codes, ◌⊎◌}
 use Rattle.csv_rows.specs.FeedTables.{file_name, rank_of}
-use Rattle.journey_model.specs.declared.faults.Input.{Input}
-use Rattle.journey_model.specs.declared.faults.Fault.{Fault}
-use Rattle.journey_model.specs.declared.faults.Fault.TheVariants.{Words, Feed, Cut, Missing, Delays, UnknownStop, Limit, Read, NoSafe, GraphFile, Replay, ProofFile, ProofFails, Unsafe, Write, NoMemory}
+use Rattle.journey_model.specs.declared.faults.{Input.Input, Fault.{Fault, TheVariants.{Words, Feed, Cut, Missing, Delays, UnknownStop, Limit, Read, NoSafe}}}
+use Rattle.journey_model.specs.declared.faults.Fault.TheVariants.{GraphFile, Replay, ProofFile, ProofFails, Unsafe, Write, NoMemory}
 use Rattle.journey_model.specs.declared.faults.Input.TheVariants as input
 
 -- where this file is missing

@@ -1,9 +1,7 @@
 -- The timetable of a problem, for the lines of faults.
-use Rattle.std.specs.Prelude.{Option, option_map}
-use Rattle.std.specs.Borrow.{Bor}
+use Rattle.std.specs.{Prelude.{Option, option_map}, Borrow.Bor}
 use Rattle.plan_model.specs.declared.timetable.Timetable.{Timetable}
-use Rattle.journey_model.specs.Sites.{NamedParts}
-use Rattle.journey_model.specs.declared.problem.Problem.{Problem}
+use Rattle.journey_model.specs.{Sites.NamedParts, declared.problem.Problem.Problem}
 
 -- a timetable, for the lines of faults
 abbrev pub named_parts : Timetable → NamedParts

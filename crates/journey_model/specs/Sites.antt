@@ -2,19 +2,13 @@
 use Rattle.std.specs.Prelude.{ℕ, ◌<◌, ◌≤◌, List, [], ◌++◌, length, Option, None, Some, codes, decimal}
 use Rattle.clock_text.specs.Civil.{moment_text}
 pub use Rattle.clock_text.specs.Civil.{last_printable}
-use Rattle.plan_model.specs.declared.model.Moment.{Moment}
-use Rattle.plan_model.specs.declared.model.PlaceId.{PlaceId}
-use Rattle.plan_model.specs.Network.{NetworkModel}
-use Rattle.plan_model.specs.NameLists.{NameLists}
-use Rattle.plan_model.specs.Network.{count, run_of, step_of}
+use Rattle.plan_model.specs.{declared.model.{Moment.Moment, PlaceId.PlaceId}, Network.{NetworkModel, count, run_of, step_of}, NameLists.NameLists}
 use Rattle.printed_rows.specs.Records.{place_name, run_name}
 use Rattle.trip_replay.specs.declared.ReplayFault.{ReplayFault}
-use Rattle.trip_replay.specs.declared.ReplayFault.TheVariants as replay
-use Rattle.journey_model.specs.declared.faults.Site.{Site}
-use Rattle.journey_model.specs.declared.faults.Site.TheVariants.{Arrival, Connection}
-use Rattle.journey_model.specs.declared.faults.Fault.{Fault}
-use Rattle.journey_model.specs.declared.faults.Fault.TheVariants.{Words, Feed, Cut, Missing, Delays, UnknownStop, Limit, Read, NoSafe, GraphFile, Replay, ProofFile, ProofFails, Unsafe, Write}
+use Rattle.journey_model.specs.declared.faults.{Site.{Site, TheVariants.{Arrival, Connection}}, Fault.{Fault, TheVariants.{Words, Feed, Cut, Missing, Delays}}}
+use Rattle.journey_model.specs.declared.faults.Fault.TheVariants.{UnknownStop, Limit, Read, NoSafe, GraphFile, Replay, ProofFile, ProofFails, Unsafe, Write}
 use Rattle.journey_model.specs.declared.faults.Fault.TheVariants.{NoMemory}
+use Rattle.trip_replay.specs.declared.ReplayFault.TheVariants as replay
 
 -- a timetable with its names, by which a line says where a fault is
 pub record NamedParts : Type 0 where

@@ -1,18 +1,12 @@
 -- What is read of a certificate file, and its first fault.
 use Rattle.std.specs.Prelude.{◌≡◌, ℕ, List, Option, None, Result, Ok, Err, IfSome}
 use Rattle.file_ports.specs.Ports.{FileMap, file_at}
-use Rattle.csv_rows.specs.Tables.{table_of, header}
-use Rattle.csv_rows.specs.declared.limits.Limits.{Limits}
+use Rattle.csv_rows.specs.{Tables.{table_of, header}, declared.limits.Limits.Limits}
 use Rattle.plan_model.specs.declared.model.Query.{Query}
-use Rattle.lower_proof.specs.declared.LowerBounds.{LowerBounds}
-use Rattle.lower_proof.specs.declared.reader.ProofFault.{ProofFault}
-use Rattle.lower_proof.specs.Reading.{bounds_in, IsFaultAfter, IsProofReported}
-use Rattle.journey_model.specs.declared.faults.Input.TheVariants as input
-use Rattle.journey_model.specs.declared.faults.Fault.{Fault}
-use Rattle.journey_model.specs.declared.faults.Fault.TheVariants.{ProofFile}
-use Rattle.journey_model.specs.Faults.{unread_input}
-use Rattle.journey_model.specs.declared.problem.Problem.{Problem}
+use Rattle.lower_proof.specs.{declared.{LowerBounds.LowerBounds, reader.ProofFault.ProofFault}, Reading.{bounds_in, IsFaultAfter, IsProofReported}}
+use Rattle.journey_model.specs.{declared.{faults.Fault.{Fault, TheVariants.ProofFile}, problem.Problem.Problem}, Faults.unread_input}
 use Rattle.journey_problem.specs.Files.{bytes_of, IsOfInput}
+use Rattle.journey_model.specs.declared.faults.Input.TheVariants as input
 
 -- a text has this query and this certificate, of the problem's source and target and from a start on
 abbrev pub IsCertificateText : Problem → ℕ → List ℕ → Query → LowerBounds → Type 0

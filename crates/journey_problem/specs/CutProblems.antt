@@ -1,25 +1,15 @@
 -- The timetable of a cut file, and the first fault of a journey over it.
-use Rattle.std.specs.Prelude.{◌≡◌, ℕ, Bool, List, [], Option, None, Some, Result, Ok, Err, if◌then◌else◌, slice_get, unwrap_or}
-use Rattle.std.specs.List.{list_any}
-use Rattle.std.specs.Str.{bytes_eq}
+use Rattle.std.specs.{Prelude.{◌≡◌, ℕ, Bool, List, [], Option, None, Some, Result, Ok, Err, if◌then◌else◌, slice_get, unwrap_or}, List.list_any, Str.bytes_eq}
 use Rattle.std.specs.Option.{option_or}
 use Rattle.file_ports.specs.Ports.{FileMap, file_at}
-use Rattle.csv_rows.specs.declared.limits.Limits.{Limits}
-use Rattle.csv_rows.specs.Tables.{row_count}
-use Rattle.cut_file.specs.NumberedRows.{place_names}
-use Rattle.cut_file.specs.CutNetworks.{IsCutNetwork}
-use Rattle.delay_table.specs.DelayLists.{DelayLists}
-use Rattle.delay_table.specs.Slots.{AreDelays}
+use Rattle.csv_rows.specs.{declared.limits.Limits.Limits, Tables.row_count}
+use Rattle.cut_file.specs.{NumberedRows.place_names, CutNetworks.IsCutNetwork}
+use Rattle.delay_table.specs.{DelayLists.DelayLists, Slots.AreDelays}
 use Rattle.plan_model.specs.NameLists.{NameLists}
 use Rattle.command_line.specs.Jobs.{JourneyModel, source_or_target}
-use Rattle.journey_model.specs.declared.faults.Input.{Input}
+use Rattle.journey_model.specs.declared.{faults.{Input.Input, Fault.{Fault, TheVariants.UnknownStop}}, problem.Problem.Problem}
+use Rattle.journey_problem.specs.{Files.Records, Stops.first_which, InputTables.{IsCutTable, AreDelaysOf, cut_records, cut_fault, delay_fault}}
 use Rattle.journey_model.specs.declared.faults.Which.TheVariants as which
-use Rattle.journey_model.specs.declared.faults.Fault.{Fault}
-use Rattle.journey_model.specs.declared.faults.Fault.TheVariants.{UnknownStop}
-use Rattle.journey_model.specs.declared.problem.Problem.{Problem}
-use Rattle.journey_problem.specs.Files.{Records}
-use Rattle.journey_problem.specs.Stops.{first_which}
-use Rattle.journey_problem.specs.InputTables.{IsCutTable, AreDelaysOf, cut_records, cut_fault, delay_fault}
 
 -- the place names of the cut file
 abbrev pub places_in : Result Records Fault → List (List ℕ)

@@ -1,17 +1,13 @@
 -- The faults of a journey's timetable, of its delays, of its stops and of its window.
 use Rattle.std.specs.Prelude.{◌≡◌, ◌≢◌}
 use Rattle.csv_rows.specs.declared.limits.Limits.{Limits}
-use Rattle.delay_table.specs.declared.faults.DelayFault.TheVariants as delay
-use Rattle.journey_model.specs.declared.faults.Input.{Input}
-use Rattle.journey_model.specs.declared.faults.Input.TheVariants as input
-use Rattle.journey_model.specs.declared.faults.LimitKind.{LimitKind}
-use Rattle.journey_model.specs.declared.faults.LimitKind.TheVariants.{Bytes, Rows, CutRows, Connections, Entries}
-use Rattle.journey_model.specs.declared.faults.Fault.{Fault}
-use Rattle.journey_model.specs.declared.faults.Fault.TheVariants.{Words, Feed, Cut, Missing, Delays, UnknownStop, Limit, Read, NoSafe, GraphFile, Replay, ProofFile, ProofFails, Unsafe, Write}
-use Rattle.journey_model.specs.declared.faults.Fault.TheVariants.{NoMemory}
+use Rattle.journey_model.specs.declared.faults.{Input.Input, LimitKind.{LimitKind, TheVariants.{Bytes, Rows, CutRows, Connections, Entries}}, Fault.Fault}
+use Rattle.journey_model.specs.declared.faults.Fault.TheVariants.{Words, Feed, Cut, Missing, Delays, UnknownStop, Limit, Read, NoSafe, GraphFile, Replay}
+use Rattle.journey_model.specs.declared.faults.Fault.TheVariants.{ProofFile, ProofFails, Unsafe, Write, NoMemory}
 use Rattle.command_line.specs.Jobs.{SourceModel, CutFile, FeedFolder}
-use Rattle.journey_problem.specs.InputTables.{cut_as}
-use Rattle.journey_problem.specs.FeedProblems.{feed_as}
+use Rattle.journey_problem.specs.{InputTables.cut_as, FeedProblems.feed_as}
+use Rattle.delay_table.specs.declared.faults.DelayFault.TheVariants as delay
+use Rattle.journey_model.specs.declared.faults.Input.TheVariants as input
 
 -- the timetable is a cut file
 abbrev pub IsOfCutFile : SourceModel → Type 0

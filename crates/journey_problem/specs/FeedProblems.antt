@@ -1,27 +1,16 @@
 -- The timetable of a feed's folder, and the first fault of a journey over it.
 use Rattle.std.specs.Prelude.{◌≡◌, ℕ, ◌+◌, ◌⊎◌, List, Option, None, Some, Err, IsOk, IsOkAnd, is_none, option_map, unwrap_or, if◌then◌else◌}
 use Rattle.file_ports.specs.Ports.{FileMap, file_at}
-use Rattle.csv_rows.specs.declared.feed_tables.FeedFault.{FeedFault}
-use Rattle.csv_rows.specs.declared.limits.Limits.{Limits}
-use Rattle.csv_rows.specs.FeedTables.{unread_table}
+use Rattle.csv_rows.specs.{declared.{feed_tables.FeedFault.FeedFault, limits.Limits.Limits}, FeedTables.unread_table}
 use Rattle.gtfs_tables.specs.Feeds.{FeedParts, tables_in, IsFeedOf, IsSoundFeed}
-use Rattle.service_days.specs.Services.{ServiceParts, runs}
-use Rattle.service_days.specs.Calendars.{calendars_in, RunsBy, RunsBySome}
-use Rattle.change_times.specs.Changes.{ChangeParts, AreCollectedChanges, AreReportedBySome, transfers_in}
-use Rattle.change_times.specs.Transfers.{place_of_stop}
-use Rattle.delay_table.specs.DelayLists.{DelayLists}
-use Rattle.delay_table.specs.Slots.{AreDelays}
-use Rattle.connections.specs.declared.cuts.WindowFault.{WindowFault}
-use Rattle.connections.specs.Cut.{IsNetworkFrom, fault_from}
+use Rattle.service_days.specs.{Services.{ServiceParts, runs}, Calendars.{calendars_in, RunsBy, RunsBySome}}
+use Rattle.change_times.specs.{Changes.{ChangeParts, AreCollectedChanges, AreReportedBySome, transfers_in}, Transfers.place_of_stop}
+use Rattle.delay_table.specs.{DelayLists.DelayLists, Slots.AreDelays}
+use Rattle.connections.specs.{declared.cuts.WindowFault.WindowFault, Cut.{IsNetworkFrom, fault_from}}
 use Rattle.command_line.specs.Jobs.{JourneyModel, source_or_target}
-use Rattle.journey_model.specs.declared.faults.LimitKind.TheVariants.{Bytes, Rows, Connections, Entries}
-use Rattle.journey_model.specs.declared.faults.Fault.{Fault}
-use Rattle.journey_model.specs.declared.faults.Fault.TheVariants.{Feed, UnknownStop, Limit, Read, NoMemory}
-use Rattle.journey_model.specs.declared.problem.Problem.{Problem}
-use Rattle.journey_model.specs.Faults.{unread_input}
-use Rattle.journey_problem.specs.InputTables.{AreDelaysOf, delay_fault}
-use Rattle.journey_problem.specs.Stops.{first_which}
-use Rattle.journey_problem.specs.declared.feed_tables.FeedTables.{FeedTables}
+use Rattle.journey_model.specs.declared.faults.{LimitKind.TheVariants.{Bytes, Rows, Connections, Entries}, Fault.{Fault, TheVariants.{Feed, UnknownStop}}}
+use Rattle.journey_model.specs.{declared.{faults.Fault.TheVariants.{Limit, Read, NoMemory}, problem.Problem.Problem}, Faults.unread_input}
+use Rattle.journey_problem.specs.{InputTables.{AreDelaysOf, delay_fault}, Stops.first_which, declared.feed_tables.FeedTables.FeedTables}
 use Rattle.csv_rows.specs.declared.feed_tables.FeedFault.TheVariants as feed
 use Rattle.connections.specs.declared.cuts.WindowFault.TheVariants as window
 use Rattle.journey_model.specs.declared.faults.Input.TheVariants as input

@@ -1,21 +1,15 @@
 -- The files that a command reads, and the causes of their faults.
 use Rattle.std.specs.Prelude.{◌≡◌, ◌≢◌, ℕ, ◌+◌, ◌≤◌, List, [], ◌∷◌, length, Option, None, Some, Result, Ok, Err, IsErrAnd, IfSome, if◌then◌else◌, nat_lt}
 use Rattle.plan_model.specs.Results.{and_then}
-use Rattle.file_ports.specs.Counts.{HasCausesOf}
-use Rattle.file_ports.specs.Ports.{FileMap, FilesState, file_at}
-use Rattle.csv_rows.specs.FeedTables.{path_of as table_path}
-use Rattle.csv_rows.specs.Tables.{table_of}
-use Rattle.csv_rows.specs.declared.feed_tables.Table.{Table}
+use Rattle.file_ports.specs.{Counts.HasCausesOf, Ports.{FileMap, FilesState, file_at}}
+use Rattle.csv_rows.specs.{FeedTables.path_of as table_path, Tables.table_of, declared.feed_tables.Table.Table}
 use Rattle.command_line.specs.Jobs.{SourceModel, CutFile, FeedFolder, JourneyModel}
+use Rattle.journey_model.specs.declared.faults.{Input.Input, LimitKind.TheVariants.Bytes, Fault.{Fault, TheVariants.{Words, Feed, Cut, Missing, Delays}}}
+use Rattle.journey_model.specs.declared.faults.Fault.TheVariants.{UnknownStop, Limit, Read, NoSafe, GraphFile, Replay, ProofFile, ProofFails, Unsafe, Write}
+use Rattle.journey_model.specs.{declared.faults.Fault.TheVariants.NoMemory, Faults.{unread_input, is_unread_input}}
 use Rattle.graph_text.specs.declared.reader.TextFault.TheVariants as text
 use Rattle.lower_proof.specs.declared.reader.ProofFault.TheVariants as certificate
-use Rattle.journey_model.specs.declared.faults.Input.{Input}
 use Rattle.journey_model.specs.declared.faults.Input.TheVariants as input
-use Rattle.journey_model.specs.declared.faults.LimitKind.TheVariants.{Bytes}
-use Rattle.journey_model.specs.declared.faults.Fault.{Fault}
-use Rattle.journey_model.specs.declared.faults.Fault.TheVariants.{Words, Feed, Cut, Missing, Delays, UnknownStop, Limit, Read, NoSafe, GraphFile, Replay, ProofFile, ProofFails, Unsafe, Write}
-use Rattle.journey_model.specs.declared.faults.Fault.TheVariants.{NoMemory}
-use Rattle.journey_model.specs.Faults.{unread_input, is_unread_input}
 
 -- the records of a table, of which the first is the header
 abbrev pub Records : Type 0

@@ -3,20 +3,12 @@ use Rattle.std.specs.Prelude.{◌≡◌, ℕ, List, Option, None, Result, Ok, Er
 use Rattle.plan_model.specs.Results.{and_then}
 use Rattle.file_ports.specs.Ports.{FileMap, file_at}
 use Rattle.csv_rows.specs.declared.limits.Limits.{Limits}
-use Rattle.plan_graph.specs.declared.PlanGraph.{PlanGraph}
-use Rattle.plan_graph.specs.Tidy.{IsFit}
-use Rattle.graph_text.specs.declared.Head.{Head}
-use Rattle.graph_text.specs.declared.reader.TextFault.{TextFault}
-use Rattle.graph_text.specs.declared.reader.TextFault.TheVariants as text
-use Rattle.graph_text.specs.Asked.{IsHeadOf}
-use Rattle.graph_text.specs.Reading.{graph_of}
-use Rattle.journey_model.specs.declared.faults.Input.{Input}
-use Rattle.journey_model.specs.declared.faults.Input.TheVariants as input
-use Rattle.journey_model.specs.declared.faults.Fault.{Fault}
-use Rattle.journey_model.specs.declared.faults.Fault.TheVariants.{GraphFile, NoMemory}
-use Rattle.journey_model.specs.Faults.{unread_input}
-use Rattle.journey_model.specs.declared.problem.Problem.{Problem}
+use Rattle.plan_graph.specs.{declared.PlanGraph.PlanGraph, Tidy.IsFit}
+use Rattle.graph_text.specs.{declared.{Head.Head, reader.TextFault.TextFault}, Asked.IsHeadOf, Reading.graph_of}
+use Rattle.journey_model.specs.{declared.{faults.{Input.Input, Fault.{Fault, TheVariants.{GraphFile, NoMemory}}}, problem.Problem.Problem}, Faults.unread_input}
 use Rattle.journey_problem.specs.Files.{bytes_of, IsOfInput}
+use Rattle.graph_text.specs.declared.reader.TextFault.TheVariants as text
+use Rattle.journey_model.specs.declared.faults.Input.TheVariants as input
 
 -- a fault of a graph's text as one of the run
 abbrev pub text_as : TextFault → Fault

@@ -1,23 +1,14 @@
 -- The tables of the cut file and of the delay file, and the first fault of each.
 use Rattle.std.specs.Prelude.{◌≡◌, ℕ, ◌≤◌, List, Option, None, Some, Result, Ok, Err, MatchResult, option_map}
-use Rattle.csv_rows.specs.declared.columns.Column.TheVariants.{Run, Class}
-use Rattle.csv_rows.specs.declared.limits.Limits.{Limits}
-use Rattle.csv_rows.specs.Limits.{standard}
-use Rattle.csv_rows.specs.Tables.{table_of}
-use Rattle.cut_file.specs.declared.faults.CutFault.{CutFault}
-use Rattle.cut_file.specs.declared.faults.CutFault.TheVariants as cut
-use Rattle.cut_file.specs.Faults.{first_cut_fault}
-use Rattle.cut_file.specs.Read.{Cut as CutParts, IsCutRead}
-use Rattle.delay_table.specs.declared.faults.DelayFault.TheVariants as delay
-use Rattle.delay_table.specs.DelayLists.{DelayLists}
-use Rattle.delay_table.specs.Delays.{delays_of, first_delay_fault}
-use Rattle.journey_model.specs.declared.faults.Input.{Input}
-use Rattle.journey_model.specs.declared.faults.Input.TheVariants as input
-use Rattle.journey_model.specs.declared.faults.LimitKind.TheVariants.{CutRows}
-use Rattle.journey_model.specs.declared.faults.Fault.{Fault}
-use Rattle.journey_model.specs.declared.faults.Fault.TheVariants.{Cut, Delays, Limit, NoMemory}
+use Rattle.csv_rows.specs.{declared.{columns.Column.TheVariants.{Run, Class}, limits.Limits.Limits}, Limits.standard, Tables.table_of}
+use Rattle.cut_file.specs.{declared.faults.CutFault.CutFault, Faults.first_cut_fault, Read.{Cut as CutParts, IsCutRead}}
+use Rattle.delay_table.specs.{DelayLists.DelayLists, Delays.{delays_of, first_delay_fault}}
+use Rattle.journey_model.specs.declared.faults.{Input.Input, LimitKind.TheVariants.CutRows, Fault.{Fault, TheVariants.{Cut, Delays, Limit, NoMemory}}}
 use Rattle.journey_model.specs.Faults.{IsFirst}
 use Rattle.journey_problem.specs.Files.{Records, records_of}
+use Rattle.cut_file.specs.declared.faults.CutFault.TheVariants as cut
+use Rattle.delay_table.specs.declared.faults.DelayFault.TheVariants as delay
+use Rattle.journey_model.specs.declared.faults.Input.TheVariants as input
 
 -- a fault of the cut file as one of the run
 abbrev pub cut_as : CutFault → Fault

@@ -1,15 +1,10 @@
 -- The files of a journey have one problem, and no other file counts.
 use Rattle.std.specs.Prelude.{◌≡◌, ◌≢◌, ◌↔◌, ℕ, List, Option, Some}
-use Rattle.file_ports.specs.Ports.{FileMap}
-use Rattle.file_ports.specs.Steady.{PutsFile}
+use Rattle.file_ports.specs.{Ports.FileMap, Steady.PutsFile}
 use Rattle.csv_rows.specs.declared.limits.Limits.{Limits}
 use Rattle.command_line.specs.Jobs.{JourneyModel}
-use Rattle.journey_model.specs.declared.faults.Fault.{Fault}
-use Rattle.journey_model.specs.declared.faults.Fault.TheVariants.{NoMemory}
-use Rattle.journey_model.specs.declared.problem.Problem.{Problem}
-use Rattle.journey_problem.specs.Paths.{AgreeFor, ReadAlike, IsElsewhere}
-use Rattle.journey_problem.specs.Problems.{IsProblem, IsProblemFault}
-use Rattle.journey_model.specs.Faults.{IsUndisturbed}
+use Rattle.journey_model.specs.{declared.{faults.Fault.{Fault, TheVariants.NoMemory}, problem.Problem.Problem}, Faults.IsUndisturbed}
+use Rattle.journey_problem.specs.{Paths.{AgreeFor, ReadAlike, IsElsewhere}, Problems.{IsProblem, IsProblemFault}}
 
 -- two problems of a journey over the same files are one
 abbrev pub HasOneProblem : Type 0

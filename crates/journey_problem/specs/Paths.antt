@@ -4,8 +4,8 @@ use Rattle.file_ports.specs.Ports.{FileMap}
 use Rattle.csv_rows.specs.declared.limits.Limits.{Limits}
 use Rattle.command_line.specs.Jobs.{JourneyModel}
 use Rattle.journey_model.specs.declared.faults.Input.{Input}
-use Rattle.journey_model.specs.declared.faults.Input.TheVariants as input
 use Rattle.journey_problem.specs.Files.{OwnPaths, path_of, AgreeAt, ReadAlikeAt}
+use Rattle.journey_model.specs.declared.faults.Input.TheVariants as input
 
 -- no file is
 abbrev pub no_path : OwnPaths

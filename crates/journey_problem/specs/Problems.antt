@@ -3,13 +3,9 @@ use Rattle.std.specs.Prelude.{◌≡◌, ◌≢◌, Option, Some, IfSome}
 use Rattle.file_ports.specs.Ports.{FileMap}
 use Rattle.csv_rows.specs.declared.limits.Limits.{Limits}
 use Rattle.command_line.specs.Jobs.{SourceModel, CutFile, FeedFolder, JourneyModel}
-use Rattle.journey_model.specs.declared.faults.Fault.{Fault}
-use Rattle.journey_model.specs.declared.faults.Fault.TheVariants.{NoMemory}
-use Rattle.journey_model.specs.declared.problem.Problem.{Problem}
-use Rattle.journey_model.specs.Faults.{unread_input, IsUndisturbed}
-use Rattle.journey_problem.specs.FaultsBeforeSearch.{IsBeforeSearch}
-use Rattle.journey_problem.specs.CutProblems.{cut_problem_fault, IsCutProblem, HasCutTimetable}
-use Rattle.journey_problem.specs.FeedProblems.{IsFeedProblem, IsFeedProblemFault, HasFeedTimetable}
+use Rattle.journey_model.specs.{declared.{faults.Fault.{Fault, TheVariants.NoMemory}, problem.Problem.Problem}, Faults.{unread_input, IsUndisturbed}}
+use Rattle.journey_problem.specs.{FaultsBeforeSearch.IsBeforeSearch, CutProblems.{cut_problem_fault, IsCutProblem, HasCutTimetable}, FeedProblems.IsFeedProblem}
+use Rattle.journey_problem.specs.FeedProblems.{IsFeedProblemFault, HasFeedTimetable}
 
 -- this is the problem of the journey, and its files have no fault
 abbrev pub IsProblemOver : Limits → FileMap → SourceModel → JourneyModel → Problem → Type 0

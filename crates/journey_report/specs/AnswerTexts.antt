@@ -1,17 +1,12 @@
 -- The printed texts of the answers that are no graphs.
 use Rattle.std.specs.Prelude.{ℕ, ◌+◌, List, [], ◌∷◌, ◌++◌, length, codes, decimal, sum_by, Option, Some, None}
 use Rattle.clock_text.specs.Civil.{moment_text, nanos_text}
-use Rattle.plan_model.specs.declared.model.Leg.{Leg}
-use Rattle.plan_model.specs.declared.model.Moment.{Moment}
-use Rattle.plan_model.specs.declared.model.Query.{Query}
-use Rattle.plan_model.specs.Network.{NetworkModel}
+use Rattle.plan_model.specs.{declared.model.{Leg.Leg, Moment.Moment, Query.Query}, Network.{NetworkModel, run_of, from_of, to_of, dep_of, arr_of}}
 use Rattle.plan_model.specs.NameLists.{NameLists}
-use Rattle.plan_model.specs.Network.{run_of, from_of, to_of, dep_of, arr_of}
 use Rattle.interval_fixed.specs.Interval.{Interval}
 use Rattle.plan_graph.specs.declared.PlanGraph.{PlanGraph}
 use Rattle.printed_rows.specs.Records.{row_of_fields, place_name, run_name}
-use Rattle.trip_replay.specs.declared.Ridden.{Ridden}
-use Rattle.trip_replay.specs.declared.Trace.{Trace}
+use Rattle.trip_replay.specs.declared.{Ridden.Ridden, Trace.Trace}
 use Rattle.late_chance.specs.Chances.{chance_text}
 
 -- one row: the source, the target, the start, the least worst arrival and the deadline

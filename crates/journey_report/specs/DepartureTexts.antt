@@ -1,13 +1,8 @@
 -- The printed texts of departures, of the latest moment at which one can leave, and of the places from which one can reach a target.
 use Rattle.std.specs.Prelude.{ℕ, ◌<◌, ◌≤◌, List, [], ◌∷◌, ◌++◌, length, codes, decimal}
 use Rattle.clock_text.specs.Civil.{moment_text, nanos_text}
-use Rattle.plan_model.specs.declared.model.Moment.{Moment}
-use Rattle.plan_model.specs.declared.model.Query.{Query}
-use Rattle.plan_model.specs.Network.{NetworkModel}
-use Rattle.plan_model.specs.NameLists.{NameLists}
-use Rattle.plan_model.specs.Network.{run_of, step_of}
-use Rattle.departure_table.specs.declared.DepartureRow.{DepartureRow}
-use Rattle.departure_table.specs.declared.reach_rows.ReachRow.{ReachRow}
+use Rattle.plan_model.specs.{declared.model.{Moment.Moment, Query.Query}, Network.{NetworkModel, run_of, step_of}, NameLists.NameLists}
+use Rattle.departure_table.specs.declared.{DepartureRow.DepartureRow, reach_rows.ReachRow.ReachRow}
 use Rattle.journey_model.specs.Sites.{last_printable}
 use Rattle.printed_rows.specs.Records.{row_of_fields, place_name, run_name}
 

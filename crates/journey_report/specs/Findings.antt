@@ -1,12 +1,9 @@
 -- What a report says, besides its status and its fault.
 use Rattle.std.specs.Prelude.{ℕ, List, Option, None, Some}
-use Rattle.plan_model.specs.declared.model.Moment.{Moment}
-use Rattle.plan_model.specs.declared.model.Query.{Query}
-use Rattle.departure_table.specs.declared.DepartureRow.{DepartureRow}
-use Rattle.departure_table.specs.declared.reach_rows.ReachRow.{ReachRow}
+use Rattle.plan_model.specs.declared.model.{Moment.Moment, Query.Query}
+use Rattle.departure_table.specs.declared.{DepartureRow.DepartureRow, reach_rows.ReachRow.ReachRow}
 use Rattle.interval_fixed.specs.Interval.{Interval}
-use Rattle.plan_graph.specs.declared.ExpandedGraph.{ExpandedGraph}
-use Rattle.plan_graph.specs.declared.PlanGraph.{PlanGraph}
+use Rattle.plan_graph.specs.declared.{ExpandedGraph.ExpandedGraph, PlanGraph.PlanGraph}
 use Rattle.trip_replay.specs.declared.Trace.{Trace}
 use Rattle.lower_proof.specs.declared.LowerBounds.{LowerBounds}
 use Rattle.journey_report.specs.declared.report.Report.{Report}

@@ -1,12 +1,9 @@
 -- The chance of being late as a score, a span in units of 10 to the -18, and as text.
 use Rattle.std.specs.Prelude.{ℕ, refl, ◌/◌, List, ◌∷◌, ◌++◌}
-use Rattle.plan_model.specs.Bounds.{certainty}
-use Rattle.plan_model.specs.Expected.{late}
+use Rattle.plan_model.specs.{Bounds.certainty, Expected.late}
 use Rattle.interval_fixed.specs.Interval.{Interval}
 use Rattle.late_chance.specs.declared.shift.TheConstants.{SECONDS_PER_WEEK}
-use Rattle.value_laws.specs.ScoreLaws.{Scoring, ScoreLaws}
-use Rattle.value_laws.specs.Spans.{span_scoring}
-use Rattle.value_laws.specs.SpanLaws.{span_laws}
+use Rattle.value_laws.specs.{ScoreLaws.{Scoring, ScoreLaws}, Spans.span_scoring, SpanLaws.span_laws}
 use Rattle.clock_text.specs.Digits.{digits}
 
 -- the moment that represents the promised one: a week after the first of all time

@@ -1,15 +1,7 @@
 -- Graphs by place with all moments greater by a shift.
 use Rattle.std.specs.Prelude.{◌≡◌, ℕ, ◌+◌, ◌-◌, ◌≤◌, map}
-use Rattle.plan_model.specs.declared.model.Query.{Query}
-use Rattle.plan_model.specs.Network.{NetworkModel}
-use Rattle.plan_model.specs.Network.{IsValid}
-use Rattle.plan_model.specs.Strategy.{IsSafeFor}
-use Rattle.plan_model.specs.View.{IsView, later_by}
-use Rattle.plan_graph.specs.declared.GraphRow.{GraphRow}
-use Rattle.plan_graph.specs.declared.PlaceTable.{PlaceTable}
-use Rattle.plan_graph.specs.declared.PlanGraph.{PlanGraph}
-use Rattle.plan_graph.specs.Tidy.{IsTidy}
-use Rattle.plan_graph.specs.Unfold.{unfold_plan}
+use Rattle.plan_model.specs.{declared.model.Query.Query, Network.{NetworkModel, IsValid}, Strategy.IsSafeFor, View.{IsView, later_by}}
+use Rattle.plan_graph.specs.{declared.{GraphRow.GraphRow, PlaceTable.PlaceTable, PlanGraph.PlanGraph}, Tidy.IsTidy, Unfold.unfold_plan}
 
 -- the row by the shift later
 abbrev pub later_row : ℕ → GraphRow → GraphRow

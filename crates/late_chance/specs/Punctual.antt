@@ -1,20 +1,11 @@
 -- What the graph of the least chance of being late says, in the network as it is seen from a start on.
 use Rattle.std.specs.Prelude.{ℕ, ◌-◌, map, nat_le, ◌&&◌, ◌≡◌, ◌+◌, ◌^◌, ◌<◌, ◌≤◌, All}
-use Rattle.plan_model.specs.declared.model.Connection.{Connection}
-use Rattle.plan_model.specs.Network.{NetworkModel}
+use Rattle.plan_model.specs.{declared.model.{Connection.Connection, Query.Query}, Network.{NetworkModel, count}, Tree.Tree, Bounds.certainty}
+use Rattle.plan_model.specs.{Strategy.IsSafeFor, Expected.{late, LateBelow, LateCovers}}
 use Rattle.interval_fixed.specs.Interval.{Interval}
-use Rattle.plan_model.specs.declared.model.Query.{Query}
-use Rattle.plan_model.specs.Network.{count}
-use Rattle.plan_model.specs.Tree.{Tree}
-use Rattle.plan_model.specs.Bounds.{certainty}
 use Rattle.value_laws.specs.Spans.{rounded_up, rounded_down}
-use Rattle.plan_model.specs.Strategy.{IsSafeFor}
-use Rattle.plan_model.specs.Expected.{late, LateBelow, LateCovers}
-use Rattle.plan_graph.specs.declared.PlanGraph.{PlanGraph}
-use Rattle.plan_graph.specs.Tidy.{IsTidy}
-use Rattle.plan_graph.specs.Unfold.{unfold_plan}
-use Rattle.late_chance.specs.Chances.{promised}
-use Rattle.late_chance.specs.LaterGraphs.{later_graph, later_query, sooner_query}
+use Rattle.plan_graph.specs.{declared.PlanGraph.PlanGraph, Tidy.IsTidy, Unfold.unfold_plan}
+use Rattle.late_chance.specs.{Chances.promised, LaterGraphs.{later_graph, later_query, sooner_query}}
 
 abbrev pub shifted_connection : (shift start : ℕ) → Connection → Connection
 shifted_connection shift start c = record c { dep = record { 0 = c.dep.0 - shift }; arr = record { 0 = c.arr.0 - shift }; can_board = c.can_board && nat_le start c.dep.0 }

@@ -1,15 +1,8 @@
 -- What the graph of a scan says.
 use Rattle.std.specs.Prelude.{◌≡◌, ℕ, [], map, Some, All, ◌==◌, if◌then◌else◌}
-use Rattle.plan_model.specs.declared.model.Leg.{Leg}
-use Rattle.plan_model.specs.declared.model.Query.{Query}
-use Rattle.plan_model.specs.Network.{NetworkModel}
-use Rattle.plan_model.specs.Unfold.{end_of, arrival_of, outcomes_of}
-use Rattle.plan_graph.specs.declared.Ride.{Ride}
-use Rattle.plan_graph.specs.declared.ExpandedGraph.{ExpandedGraph}
-use Rattle.plan_graph.specs.Unfold.{unfold_expanded}
-use Rattle.plan_graph.specs.Ready.{IsReady, IsBusy, Stands}
-use Rattle.plan_graph.specs.Coherent.{Follows, IsSteady}
-use Rattle.plan_graph.specs.Walked.{HasRideOf}
+use Rattle.plan_model.specs.{declared.model.{Leg.Leg, Query.Query}, Network.NetworkModel, Unfold.{end_of, arrival_of, outcomes_of}}
+use Rattle.plan_graph.specs.{declared.{Ride.Ride, ExpandedGraph.ExpandedGraph}, Unfold.unfold_expanded, Ready.{IsReady, IsBusy, Stands}, Coherent.Follows}
+use Rattle.plan_graph.specs.{Coherent.IsSteady, Walked.HasRideOf}
 use Rattle.meat_scan.specs.ScanResult.{ScanResult, leg_choice, chosen_by}
 
 -- one row for each outcome, by its arrival; none at the target

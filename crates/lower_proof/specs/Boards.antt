@@ -1,12 +1,8 @@
 -- The connections that can be boarded from each place by a moment, and the least of their values.
 use Rattle.std.specs.Prelude.{◌≡◌, ℕ, ◌<◌, ◌≤◌, List, Option, None, All, AllPairs, Contains, Some, IsTrue, length, slice_index_or, ◌+◌, []}
-use Rattle.plan_model.specs.declared.departure.Departure.{Departure}
-use Rattle.plan_model.specs.Network.{NetworkModel}
-use Rattle.plan_model.specs.Network.{count, dep_of, connection}
-use Rattle.plan_model.specs.Order.{IsEarlier, departure_of}
-use Rattle.lower_proof.specs.Certificates.{bound_of, IsLeastOf}
+use Rattle.plan_model.specs.{declared.departure.Departure.Departure, Network.{NetworkModel, count, dep_of, connection}, Order.{IsEarlier, departure_of}}
 use Rattle.plan_model.specs.Strategy.{IsBoardable}
-use Rattle.lower_proof.specs.declared.board.Entry.{Entry}
+use Rattle.lower_proof.specs.{Certificates.{bound_of, IsLeastOf}, declared.board.Entry.Entry}
 
 -- no connection that departs after a moment has a value
 abbrev pub NoneAfter : NetworkModel → List (Option ℕ) → ℕ → Type 0

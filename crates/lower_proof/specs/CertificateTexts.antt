@@ -1,11 +1,7 @@
 -- The text of a certificate.
-use Rattle.std.specs.Prelude.{ℕ, ◌+◌, List, [], ◌∷◌, Option, Some, None, is_some, codes, decimal}
-use Rattle.std.specs.List.{count_by}
+use Rattle.std.specs.{Prelude.{ℕ, ◌+◌, List, [], ◌∷◌, Option, Some, None, is_some, codes, decimal}, List.count_by}
 use Rattle.clock_text.specs.Civil.{moment_text, nanos_text}
-use Rattle.plan_model.specs.declared.model.Query.{Query}
-use Rattle.plan_model.specs.Network.{NetworkModel}
-use Rattle.plan_model.specs.NameLists.{NameLists}
-use Rattle.plan_model.specs.Network.{run_of, step_of}
+use Rattle.plan_model.specs.{declared.model.Query.Query, Network.{NetworkModel, run_of, step_of}, NameLists.NameLists}
 use Rattle.printed_rows.specs.Records.{place_name, run_name, row_of_fields, text_of_records}
 
 -- the first row: kind, version, source, target, start, deadline, how many connections have a value

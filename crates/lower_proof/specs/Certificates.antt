@@ -1,15 +1,8 @@
 -- What a certificate says: for each connection a lower bound, in nanoseconds, on the expected arrival of who boards it.
 use Rattle.std.specs.Prelude.{◌≡◌, ◌≢◌, ℕ, ◌+◌, ◌*◌, ◌/◌, ◌<◌, ◌≤◌, List, [], ◌∷◌, Option, Some, None, IsTrue, length, nat_le, if◌then◌else◌, slice_index_or}
-use Rattle.plan_model.specs.Bounds.{nanos_per_second}
-use Rattle.plan_model.specs.declared.units.TheConstants.{WHOLE_WEIGHT}
-use Rattle.plan_model.specs.declared.model.Outcome.{Outcome}
-use Rattle.plan_model.specs.declared.model.Query.{Query}
-use Rattle.plan_model.specs.Network.{NetworkModel}
-use Rattle.plan_model.specs.Network.{count, connection, to_of, arr_of, outcomes}
-use Rattle.plan_model.specs.Order.{IsEarlier}
-use Rattle.lower_proof.specs.declared.Verdict.{Verdict}
-use Rattle.lower_proof.specs.declared.Verdict.TheVariants.{Holds, Fails}
-use Rattle.plan_model.specs.Strategy.{IsLeg, IsBoardable, IsBoardableAtStart}
+use Rattle.plan_model.specs.{Bounds.nanos_per_second, declared.{units.TheConstants.WHOLE_WEIGHT, model.{Outcome.Outcome, Query.Query}}, Network.NetworkModel}
+use Rattle.plan_model.specs.{Network.{count, connection, to_of, arr_of, outcomes}, Order.IsEarlier, Strategy.{IsLeg, IsBoardable, IsBoardableAtStart}}
+use Rattle.lower_proof.specs.declared.Verdict.{Verdict, TheVariants.{Holds, Fails}}
 use Rattle.interval_fixed.specs.Interval.{weighted}
 
 -- the value of a connection, where it has one

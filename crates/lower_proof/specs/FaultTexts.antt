@@ -1,8 +1,7 @@
 -- The texts of the faults of a certificate's file.
 use Rattle.std.specs.Prelude.{ℕ, List, codes}
 use Rattle.csv_rows.specs.FaultTexts.{at_line}
-use Rattle.lower_proof.specs.declared.reader.ProofFault.{ProofFault}
-use Rattle.lower_proof.specs.declared.reader.ProofFault.TheVariants.{Row, UnknownName, NoConnection, NotRising, OtherQuery, NoMemory}
+use Rattle.lower_proof.specs.declared.reader.ProofFault.{ProofFault, TheVariants.{Row, UnknownName, NoConnection, NotRising, OtherQuery, NoMemory}}
 
 -- the text of a fault of a certificate's file
 abbrev pub certificate_fault_text : ProofFault → List ℕ

@@ -1,11 +1,7 @@
 -- What a certificate promises.
 use Rattle.std.specs.Prelude.{◌≡◌, ℕ, ◌+◌, ◌≤◌, List, Option, Some, None}
-use Rattle.plan_model.specs.declared.model.Query.{Query}
-use Rattle.plan_model.specs.Network.{NetworkModel}
-use Rattle.plan_model.specs.Network.{count, to_of, arr_of, outcomes}
-use Rattle.plan_model.specs.Tree.{Tree, Ride, Kids}
-use Rattle.plan_model.specs.Strategy.{IsLeg, AreSafe, IsSafeFor}
-use Rattle.plan_model.specs.Expected.{Below, Covers}
+use Rattle.plan_model.specs.{declared.model.Query.Query, Network.{NetworkModel, count, to_of, arr_of, outcomes}, Tree.{Tree, Ride, Kids}, Strategy.IsLeg}
+use Rattle.plan_model.specs.{Strategy.{AreSafe, IsSafeFor}, Expected.{Below, Covers}}
 use Rattle.lower_proof.specs.Certificates.{bound_of, HasValueUpTo, IsLeastAtStart, IsAccepted}
 
 -- it is a lower bound on each tree that is safe for the query: the least value at the start is there, and below the tree

@@ -1,25 +1,13 @@
 -- What the text of a certificate gives, or the first of its faults by line. Value row i is in line i + 2.
-use Rattle.std.specs.Prelude.{◌≡◌, ◌≢◌, ℕ, zero, suc, ◌+◌, ◌<◌, Bool, List, [], length, ◌&&◌, ◌⊎◌, nat_le, nat_lt, max, if◌then◌else◌, slice_index_or, codes, Option, Some, None, Result, Ok, Err}
-use Rattle.std.specs.Option.{option_map, option_and_then}
-use Rattle.std.specs.Result.{result_err}
-use Rattle.std.specs.Str.{bytes_eq}
+use Rattle.std.specs.Prelude.{◌≡◌, ◌≢◌, ℕ, zero, suc, ◌+◌, ◌<◌, Bool, List, [], length, ◌&&◌, ◌⊎◌, nat_le, nat_lt, max, if◌then◌else◌, slice_index_or, codes}
+use Rattle.std.specs.{Prelude.{Option, Some, None, Result, Ok, Err}, Option.{option_map, option_and_then}, Result.result_err, Str.bytes_eq}
 use Rattle.clock_text.specs.Times.{moment_at, nanos_at}
-use Rattle.csv_rows.specs.Tables.{table_of, header, row_count}
-use Rattle.csv_rows.specs.declared.rows.RowsFault.{RowsFault}
-use Rattle.csv_rows.specs.declared.rows.RowsFault.TheVariants as rows
-use Rattle.plan_model.specs.Results.{require}
-use Rattle.plan_model.specs.declared.model.Query.{Query}
-use Rattle.plan_model.specs.Network.{NetworkModel}
-use Rattle.plan_model.specs.NameLists.{NameLists}
-use Rattle.plan_model.specs.Network.{count}
+use Rattle.csv_rows.specs.{Tables.{table_of, header, row_count}, declared.rows.RowsFault.RowsFault}
+use Rattle.plan_model.specs.{Results.require, declared.model.Query.Query, Network.{NetworkModel, count}, NameLists.NameLists}
 use Rattle.printed_rows.specs.Fields.{field, is_kind, whole_at, number_of, is_query, connection_of, rises}
-use Rattle.lower_proof.specs.declared.LowerBounds.{LowerBounds}
-use Rattle.lower_proof.specs.declared.reader.BoundsRow.{BoundsRow}
-use Rattle.lower_proof.specs.declared.reader.ValueRow.{ValueRow}
-use Rattle.lower_proof.specs.declared.reader.RowValue.{RowValue}
-use Rattle.lower_proof.specs.declared.reader.ProofFault.{ProofFault}
-use Rattle.lower_proof.specs.declared.reader.ProofFault.TheVariants.{Row, UnknownName, NoConnection, NotRising, OtherQuery, NoMemory}
-use Rattle.lower_proof.specs.Certificates.{bound_of}
+use Rattle.lower_proof.specs.declared.{LowerBounds.LowerBounds, reader.{BoundsRow.BoundsRow, ValueRow.ValueRow, RowValue.RowValue, ProofFault.ProofFault}}
+use Rattle.lower_proof.specs.{declared.reader.ProofFault.TheVariants.{Row, UnknownName, NoConnection, NotRising, OtherQuery, NoMemory}, Certificates.bound_of}
+use Rattle.csv_rows.specs.declared.rows.RowsFault.TheVariants as rows
 
 -- ---- the first row
 

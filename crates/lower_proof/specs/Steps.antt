@@ -1,8 +1,6 @@
 -- The least of values that may be there.
 use Rattle.std.specs.Prelude.{◌≡◌, ℕ, ◌<◌, ◌≤◌, ◌^◌, List, Option, Some, None, min, slice_index_or}
-use Rattle.plan_model.specs.declared.model.Query.{Query}
-use Rattle.plan_model.specs.Network.{NetworkModel}
-use Rattle.plan_model.specs.Network.{run_of}
+use Rattle.plan_model.specs.{declared.model.Query.Query, Network.{NetworkModel, run_of}}
 use Rattle.lower_proof.specs.Certificates.{bound_of, IsLeastOf, IsVia}
 
 -- the lesser of two values, where they are there

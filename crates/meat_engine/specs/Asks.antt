@@ -3,25 +3,14 @@ use Rattle.std.specs.Prelude.{◌≡◌, ◌⊎◌, ℕ, List, Option, Some}
 use Rattle.file_ports.specs.Ports.{FileMap}
 use Rattle.csv_rows.specs.declared.limits.Limits.{Limits}
 use Rattle.command_line.specs.Jobs.{JourneyModel, AskModel, Safe, Expand, Plan, Replay, Certify, CheckProof, CheckGraph, Punctual, Departures, Latest, Reach}
-use Rattle.journey_model.specs.declared.faults.Fault.{Fault}
-use Rattle.journey_model.specs.Sites.{NamedParts}
-use Rattle.journey_model.specs.declared.problem.Problem.{Problem}
-use Rattle.journey_problem.specs.Files.{OwnPaths}
-use Rattle.journey_problem.specs.Problems.{FailsBeforeSearch, InProblem}
+use Rattle.journey_model.specs.{declared.{faults.Fault.Fault, problem.Problem.Problem}, Sites.NamedParts, Known.parts_of}
+use Rattle.journey_problem.specs.{Files.OwnPaths, Problems.{FailsBeforeSearch, InProblem}, Paths.{no_path, graph_path, certificate_path}}
+use Rattle.journey_problem.specs.{GraphFiles.{InGraphFile, FailsGraph}, CertificateFiles.{InCertificateFile, FailsCertificate}}
 use Rattle.journey_report.specs.Findings.{Findings}
-use Rattle.journey_model.specs.Known.{parts_of}
-use Rattle.journey_answers.specs.Answers.{InQuery, AnswersSafe, AnswersExpand, AnswersPlan, IsNoSafe}
-use Rattle.journey_answers.specs.Punctual.{AnswersPunctual}
-use Rattle.journey_problem.specs.Paths.{no_path, graph_path, certificate_path}
-use Rattle.journey_problem.specs.GraphFiles.{InGraphFile, FailsGraph}
-use Rattle.journey_answers.specs.Trips.{AnswersReplay, IsTripFault}
-use Rattle.journey_answers.specs.Scores.{IsEnclosed, IsUnsafeGraph}
+use Rattle.journey_answers.specs.{Answers.{InQuery, AnswersSafe, AnswersExpand, AnswersPlan, IsNoSafe}, Punctual.AnswersPunctual, Trips.AnswersReplay}
+use Rattle.journey_answers.specs.{Trips.IsTripFault, Scores.{IsEnclosed, IsUnsafeGraph}, Certified.{AnswersCertify, IsHeld, IsBroken}, Departures.query_until}
+use Rattle.journey_answers.specs.{Departures.{AnswersDepartures, AnswersLatest, FailsDepartures, FailsLatest}, Reach.{AnswersReach, FailsReach}}
 use Rattle.meat_engine.specs.Ends.{EndsByScore, EndsBySafety, EndsByGraphFile, EndsByCertificateFile, EndsByDepartures, EndsByLatest, EndsByReach}
-use Rattle.journey_answers.specs.Certified.{AnswersCertify}
-use Rattle.journey_problem.specs.CertificateFiles.{InCertificateFile, FailsCertificate}
-use Rattle.journey_answers.specs.Certified.{IsHeld, IsBroken}
-use Rattle.journey_answers.specs.Departures.{query_until, AnswersDepartures, AnswersLatest, FailsDepartures, FailsLatest}
-use Rattle.journey_answers.specs.Reach.{AnswersReach, FailsReach}
 
 -- the paths of the files that are read beside those of the journey
 abbrev pub own_paths : AskModel → OwnPaths

@@ -6,9 +6,7 @@ use Rattle.feed_maker.specs.MadeTables.{made}
 use Rattle.command_line.specs.Jobs.{JourneyModel, AskModel, Ask, Sample, job_of}
 use Rattle.journey_model.specs.declared.problem.Problem.{Problem}
 use Rattle.journey_problem.specs.Problems.{IsProblem, IsFaultless}
-use Rattle.meat_engine.specs.Asks.{EndsAsk}
-use Rattle.meat_engine.specs.Ends.{EndsBySafety}
-use Rattle.meat_engine.specs.Samples.{sample_journey}
+use Rattle.meat_engine.specs.{Asks.EndsAsk, Ends.EndsBySafety, Samples.sample_journey}
 
 -- over files that have a problem: what is asked about it ends as it says, or there was no memory
 abbrev pub EndsInProblem : Option FileMap → Limits → List (List ℕ) → ℕ → Type 0

@@ -2,26 +2,15 @@
 use Rattle.std.specs.Prelude.{◌≡◌, ◌⊎◌, ℕ, ◌≤◌, List, Option, None, Some, Result, Ok, Err}
 use Rattle.file_ports.specs.Ports.{FileMap, file_at}
 use Rattle.csv_rows.specs.declared.limits.Limits.{Limits}
-use Rattle.plan_model.specs.Network.{NetworkModel}
-use Rattle.plan_model.specs.Tree.{Tree}
-use Rattle.plan_model.specs.Strategy.{Reaches, IsSafeFor}
-use Rattle.plan_model.specs.declared.model.Query.{Query}
-use Rattle.lower_proof.specs.declared.LowerBounds.{LowerBounds}
-use Rattle.lower_proof.specs.Certificates.{IsAccepted, IsLastFault}
-use Rattle.plan_graph.specs.declared.PlanGraph.{PlanGraph}
-use Rattle.plan_graph.specs.Unfold.{unfold_plan}
+use Rattle.plan_model.specs.{Network.NetworkModel, Tree.Tree, Strategy.{Reaches, IsSafeFor}, declared.model.Query.Query}
+use Rattle.lower_proof.specs.{declared.LowerBounds.LowerBounds, Certificates.{IsAccepted, IsLastFault}}
+use Rattle.plan_graph.specs.{declared.PlanGraph.PlanGraph, Unfold.unfold_plan}
 use Rattle.graph_text.specs.declared.Head.{Head}
-use Rattle.trip_replay.specs.declared.Trace.{Trace}
-use Rattle.trip_replay.specs.declared.ReplayFault.{ReplayFault}
+use Rattle.trip_replay.specs.declared.{Trace.Trace, ReplayFault.ReplayFault}
+use Rattle.journey_model.specs.{declared.{faults.Fault.Fault, problem.Problem.Problem}, Faults.status_of}
+use Rattle.journey_problem.specs.{Files.bytes_of, GraphFiles.graph_in, CertificateFiles.{IsCertificateFile, FailsFile}}
+use Rattle.journey_answers.specs.{Trips.trip_by, Departures.{SafeOf, HasSafeFor}}
 use Rattle.journey_model.specs.declared.faults.Input.TheVariants as input
-use Rattle.journey_model.specs.declared.faults.Fault.{Fault}
-use Rattle.journey_model.specs.Faults.{status_of}
-use Rattle.journey_model.specs.declared.problem.Problem.{Problem}
-use Rattle.journey_problem.specs.Files.{bytes_of}
-use Rattle.journey_problem.specs.GraphFiles.{graph_in}
-use Rattle.journey_answers.specs.Trips.{trip_by}
-use Rattle.journey_answers.specs.Departures.{SafeOf, HasSafeFor}
-use Rattle.journey_problem.specs.CertificateFiles.{IsCertificateFile, FailsFile}
 
 -- some strategy always reaches the target
 abbrev pub HasSafe : NetworkModel → (source target start : ℕ) → Type 0

@@ -1,24 +1,13 @@
 -- What a run comes to, by its fault, and what the two sinks received.
-use Rattle.std.specs.Prelude.{◌≡◌, ◌≢◌, ◌⊎◌, ℕ, List, Option, None, Some, Ok, Err}
-use Rattle.std.specs.Io.KnownBytes.{Appends, Keeps}
-use Rattle.file_ports.specs.Counts.{Rose}
-use Rattle.file_ports.specs.Loading.{AppendsFront}
-use Rattle.file_ports.specs.Ports.{FileMap}
+use Rattle.std.specs.{Prelude.{◌≡◌, ◌≢◌, ◌⊎◌, ℕ, List, Option, None, Some, Ok, Err}, Io.KnownBytes.{Appends, Keeps}}
+use Rattle.file_ports.specs.{Counts.Rose, Loading.AppendsFront, Ports.FileMap}
 use Rattle.csv_rows.specs.declared.limits.Limits.{Limits}
-use Rattle.command_line.specs.declared.job.WordsFault.{WordsFault}
-use Rattle.command_line.specs.Jobs.{JobModel, Ask, Sample, job_of}
-use Rattle.journey_model.specs.declared.faults.Input.{Input}
-use Rattle.journey_model.specs.declared.faults.Fault.{Fault}
-use Rattle.journey_model.specs.declared.faults.Fault.TheVariants.{Words, Write, NoMemory}
-use Rattle.journey_model.specs.FaultLines.{line_of, IsFormatted}
+use Rattle.command_line.specs.{declared.job.WordsFault.WordsFault, Jobs.{JobModel, Ask, Sample, job_of}}
+use Rattle.journey_model.specs.{declared.faults.{Input.Input, Fault.{Fault, TheVariants.{Words, Write, NoMemory}}}, FaultLines.{line_of, IsFormatted}}
 use Rattle.journey_model.specs.Sites.{NamedParts}
-use Rattle.journey_problem.specs.Files.{path_of}
-use Rattle.journey_problem.specs.Paths.{no_path}
-use Rattle.journey_problem.specs.Problems.{InProblem}
-use Rattle.journey_report.specs.declared.report.Report.{Report}
-use Rattle.meat_engine.specs.Asks.{own_paths, AnswersAsk, FailsJourney}
-use Rattle.journey_report.specs.Findings.{Findings, findings_of, no_findings}
-use Rattle.meat_engine.specs.Samples.{AnswersSample, FailsSample}
+use Rattle.journey_problem.specs.{Files.path_of, Paths.no_path, Problems.InProblem}
+use Rattle.journey_report.specs.{declared.report.Report.Report, Findings.{Findings, findings_of, no_findings}}
+use Rattle.meat_engine.specs.{Asks.{own_paths, AnswersAsk, FailsJourney}, Samples.{AnswersSample, FailsSample}}
 
 -- the path of an input of a job, if it has one; a made timetable has none that is read
 abbrev pub path_in : JobModel → Input → Option (List ℕ)

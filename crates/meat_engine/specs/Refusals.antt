@@ -1,10 +1,7 @@
 -- Refusals, with the timetables whose names their lines use.
 use Rattle.std.specs.Prelude.{◌≢◌, Option, option_map, Result, Ok, Err}
-use Rattle.journey_model.specs.declared.faults.Fault.{Fault}
-use Rattle.journey_model.specs.declared.faults.Fault.TheVariants.{NoMemory}
-use Rattle.journey_model.specs.Sites.{NamedParts, HasSite}
+use Rattle.journey_model.specs.{declared.faults.Fault.{Fault, TheVariants.NoMemory}, Sites.{NamedParts, HasSite}, Known.parts_of}
 use Rattle.meat_engine.specs.declared.refusal.Refusal.{Refusal}
-use Rattle.journey_model.specs.Known.{parts_of}
 
 -- the timetable that is known
 abbrev pub known_of : Refusal → Option NamedParts

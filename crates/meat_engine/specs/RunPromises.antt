@@ -1,16 +1,11 @@
 -- What a run promises, once for all its limits.
-use Rattle.std.specs.Prelude.{◌≡◌, ℕ, ◌<◌, List, Option, None, Some, Ok, IsSome}
-use Rattle.std.specs.Io.KnownBytes.{Keeps}
-use Rattle.file_ports.specs.Counts.{Rose, RoseAt}
-use Rattle.file_ports.specs.Ports.{FilesState}
+use Rattle.std.specs.{Prelude.{◌≡◌, ℕ, ◌<◌, List, Option, None, Some, Ok, IsSome}, Io.KnownBytes.Keeps}
+use Rattle.file_ports.specs.{Counts.{Rose, RoseAt}, Ports.FilesState}
 use Rattle.csv_rows.specs.declared.limits.Limits.{Limits}
 use Rattle.command_line.specs.Jobs.{JobModel, job_of}
-use Rattle.journey_model.specs.declared.faults.Input.{Input}
-use Rattle.journey_model.specs.declared.faults.Fault.TheVariants.{Read, Write}
-use Rattle.journey_model.specs.Faults.{status_of}
+use Rattle.journey_model.specs.{declared.faults.{Input.Input, Fault.TheVariants.{Read, Write}}, Faults.status_of}
 use Rattle.journey_report.specs.declared.report.Report.{Report}
-use Rattle.meat_engine.specs.Received.{Outcome, IsLineWritten, path_in}
-use Rattle.meat_engine.specs.Completeness.{IsComplete}
+use Rattle.meat_engine.specs.{Received.{Outcome, IsLineWritten, path_in}, Completeness.IsComplete}
 
 -- what a sink received, if that is known; and how often it failed
 pub record SinkState : Type 0 where

@@ -2,23 +2,17 @@
 use Rattle.std.specs.Prelude.{◌≡◌, ℕ, List, Option, None, Some, codes}
 use Rattle.file_ports.specs.Ports.{FileMap}
 use Rattle.csv_rows.specs.declared.limits.Limits.{Limits}
-use Rattle.plan_model.specs.declared.model.Moment.{Moment}
-use Rattle.plan_model.specs.declared.model.Query.{Query}
-use Rattle.plan_model.specs.Network.{count}
+use Rattle.plan_model.specs.{declared.model.{Moment.Moment, Query.Query}, Network.count}
 use Rattle.interval_fixed.specs.Interval.{Interval}
 use Rattle.plan_graph.specs.declared.PlanGraph.{PlanGraph}
 use Rattle.decision_graph.specs.Planned.{IsPlanned}
 use Rattle.feed_maker.specs.MadeTables.{made, SameFolder}
 use Rattle.command_line.specs.Jobs.{JourneyModel, FeedFolder, Plan}
-use Rattle.journey_model.specs.declared.faults.Fault.{Fault}
-use Rattle.journey_model.specs.Faults.{unread_input}
-use Rattle.journey_model.specs.Sites.{NamedParts}
-use Rattle.journey_model.specs.declared.problem.Problem.{Problem}
+use Rattle.journey_model.specs.{declared.{faults.Fault.Fault, problem.Problem.Problem}, Faults.unread_input, Sites.NamedParts}
 use Rattle.journey_problem.specs.Problems.{InProblem}
 use Rattle.journey_answers.specs.Answers.{InQuery}
 use Rattle.meat_engine.specs.Asks.{FailsJourney}
-use Rattle.journey_report.specs.Findings.{Findings, sample_findings}
-use Rattle.journey_report.specs.AnswerTexts.{leg_count, sample_text}
+use Rattle.journey_report.specs.{Findings.{Findings, sample_findings}, AnswerTexts.{leg_count, sample_text}}
 
 -- from the hub H0 to the hub H5, from 2024-06-03T08:00:01 on, in a window of 24 hours
 abbrev pub sample_journey : JourneyModel

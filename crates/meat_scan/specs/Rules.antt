@@ -1,21 +1,11 @@
 -- The rules of a scan, over all connections: which rows, exits and start leg they leave, and so which strategy.
-use Rattle.std.specs.Prelude.{◌≡◌, ℕ, List, [], ◌∷◌, Option, None, Some}
-use Rattle.std.specs.Option.{option_map}
-use Rattle.plan_model.specs.declared.model.ConnectionId.{ConnectionId}
-use Rattle.plan_model.specs.declared.model.Leg.{Leg}
-use Rattle.plan_model.specs.declared.model.Query.{Query}
-use Rattle.plan_model.specs.Network.{NetworkModel}
-use Rattle.plan_model.specs.Order.{IsScanOrder}
-use Rattle.plan_model.specs.Tree.{Tree}
+use Rattle.std.specs.{Prelude.{◌≡◌, ℕ, List, [], ◌∷◌, Option, None, Some}, Option.option_map}
+use Rattle.plan_model.specs.{declared.model.{ConnectionId.ConnectionId, Leg.Leg, Query.Query}, Network.NetworkModel, Order.IsScanOrder, Tree.Tree}
 use Rattle.plan_model.specs.Unfold.{unfolding_of, by_place}
 use Rattle.value_laws.specs.ScoreLaws.{Scoring}
-use Rattle.stop_profile.specs.declared.Row.{Row}
-use Rattle.stop_profile.specs.Inserts.{row_in_time}
-use Rattle.stop_profile.specs.Inserts.{ShownProfile}
+use Rattle.stop_profile.specs.{declared.Row.Row, Inserts.{row_in_time, ShownProfile}}
 use Rattle.trip_exit.specs.Offers.{Exit}
-use Rattle.meat_scan.specs.ScanTables.{rows_of_profile, exit_at}
-use Rattle.meat_scan.specs.Step.{rows_next, exits_next, start_next}
-use Rattle.meat_scan.specs.ScanResult.{ScanResult, found_rows}
+use Rattle.meat_scan.specs.{ScanTables.{rows_of_profile, exit_at}, Step.{rows_next, exits_next, start_next}, ScanResult.{ScanResult, found_rows}}
 
 -- the rows of the places, the exits of the runs, and the start leg
 pub record Kept (V : Type 0) : Type 0 where

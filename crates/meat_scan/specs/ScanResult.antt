@@ -1,13 +1,7 @@
 -- What a scan found, and the trees that it chooses.
-use Rattle.std.specs.Prelude.{◌≡◌, ℕ, ◌<◌, List, [], Option, Some, None, MatchOption, slice_index_or, map}
-use Rattle.std.specs.Option.{option_map}
-use Rattle.plan_model.specs.declared.model.Leg.{Leg}
-use Rattle.plan_model.specs.declared.model.Query.{Query}
-use Rattle.plan_model.specs.Network.{NetworkModel}
-use Rattle.plan_model.specs.Tree.{Tree}
-use Rattle.plan_model.specs.Unfold.{unfold_from, unfolding_of, by_place}
-use Rattle.stop_profile.specs.declared.Row.{Row}
-use Rattle.stop_profile.specs.Inserts.{row_in_time}
+use Rattle.std.specs.{Prelude.{◌≡◌, ℕ, ◌<◌, List, [], Option, Some, None, MatchOption, slice_index_or, map}, Option.option_map}
+use Rattle.plan_model.specs.{declared.model.{Leg.Leg, Query.Query}, Network.NetworkModel, Tree.Tree, Unfold.{unfold_from, unfolding_of, by_place}}
+use Rattle.stop_profile.specs.{declared.Row.Row, Inserts.row_in_time}
 use Rattle.meat_scan.specs.ScanTables.{ShownTables}
 
 -- the start leg with its value, the rows of each place, and the target of the scan

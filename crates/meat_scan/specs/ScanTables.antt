@@ -1,13 +1,8 @@
 -- The tables of a scan.
 use Rattle.std.specs.Prelude.{◌≡◌, ℕ, ◌+◌, ◌<◌, ◌≤◌, Bool, List, [], length, Option, None, is_some, slice_index_or, nat_le, ◌&&◌, count_by, if◌then◌else◌}
-use Rattle.plan_model.specs.declared.model.Connection.{Connection}
-use Rattle.plan_model.specs.declared.model.ConnectionId.{ConnectionId}
-use Rattle.plan_model.specs.Network.{NetworkModel}
-use Rattle.plan_model.specs.Ways.{way_of}
-use Rattle.plan_model.specs.Network.{count, from_of, run_of, IsValid}
-use Rattle.plan_model.specs.Order.{IsScanOrder, IsPrefixUpTo}
-use Rattle.stop_profile.specs.declared.Row.{Row}
-use Rattle.stop_profile.specs.Inserts.{ShownProfile}
+use Rattle.plan_model.specs.{declared.model.{Connection.Connection, ConnectionId.ConnectionId}, Network.{NetworkModel, count, from_of, run_of, IsValid}}
+use Rattle.plan_model.specs.{Ways.way_of, Order.{IsScanOrder, IsPrefixUpTo}}
+use Rattle.stop_profile.specs.{declared.Row.Row, Inserts.ShownProfile}
 use Rattle.trip_exit.specs.Offers.{Exit}
 
 -- what is used as the profile of a place that is not there

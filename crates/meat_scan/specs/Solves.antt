@@ -1,12 +1,6 @@
 -- What a scan gives: the best of all safe strategies, from the start and from each place.
 use Rattle.std.specs.Prelude.{◌≡◌, ◌≢◌, ℕ, ◌≤◌, Option, Some, MatchOption, length}
-use Rattle.plan_model.specs.declared.model.Leg.{Leg}
-use Rattle.plan_model.specs.declared.model.Query.{Query}
-use Rattle.plan_model.specs.Network.{NetworkModel}
-use Rattle.plan_model.specs.Network.{count}
-use Rattle.plan_model.specs.Tree.{Tree}
-use Rattle.plan_model.specs.Strategy.{IsSafe, IsSafeFor}
-use Rattle.plan_model.specs.Ways.{IsKept}
+use Rattle.plan_model.specs.{declared.model.{Leg.Leg, Query.Query}, Network.{NetworkModel, count}, Tree.Tree, Strategy.{IsSafe, IsSafeFor}, Ways.IsKept}
 use Rattle.value_laws.specs.ScoreLaws.{Scoring}
 use Rattle.meat_scan.specs.ScanResult.{ScanResult, choice_of, leg_choice, chosen_at, chosen_by}
 

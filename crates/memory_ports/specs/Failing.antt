@@ -1,8 +1,6 @@
 -- Which calls on a path fail, and how often they have.
-use Rattle.std.specs.Prelude.{◌≡◌, ℕ, List, Bool, false, option_map, nat_eq, unwrap_or}
-use Rattle.std.specs.List.{list_any}
-use Rattle.file_ports.specs.Named.{value_at}
-use Rattle.file_ports.specs.declared.named.Named.{Named}
+use Rattle.std.specs.{Prelude.{◌≡◌, ℕ, List, Bool, false, option_map, nat_eq, unwrap_or}, List.list_any}
+use Rattle.file_ports.specs.{Named.value_at, declared.named.Named.Named}
 use Rattle.memory_ports.specs.declared.memory.Failing.{Failing}
 
 -- how often calls on this path have failed

@@ -1,9 +1,8 @@
 -- The meaning of files in memory that fail at chosen calls.
 use Rattle.std.specs.Prelude.{◌≡◌, ℕ, List, Bool, ◌||◌, ◌&&◌, Option, Some, bytes_eq, nat_eq}
-use Rattle.file_ports.specs.Ports.{FileMap, FilesState}
-use Rattle.memory_ports.specs.Failing.{faults_in, fails_in}
-use Rattle.file_ports.specs.Steady.{folder_of as steady_folder, open_of as steady_open, remaining_of as steady_remaining, piece_of as steady_piece, SameFiles as SameSteadily}
-use Rattle.memory_ports.specs.declared.memory.MemoryFiles.{MemoryFiles}
+use Rattle.file_ports.specs.{Ports.{FileMap, FilesState}, Steady.{folder_of as steady_folder, open_of as steady_open, remaining_of as steady_remaining}}
+use Rattle.file_ports.specs.Steady.{piece_of as steady_piece, SameFiles as SameSteadily}
+use Rattle.memory_ports.specs.{Failing.{faults_in, fails_in}, declared.memory.MemoryFiles.MemoryFiles}
 
 -- the files by their paths
 abbrev pub folder_of : MemoryFiles → FileMap

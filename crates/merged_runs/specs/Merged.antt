@@ -1,9 +1,6 @@
 -- A merge of the runs of a network, the last connection first.
 use Rattle.std.specs.Prelude.{◌≡◌, ℕ, zero, suc, ◌+◌, ◌-◌, ◌*◌, ◌/◌, ◌<◌, ◌≤◌, List, [], ◌∷◌, length, filter, slice_index, nat_lt, if◌then◌else◌}
-use Rattle.plan_model.specs.declared.model.ConnectionId.{ConnectionId}
-use Rattle.plan_model.specs.Bounds.{most_connections}
-use Rattle.plan_model.specs.Network.{NetworkModel}
-use Rattle.plan_model.specs.Network.{IsValid, count, dep_of, run_of}
+use Rattle.plan_model.specs.{declared.model.ConnectionId.ConnectionId, Bounds.most_connections, Network.{NetworkModel, IsValid, count, dep_of, run_of}}
 
 -- rises along the scan order, since a connection has a lesser number than most_connections
 abbrev pub rank : NetworkModel → ℕ → ℕ

@@ -1,14 +1,7 @@
 -- Which graphs by ride have tables that agree at each place, and which follow one choice there.
 use Rattle.std.specs.Prelude.{◌≡◌, ℕ, ◌≤◌, Some, Contains, ◌≢◌, Option}
-use Rattle.plan_model.specs.declared.model.Outcome.{Outcome}
-use Rattle.plan_model.specs.Network.{NetworkModel}
-use Rattle.plan_model.specs.Unfold.{end_of, arrival_of, outcomes_of}
-use Rattle.plan_graph.specs.declared.GraphRow.{GraphRow}
-use Rattle.plan_graph.specs.declared.Ride.{Ride}
-use Rattle.plan_graph.specs.declared.ExpandedGraph.{ExpandedGraph}
-use Rattle.plan_graph.specs.Unfold.{pick_row}
-use Rattle.plan_model.specs.declared.model.Leg.{Leg}
-use Rattle.plan_model.specs.Ways.{IsKept}
+use Rattle.plan_model.specs.{declared.model.{Outcome.Outcome, Leg.Leg}, Network.NetworkModel, Unfold.{end_of, arrival_of, outcomes_of}, Ways.IsKept}
+use Rattle.plan_graph.specs.{declared.{GraphRow.GraphRow, Ride.Ride, ExpandedGraph.ExpandedGraph}, Unfold.pick_row}
 
 -- the row comes after some ride that ends at the place
 abbrev pub IsRowAt : NetworkModel → ExpandedGraph → ℕ → GraphRow → Type 0

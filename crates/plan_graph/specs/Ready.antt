@@ -1,18 +1,9 @@
 -- Which graphs by ride are ready to be pruned, and which are pruned.
-use Rattle.std.specs.Prelude.{◌≡◌, ◌≢◌, ℕ, ◌<◌, ◌≤◌, ◌⊎◌, Bool, false, List, [], ◌∷◌, Option, Some, None, MatchOption, All, AllPairs, Contains, nat_le, if◌then◌else◌}
-use Rattle.plan_model.specs.declared.model.Leg.{Leg}
-use Rattle.plan_model.specs.declared.model.Outcome.{Outcome}
-use Rattle.plan_model.specs.declared.model.Query.{Query}
-use Rattle.plan_model.specs.Network.{NetworkModel}
-use Rattle.plan_model.specs.Tree.{Tree, Done, Ride as Rides, Stuck, Kids, Nil, Kid}
-use Rattle.plan_model.specs.Strategy.{IsLeg, IsSafeFromStart}
-use Rattle.plan_model.specs.Ways.{limit_of}
-use Rattle.plan_model.specs.Unfold.{end_of, arrival_of, outcomes_of}
-use Rattle.plan_graph.specs.declared.GraphRow.{GraphRow}
-use Rattle.plan_graph.specs.declared.Ride.{Ride}
-use Rattle.plan_graph.specs.declared.ExpandedGraph.{ExpandedGraph}
-use Rattle.plan_graph.specs.Unfold.{pick_row, Precedes}
-use Rattle.plan_graph.specs.Unfold.{unfold_expanded}
+use Rattle.std.specs.Prelude.{◌≡◌, ◌≢◌, ℕ, ◌<◌, ◌≤◌, ◌⊎◌, Bool, false, List, [], ◌∷◌, Option, Some, None, MatchOption, All, AllPairs, Contains, nat_le}
+use Rattle.std.specs.Prelude.{if◌then◌else◌}
+use Rattle.plan_model.specs.{declared.model.{Leg.Leg, Outcome.Outcome, Query.Query}, Network.NetworkModel, Tree.{Tree, Done, Ride as Rides, Stuck, Kids, Nil}}
+use Rattle.plan_model.specs.{Tree.Kid, Strategy.{IsLeg, IsSafeFromStart}, Ways.limit_of, Unfold.{end_of, arrival_of, outcomes_of}}
+use Rattle.plan_graph.specs.{declared.{GraphRow.GraphRow, Ride.Ride, ExpandedGraph.ExpandedGraph}, Unfold.{pick_row, Precedes, unfold_expanded}}
 
 abbrev pub IsLegOf : NetworkModel → Leg → Type 0
 IsLegOf network leg = IsLeg network leg.enter.0 leg.exit.0

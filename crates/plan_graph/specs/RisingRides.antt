@@ -1,10 +1,7 @@
 -- That the rides of a graph rise is shown in one way at most.
-use Rattle.std.proofs.Common.{arith, inl, inr, ap}
-use Rattle.std.proofs.Props.{props}
-use Rattle.std.specs.Coded.{le_prop}
-use Rattle.std.specs.Prelude.{◌≡◌, ℕ, ◌<◌, ◌⊎◌, List}
-use Rattle.plan_graph.specs.declared.Ride.{Ride}
-use Rattle.plan_graph.specs.Unfold.{HasRisingRides}
+use Rattle.std.proofs.{Common.{arith, inl, inr, ap}, Props.props}
+use Rattle.std.specs.{Coded.le_prop, Prelude.{◌≡◌, ℕ, ◌<◌, ◌⊎◌, List}}
+use Rattle.plan_graph.specs.{declared.Ride.Ride, Unfold.HasRisingRides}
 
 -- one pair of numbers comes before another
 lex_prop : (a b c d : ℕ) → IsProp ((a < b) ⊎ ((a ≡ b) × (c < d)))

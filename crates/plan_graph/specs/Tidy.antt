@@ -1,18 +1,9 @@
 -- Which graphs by place fit, and which are tidy.
 use Rattle.std.specs.Prelude.{◌≡◌, ◌≢◌, ℕ, ◌<◌, ◌≤◌, [], length, Some, MatchOption, All, AllPairs, Contains}
-use Rattle.plan_model.specs.declared.model.Leg.{Leg}
-use Rattle.plan_model.specs.declared.model.Outcome.{Outcome}
-use Rattle.plan_model.specs.declared.model.Query.{Query}
-use Rattle.plan_model.specs.Network.{NetworkModel}
-use Rattle.plan_model.specs.Network.{from_of, dep_of}
-use Rattle.plan_model.specs.Tree.{Tree}
-use Rattle.plan_model.specs.Ways.{limit_of}
+use Rattle.plan_model.specs.{declared.model.{Leg.Leg, Outcome.Outcome, Query.Query}, Network.{NetworkModel, from_of, dep_of}, Tree.Tree, Ways.limit_of}
 use Rattle.plan_model.specs.Unfold.{end_of, arrival_of, outcomes_of}
-use Rattle.plan_graph.specs.declared.GraphRow.{GraphRow}
-use Rattle.plan_graph.specs.declared.PlaceTable.{PlaceTable}
-use Rattle.plan_graph.specs.declared.PlanGraph.{PlanGraph}
-use Rattle.plan_graph.specs.Unfold.{unfold_plan}
-use Rattle.plan_graph.specs.Ready.{IsLegOf, Stands, IsFirstInTime}
+use Rattle.plan_graph.specs.{declared.{GraphRow.GraphRow, PlaceTable.PlaceTable, PlanGraph.PlanGraph}, Unfold.unfold_plan, Ready.{IsLegOf, Stands}}
+use Rattle.plan_graph.specs.Ready.{IsFirstInTime}
 
 -- a row of the table of a place: its leg can be reached from there, and it is by the leg's limit
 pub record IsFitRow (network : NetworkModel) (place : ℕ) (row : GraphRow) : Type 0 where

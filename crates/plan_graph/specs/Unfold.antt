@@ -1,15 +1,8 @@
 -- The rows of a graph, what they pick, and the tree that a graph fixes.
-use Rattle.std.specs.Prelude.{◌≡◌, ℕ, ◌<◌, ◌≤◌, ◌⊎◌, List, [], ◌∷◌, length, Option, Some, None, All, AllPairs, Bool, nat_le, nat_lt, ◌==◌, ◌&&◌, ◌||◌, if◌then◌else◌}
-use Rattle.plan_model.specs.declared.model.Leg.{Leg}
-use Rattle.plan_graph.specs.declared.GraphRow.{GraphRow}
-use Rattle.plan_graph.specs.declared.Ride.{Ride}
-use Rattle.plan_graph.specs.declared.PlaceTable.{PlaceTable}
-use Rattle.plan_graph.specs.declared.PlanGraph.{PlanGraph}
-use Rattle.plan_model.specs.declared.model.Query.{Query}
-use Rattle.plan_model.specs.Network.{NetworkModel}
-use Rattle.plan_model.specs.Tree.{Tree}
-use Rattle.plan_model.specs.Unfold.{unfolding_of, by_place}
-use Rattle.plan_graph.specs.declared.ExpandedGraph.{ExpandedGraph}
+use Rattle.std.specs.Prelude.{◌≡◌, ℕ, ◌<◌, ◌≤◌, ◌⊎◌, List, [], ◌∷◌, length, Option, Some, None, All, AllPairs, Bool, nat_le, nat_lt, ◌==◌, ◌&&◌, ◌||◌}
+use Rattle.std.specs.Prelude.{if◌then◌else◌}
+use Rattle.plan_model.specs.{declared.model.{Leg.Leg, Query.Query}, Network.NetworkModel, Tree.Tree, Unfold.{unfolding_of, by_place}}
+use Rattle.plan_graph.specs.declared.{GraphRow.GraphRow, Ride.Ride, PlaceTable.PlaceTable, PlanGraph.PlanGraph, ExpandedGraph.ExpandedGraph}
 
 -- the leg of the first row that is not before an arrival
 abbrev pub pick_row : List GraphRow → ℕ → Option Leg

@@ -1,21 +1,9 @@
 -- The rides that a choice of legs reaches from a start leg, their tables, and which legs are in the tree that it fixes.
-use Rattle.std.specs.Prelude.{ℕ, ◌+◌, List, [], ◌∷◌, Option, Some, None, ◌==◌, if◌then◌else◌, Contains, ◌≡◌, ◌≢◌, All, AllPairs}
-use Rattle.std.specs.Ordering.{nat_cmp, ordering_then}
-use Rattle.std.specs.declared.cmp.Ordering.{Ordering}
-use Rattle.std.specs.BTreeSet.{insert_key}
-use Rattle.plan_model.specs.declared.model.Leg.{Leg}
-use Rattle.plan_model.specs.declared.model.Outcome.{Outcome}
-use Rattle.plan_model.specs.Network.{NetworkModel}
-use Rattle.plan_model.specs.Network.{arr_of}
-use Rattle.plan_model.specs.Unfold.{end_of, outcomes_of, kids_after, unfold_after, arrival_of, unfolding_of}
-use Rattle.plan_graph.specs.declared.GraphRow.{GraphRow}
-use Rattle.plan_graph.specs.declared.Ride.{Ride}
-use Rattle.std.specs.List.Sorted.{IsStrictlySortedBy}
-use Rattle.plan_model.specs.Tree.{Tree, Kids}
-use Rattle.plan_model.specs.Strategy.{AreSafe, IsBoardable}
-use Rattle.plan_graph.specs.Ready.{IsLegOf, Stands, StandsIn}
-use Rattle.plan_model.specs.declared.model.Query.{Query}
-use Rattle.plan_graph.specs.Unfold.{Precedes, pick_after}
+use Rattle.std.specs.{Prelude.{ℕ, ◌+◌, List, [], ◌∷◌, Option, Some, None, ◌==◌, if◌then◌else◌, Contains, ◌≡◌, ◌≢◌, All, AllPairs}, Ordering.nat_cmp}
+use Rattle.std.specs.{Ordering.ordering_then, declared.cmp.Ordering.Ordering, BTreeSet.insert_key, List.Sorted.IsStrictlySortedBy}
+use Rattle.plan_model.specs.{declared.model.{Leg.Leg, Outcome.Outcome, Query.Query}, Network.{NetworkModel, arr_of}, Unfold.{end_of, outcomes_of, kids_after}}
+use Rattle.plan_model.specs.{Unfold.{unfold_after, arrival_of, unfolding_of}, Tree.{Tree, Kids}, Strategy.{AreSafe, IsBoardable}}
+use Rattle.plan_graph.specs.{declared.{GraphRow.GraphRow, Ride.Ride}, Ready.{IsLegOf, Stands, StandsIn}, Unfold.{Precedes, pick_after}}
 
 -- the row of a leg that is taken after an arrival by a moment
 abbrev pub row_by : ℕ → Leg → GraphRow

@@ -1,14 +1,8 @@
 -- A network with gates: places more, from each of which one is at a source a second later.
-use Rattle.std.specs.Prelude.{◌≡◌, ◌≢◌, ℕ, ◌+◌, ◌<◌, ◌≤◌, ◌↔◌, ◌==◌, List, [], ◌∷◌, ◌++◌, length, map, replicate, slice_index_or, if◌then◌else◌, Option, Some, None, All, ◌^◌}
-use Rattle.std.specs.List.{range_with_len}
-use Rattle.plan_model.specs.declared.model.PlaceId.{PlaceId}
-use Rattle.plan_model.specs.declared.model.Way.{Way}
-use Rattle.plan_model.specs.Network.{NetworkModel}
-use Rattle.plan_model.specs.Network.{links_into}
-use Rattle.plan_model.specs.Ways.{way_of}
-use Rattle.plan_model.specs.Tree.{Tree}
-use Rattle.plan_model.specs.Strategy.{IsSafe, IsSafeFromStart}
-use Rattle.plan_model.specs.View.{IsView}
+use Rattle.std.specs.Prelude.{◌≡◌, ◌≢◌, ℕ, ◌+◌, ◌<◌, ◌≤◌, ◌↔◌, ◌==◌, List, [], ◌∷◌, ◌++◌, length, map, replicate, slice_index_or, if◌then◌else◌, Option, Some}
+use Rattle.std.specs.{Prelude.{None, All, ◌^◌}, List.range_with_len}
+use Rattle.plan_model.specs.{declared.model.{PlaceId.PlaceId, Way.Way}, Network.{NetworkModel, links_into}, Ways.way_of, Tree.Tree, Strategy.IsSafe}
+use Rattle.plan_model.specs.{Strategy.IsSafeFromStart, View.IsView}
 
 -- the sources are places of the network, and there is a number for each gate
 pub record FitGates (m : NetworkModel) (sources : List PlaceId) : Type 0 where

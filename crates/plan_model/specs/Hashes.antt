@@ -1,9 +1,6 @@
 -- The hasher of a key.
-use Rattle.std.specs.RandomState.{initial_hasher}
-use Rattle.std.specs.Hash.DefaultHasher.{initial}
-use Rattle.std.specs.declared.hash.DefaultHasher.{DefaultHasher}
-use Rattle.plan_model.specs.declared.hash_key.HashKey.{HashKey}
-use Rattle.plan_model.specs.declared.hash_key.HashKey.TheVariants.{Drawn, Fixed}
+use Rattle.std.specs.{RandomState.initial_hasher, Hash.DefaultHasher.initial, declared.hash.DefaultHasher.DefaultHasher}
+use Rattle.plan_model.specs.declared.hash_key.HashKey.{HashKey, TheVariants.{Drawn, Fixed}}
 
 -- the hasher of std, with the keys that were drawn or with none
 abbrev pub first_hasher : HashKey → DefaultHasher

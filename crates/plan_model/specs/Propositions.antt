@@ -1,9 +1,7 @@
 -- There is one way alone for a network to be valid, so it is a fact that a type can have.
-use Rattle.std.proofs.Common.{◌≡◌, ℕ, ◌<◌, ◌⊎◌, arith, inl, inr, ap}
+use Rattle.std.proofs.{Common.{◌≡◌, ℕ, ◌<◌, ◌⊎◌, arith, inl, inr, ap}, Props.props}
 use Rattle.std.specs.Coded.{le_prop}
-use Rattle.std.proofs.Props.{props}
-use Rattle.plan_model.specs.Network.{NetworkModel}
-use Rattle.plan_model.specs.Network.{IsValid}
+use Rattle.plan_model.specs.Network.{NetworkModel, IsValid}
 
 -- at most one of the two holds, as of two positions in the order of runs and steps
 ⊎_less_prop : (a b c d : ℕ) → IsProp ((a < b) ⊎ ((a ≡ b) × (c < d)))

@@ -1,12 +1,7 @@
 -- One network as it is seen in another, where all moments are less by a shift.
-use Rattle.std.specs.Prelude.{◌≡◌, ℕ, ◌+◌, ◌<◌, ◌≤◌, ◌↔◌, length, IsTrue, Option}
-use Rattle.std.specs.Option.{option_map}
-use Rattle.plan_model.specs.declared.model.Connection.{Connection}
-use Rattle.plan_model.specs.Network.{NetworkModel}
-use Rattle.plan_model.specs.Network.{count, connection}
-use Rattle.plan_model.specs.Ways.{way_of}
-use Rattle.plan_model.specs.Tree.{Tree, Done, Ride, Stuck, Kids, Nil, Kid}
-use Rattle.plan_model.specs.Strategy.{IsSafe, IsSafeFromStart}
+use Rattle.std.specs.{Prelude.{◌≡◌, ℕ, ◌+◌, ◌<◌, ◌≤◌, ◌↔◌, length, IsTrue, Option}, Option.option_map}
+use Rattle.plan_model.specs.{declared.model.Connection.Connection, Network.{NetworkModel, count, connection}, Ways.way_of, Tree.{Tree, Done, Ride, Stuck, Kids}}
+use Rattle.plan_model.specs.{Tree.{Nil, Kid}, Strategy.{IsSafe, IsSafeFromStart}}
 
 abbrev mutual
   -- the tree with all moments greater by a shift

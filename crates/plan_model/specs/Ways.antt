@@ -1,10 +1,6 @@
 -- The ways between places, the latest arrival from which a leg is reached, and choices of a leg by place and arrival.
-use Rattle.std.specs.Prelude.{ℕ, ◌-◌, List, ◌∷◌, Option, Some, None, ◌==◌, nat_le, if◌then◌else◌, find, ◌≡◌, ◌≤◌}
-use Rattle.std.specs.Option.{option_map, option_and_then}
-use Rattle.plan_model.specs.declared.model.Leg.{Leg}
-use Rattle.plan_model.specs.declared.model.Way.{Way}
-use Rattle.plan_model.specs.Network.{NetworkModel}
-use Rattle.plan_model.specs.Network.{from_of, dep_of, change_of, links_into}
+use Rattle.std.specs.{Prelude.{ℕ, ◌-◌, List, ◌∷◌, Option, Some, None, ◌==◌, nat_le, if◌then◌else◌, find, ◌≡◌, ◌≤◌}, Option.{option_map, option_and_then}}
+use Rattle.plan_model.specs.{declared.model.{Leg.Leg, Way.Way}, Network.{NetworkModel, from_of, dep_of, change_of, links_into}}
 
 -- the way from a place to itself: a change, in its change time
 abbrev pub own_way : NetworkModel → ℕ → Way

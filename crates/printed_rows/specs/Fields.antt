@@ -1,7 +1,5 @@
 -- The values of the fields of a printed row.
-use Rattle.std.specs.Prelude.{ℕ, Bool, true, List, [], length, ◌==◌, ◌&&◌, nat_lt, slice_index_or, Option, Some, None}
-use Rattle.std.specs.List.{position_from}
-use Rattle.std.specs.Str.{bytes_eq}
+use Rattle.std.specs.{Prelude.{ℕ, Bool, true, List, [], length, ◌==◌, ◌&&◌, nat_lt, slice_index_or, Option, Some, None}, List.position_from, Str.bytes_eq}
 use Rattle.clock_text.specs.Digits.{whole_of}
 use Rattle.plan_model.specs.Network.{NetworkModel}
 use Rattle.printed_rows.specs.declared.TheConstants.{MOST_WHOLE}

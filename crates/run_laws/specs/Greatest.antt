@@ -1,11 +1,9 @@
 -- The certificate that `certify` finds, beside another that `check` accepts.
 use Rattle.std.specs.Prelude.{◌≡◌, ℕ, List, Some}
 use Rattle.file_ports.specs.Ports.{FileMap}
-use Rattle.lower_proof.specs.declared.LowerBounds.{LowerBounds}
-use Rattle.lower_proof.specs.Promises.{IsNowhereAbove}
+use Rattle.lower_proof.specs.{declared.LowerBounds.LowerBounds, Promises.IsNowhereAbove}
 use Rattle.command_line.specs.Jobs.{JourneyModel, Certify, CheckProof}
-use Rattle.run_laws.specs.Runs.{RunModel}
-use Rattle.run_laws.specs.TwoRuns.{AskBoth, EndWell}
+use Rattle.run_laws.specs.{Runs.RunModel, TwoRuns.{AskBoth, EndWell}}
 
 -- of the certificates of one query, that which `certify` finds is the greatest at each connection: where it has a value, each that `check` accepts has
 -- one too, which is no greater

@@ -3,14 +3,12 @@ use Rattle.std.specs.Prelude.{◌≡◌, ℕ, ◌≤◌, List, Option, None, Som
 use Rattle.file_ports.specs.Ports.{FileMap}
 use Rattle.csv_rows.specs.declared.limits.Limits.{Limits}
 use Rattle.interval_fixed.specs.Interval.{Interval}
-use Rattle.plan_model.specs.declared.model.Moment.{Moment}
-use Rattle.plan_model.specs.declared.model.Query.{Query}
+use Rattle.plan_model.specs.declared.model.{Moment.Moment, Query.Query}
 use Rattle.command_line.specs.Jobs.{FeedFolder, JourneyModel, AskModel, Ask, Plan, Latest, job_of}
 use Rattle.journey_model.specs.declared.problem.Problem.{Problem}
 use Rattle.journey_problem.specs.Problems.{IsProblem}
 use Rattle.window_laws.specs.MoreFiles.{HasMoreRows, IsSameJourney}
-use Rattle.run_laws.specs.Runs.{RunModel, IsUntroubled}
-use Rattle.run_laws.specs.TwoRuns.{OrStatus9, IsBySafety}
+use Rattle.run_laws.specs.{Runs.{RunModel, IsUntroubled}, TwoRuns.{OrStatus9, IsBySafety}}
 
 -- the second journey is the first over a folder that has its rows and more trips, in a window of as many hours or more
 pub record HasMoreService (limits : Limits) (files others : FileMap) (j i : JourneyModel) : Type 0 where

@@ -3,43 +3,24 @@ use Rattle.std.specs.Prelude.{◌≡◌, ◌≢◌, ℕ, ◌+◌, ◌<◌, ◌�
 use Rattle.file_ports.specs.Ports.{FileMap, file_at}
 use Rattle.csv_rows.specs.declared.limits.Limits.{Limits}
 use Rattle.interval_fixed.specs.Interval.{Interval}
-use Rattle.plan_model.specs.declared.model.Moment.{Moment}
-use Rattle.plan_model.specs.declared.model.Query.{Query}
-use Rattle.plan_model.specs.Network.{count}
-use Rattle.plan_graph.specs.declared.ExpandedGraph.{ExpandedGraph}
-use Rattle.plan_graph.specs.declared.PlanGraph.{PlanGraph}
-use Rattle.plan_graph.specs.Unfold.{unfold_plan}
-use Rattle.plan_model.specs.Tree.{worst}
-use Rattle.departure_table.specs.declared.DepartureRow.{DepartureRow}
-use Rattle.departure_table.specs.Departures.{IsOfLastRow}
-use Rattle.graph_text.specs.declared.Head.{Head}
-use Rattle.graph_text.specs.declared.reader.TextFault.{TextFault}
-use Rattle.graph_text.specs.FirstFaults.{IsFirstFaultOf}
-use Rattle.lower_proof.specs.declared.LowerBounds.{LowerBounds}
-use Rattle.lower_proof.specs.Certificates.{IsLeastAtStart}
-use Rattle.trip_replay.specs.Late.{ArePossible}
-use Rattle.trip_replay.specs.Walk.{IsSafeAnswer}
-use Rattle.command_line.specs.Jobs.{JourneyModel, AskModel, Ask, Safe, Expand, Plan, Replay, Certify, CheckProof, CheckGraph, Punctual, Departures, Latest, Reach, job_of}
-use Rattle.journey_model.specs.declared.faults.Fault.TheVariants.{GraphFile, NoSafe}
-use Rattle.journey_model.specs.declared.problem.Problem.{Problem}
-use Rattle.journey_problem.specs.Problems.{IsProblem}
-use Rattle.journey_report.specs.AnswerTexts.{punctual_row}
-use Rattle.journey_report.specs.Findings.{findings_of}
-use Rattle.journey_problem.specs.GraphFiles.{graph_in}
+use Rattle.plan_model.specs.{declared.model.{Moment.Moment, Query.Query}, Network.count, Tree.worst}
+use Rattle.plan_graph.specs.{declared.{ExpandedGraph.ExpandedGraph, PlanGraph.PlanGraph}, Unfold.unfold_plan}
+use Rattle.departure_table.specs.{declared.DepartureRow.DepartureRow, Departures.IsOfLastRow}
+use Rattle.graph_text.specs.{declared.{Head.Head, reader.TextFault.TextFault}, FirstFaults.IsFirstFaultOf}
+use Rattle.lower_proof.specs.{declared.LowerBounds.LowerBounds, Certificates.IsLeastAtStart}
+use Rattle.trip_replay.specs.{Late.ArePossible, Walk.IsSafeAnswer}
+use Rattle.command_line.specs.Jobs.{JourneyModel, AskModel, Ask, Safe, Expand, Plan, Replay, Certify, CheckProof, CheckGraph, Punctual, Departures, Latest}
+use Rattle.command_line.specs.Jobs.{Reach, job_of}
+use Rattle.journey_model.specs.declared.{faults.Fault.TheVariants.{GraphFile, NoSafe}, problem.Problem.Problem}
+use Rattle.journey_problem.specs.{Problems.IsProblem, GraphFiles.graph_in}
+use Rattle.journey_report.specs.{AnswerTexts.punctual_row, Findings.findings_of}
 use Rattle.journey_answers.specs.Trips.{trip_by}
 use Rattle.meat_engine.specs.Ends.{EndsByWalk}
-use Rattle.run_laws.specs.Greatest.{CertificateIsGreatest}
-use Rattle.run_laws.specs.MoreService.{MoreIsNoLater, MoreLeavesNoSooner, MorePlansNoWorse}
-use Rattle.run_laws.specs.OneRun.{EndAlike, FormsEndAlike}
-use Rattle.run_laws.specs.Reaches.{ReachIsLatest, ReachIsFirstDeparture, LaterReachesMore}
-use Rattle.run_laws.specs.Printed.{ArrivesByFile, KeepsUpperBound}
-use Rattle.run_laws.specs.MoreService.{OrderKeepsWorst, OrderKeepsPlans}
-use Rattle.run_laws.specs.RowsOfPlans.{RowIsOfPlan, CutRowIsOfPlan}
-use Rattle.run_laws.specs.Runs.{RunModel, IsUntroubled}
+use Rattle.run_laws.specs.{Greatest.CertificateIsGreatest, MoreService.{MoreIsNoLater, MoreLeavesNoSooner, MorePlansNoWorse, OrderKeepsWorst, OrderKeepsPlans}}
+use Rattle.run_laws.specs.{OneRun.{EndAlike, FormsEndAlike}, Reaches.{ReachIsLatest, ReachIsFirstDeparture, LaterReachesMore}, Printed.ArrivesByFile}
+use Rattle.run_laws.specs.{Printed.KeepsUpperBound, RowsOfPlans.{RowIsOfPlan, CutRowIsOfPlan}, Runs.{RunModel, IsUntroubled}, SamplePlans.SampleIsPlan}
+use Rattle.run_laws.specs.{Saved.{SavingKeeps, FirstLineIsItsRow}, Wholes.IsOneStrategy}
 pub use Rattle.run_laws.specs.TwoRuns.{AskOne, AskBoth, IsSaved, OrStatus9, EndWell, IsBySafety}
-use Rattle.run_laws.specs.SamplePlans.{SampleIsPlan}
-use Rattle.run_laws.specs.Saved.{SavingKeeps, FirstLineIsItsRow}
-use Rattle.run_laws.specs.Wholes.{IsOneStrategy}
 
 -- `check` of the graph that `plan` printed ends with 0, with the same upper bound
 abbrev pub PlanIsAccepted : Limits → RunModel → RunModel → Type 0

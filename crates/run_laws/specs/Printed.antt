@@ -3,8 +3,7 @@ use Rattle.std.specs.Prelude.{◌≡◌, ℕ, ◌≤◌, List, None, Some, Ok}
 use Rattle.file_ports.specs.Ports.{FileMap, file_at}
 use Rattle.csv_rows.specs.declared.limits.Limits.{Limits}
 use Rattle.interval_fixed.specs.Interval.{Interval}
-use Rattle.plan_graph.specs.declared.PlanGraph.{PlanGraph}
-use Rattle.plan_graph.specs.Unfold.{unfold_plan}
+use Rattle.plan_graph.specs.{declared.PlanGraph.PlanGraph, Unfold.unfold_plan}
 use Rattle.graph_text.specs.declared.Head.{Head}
 use Rattle.trip_replay.specs.Late.{Arrives}
 use Rattle.journey_model.specs.declared.problem.Problem.{Problem}

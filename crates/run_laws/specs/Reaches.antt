@@ -2,13 +2,10 @@
 use Rattle.std.specs.Prelude.{◌≡◌, ◌≢◌, ◌⊎◌, ℕ, ◌≤◌, List, Option, Some, None, MatchOption, All, Ok}
 use Rattle.file_ports.specs.Ports.{FileMap}
 use Rattle.csv_rows.specs.declared.limits.Limits.{Limits}
-use Rattle.departure_table.specs.declared.DepartureRow.{DepartureRow}
-use Rattle.departure_table.specs.declared.reach_rows.ReachRow.{ReachRow}
-use Rattle.departure_table.specs.Reach.{BeginsWithBounds, row_of_place}
+use Rattle.departure_table.specs.{declared.{DepartureRow.DepartureRow, reach_rows.ReachRow.ReachRow}, Reach.{BeginsWithBounds, row_of_place}}
 use Rattle.command_line.specs.Jobs.{JourneyModel, AskModel, Ask, Departures, Latest, Reach, job_of}
 use Rattle.journey_model.specs.declared.problem.Problem.{Problem}
-use Rattle.journey_problem.specs.Paths.{AgreeFor}
-use Rattle.journey_problem.specs.Problems.{IsProblem}
+use Rattle.journey_problem.specs.{Paths.AgreeFor, Problems.IsProblem}
 use Rattle.run_laws.specs.Runs.{RunModel, IsUntroubled}
 
 -- the journey, but from the stop of this name

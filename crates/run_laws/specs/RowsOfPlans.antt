@@ -4,14 +4,11 @@ use Rattle.file_ports.specs.Ports.{FileMap}
 use Rattle.csv_rows.specs.declared.limits.Limits.{Limits}
 use Rattle.interval_fixed.specs.Interval.{Interval}
 use Rattle.plan_model.specs.declared.model.Query.{Query}
-use Rattle.departure_table.specs.Departures.{first_row_by}
-use Rattle.departure_table.specs.declared.DepartureRow.{DepartureRow}
+use Rattle.departure_table.specs.{Departures.first_row_by, declared.DepartureRow.DepartureRow}
 use Rattle.command_line.specs.Jobs.{JourneyModel, CutFile, Ask, Plan, Departures, job_of}
 use Rattle.journey_model.specs.declared.problem.Problem.{Problem}
-use Rattle.journey_problem.specs.Paths.{AgreeFor}
-use Rattle.journey_problem.specs.Problems.{IsProblem}
-use Rattle.run_laws.specs.Runs.{RunModel, IsUntroubled}
-use Rattle.run_laws.specs.TwoRuns.{EndWell}
+use Rattle.journey_problem.specs.{Paths.AgreeFor, Problems.IsProblem}
+use Rattle.run_laws.specs.{Runs.{RunModel, IsUntroubled}, TwoRuns.EndWell}
 
 -- both problems have one network, one source and one target
 pub record IsSameTrip (p q : Problem) : Type 0 where

@@ -1,14 +1,11 @@
 -- A run: its words, its report, and its host before it and after it.
-use Rattle.std.specs.Prelude.{◌≡◌, ℕ, List, Option, Some, Ok}
-use Rattle.std.specs.Io.KnownBytes.{Appends}
-use Rattle.file_ports.specs.Counts.{Rose}
-use Rattle.file_ports.specs.Ports.{FileMap, FilesState}
+use Rattle.std.specs.{Prelude.{◌≡◌, ℕ, List, Option, Some, Ok}, Io.KnownBytes.Appends}
+use Rattle.file_ports.specs.{Counts.Rose, Ports.{FileMap, FilesState}}
 use Rattle.csv_rows.specs.declared.limits.Limits.{Limits}
 use Rattle.command_line.specs.Jobs.{JobModel, job_of}
 use Rattle.journey_problem.specs.Files.{AgreeAt, ReadAlikeAt}
 use Rattle.journey_report.specs.declared.report.Report.{Report}
-use Rattle.meat_engine.specs.Received.{path_in}
-use Rattle.meat_engine.specs.RunPromises.{IsRun, SinkState, sink_state}
+use Rattle.meat_engine.specs.{Received.path_in, RunPromises.{IsRun, SinkState, sink_state}}
 
 -- the files of a host, its output and its stream of errors
 pub record HostState : Type 0 where

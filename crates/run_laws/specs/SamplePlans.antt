@@ -1,6 +1,5 @@
 -- `sample` beside `plan` over its made files.
-use Rattle.std.specs.Prelude.{◌≡◌, ◌≢◌, ℕ, Some, Ok}
-use Rattle.std.specs.Io.KnownBytes.{Appends}
+use Rattle.std.specs.{Prelude.{◌≡◌, ◌≢◌, ℕ, Some, Ok}, Io.KnownBytes.Appends}
 use Rattle.file_ports.specs.Ports.{FileMap}
 use Rattle.feed_maker.specs.MadeTables.{made}
 use Rattle.interval_fixed.specs.Interval.{Interval}
@@ -8,8 +7,7 @@ use Rattle.plan_graph.specs.declared.PlanGraph.{PlanGraph}
 use Rattle.command_line.specs.Jobs.{Ask, Sample, Plan, job_of}
 use Rattle.journey_model.specs.declared.faults.Fault.TheVariants.{NoMemory}
 use Rattle.journey_problem.specs.Paths.{AgreeFor}
-use Rattle.journey_report.specs.AnswerTexts.{leg_count, sample_text}
-use Rattle.journey_report.specs.Findings.{findings_of}
+use Rattle.journey_report.specs.{AnswerTexts.{leg_count, sample_text}, Findings.findings_of}
 use Rattle.meat_engine.specs.Samples.{sample_journey, sample_alpha}
 use Rattle.run_laws.specs.Runs.{RunModel, IsUntroubled, ReceiveAlike}
 

@@ -1,16 +1,13 @@
 -- A text that a run printed, saved beside the files of its journey.
-use Rattle.std.specs.Prelude.{◌≡◌, ℕ, ◌≤◌, List, [], ◌∷◌, ◌++◌, None, Some, IsSome, Contains, length}
-use Rattle.std.specs.Io.KnownBytes.{Appends}
-use Rattle.file_ports.specs.Ports.{FileMap}
-use Rattle.file_ports.specs.Steady.{PutsFile}
+use Rattle.std.specs.{Prelude.{◌≡◌, ℕ, ◌≤◌, List, [], ◌∷◌, ◌++◌, None, Some, IsSome, Contains, length}, Io.KnownBytes.Appends}
+use Rattle.file_ports.specs.{Ports.FileMap, Steady.PutsFile}
 use Rattle.csv.specs.Machine.{line_feed}
 use Rattle.csv_rows.specs.declared.limits.Limits.{Limits}
 use Rattle.interval_fixed.specs.Interval.{Interval}
 use Rattle.command_line.specs.Jobs.{JourneyModel, Punctual}
 use Rattle.journey_problem.specs.Paths.{AgreeFor, IsElsewhere}
 use Rattle.journey_report.specs.AnswerTexts.{punctual_row}
-use Rattle.run_laws.specs.Runs.{RunModel}
-use Rattle.run_laws.specs.TwoRuns.{AskOne, IsSaved}
+use Rattle.run_laws.specs.{Runs.RunModel, TwoRuns.{AskOne, IsSaved}}
 
 -- the run ended without a fault and wrote these bytes and then a text; the other files are as these, but hold that text at a path that is none of
 -- the journey's

@@ -1,9 +1,9 @@
 -- Two runs of questions about a journey, each over a host of its own.
-use Rattle.std.specs.Prelude.{◌≡◌, ◌⊎◌, ℕ, ◌≤◌, List, ◌++◌, None, Some, Ok, IsSome, length}
-use Rattle.std.specs.Io.KnownBytes.{Appends}
+use Rattle.std.specs.{Prelude.{◌≡◌, ◌⊎◌, ℕ, ◌≤◌, List, ◌++◌, None, Some, Ok, IsSome, length}, Io.KnownBytes.Appends}
 use Rattle.file_ports.specs.Ports.{FileMap, file_at}
 use Rattle.csv_rows.specs.declared.limits.Limits.{Limits}
-use Rattle.command_line.specs.Jobs.{JourneyModel, AskModel, Ask, Safe, Expand, Plan, Replay, Certify, CheckProof, CheckGraph, Punctual, Departures, Latest, Reach, job_of}
+use Rattle.command_line.specs.Jobs.{JourneyModel, AskModel, Ask, Safe, Expand, Plan, Replay, Certify, CheckProof, CheckGraph, Punctual, Departures, Latest}
+use Rattle.command_line.specs.Jobs.{Reach, job_of}
 use Rattle.journey_problem.specs.Paths.{AgreeFor}
 use Rattle.run_laws.specs.Runs.{RunModel, IsUntroubled}
 

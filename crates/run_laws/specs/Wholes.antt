@@ -1,12 +1,8 @@
 -- Which graphs by ride follow from their tree.
 use Rattle.std.specs.Prelude.{◌≡◌, All}
 use Rattle.interval_fixed.specs.Interval.{Interval}
-use Rattle.plan_model.specs.declared.model.Query.{Query}
-use Rattle.plan_model.specs.Network.{NetworkModel}
-use Rattle.plan_graph.specs.declared.ExpandedGraph.{ExpandedGraph}
-use Rattle.plan_graph.specs.declared.PlanGraph.{PlanGraph}
-use Rattle.plan_graph.specs.Unfold.{unfold_expanded, unfold_plan}
-use Rattle.plan_graph.specs.Ready.{IsReady, IsBusy}
+use Rattle.plan_model.specs.{declared.model.Query.Query, Network.NetworkModel}
+use Rattle.plan_graph.specs.{declared.{ExpandedGraph.ExpandedGraph, PlanGraph.PlanGraph}, Unfold.{unfold_expanded, unfold_plan}, Ready.{IsReady, IsBusy}}
 use Rattle.leg_extract.specs.Extracted.{HasArrivals, HasEachRide}
 
 -- its rides are those that are in its tree, each with a row for each outcome

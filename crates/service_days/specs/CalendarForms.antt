@@ -1,6 +1,5 @@
 -- The forms of the fields of the calendars (GTFS Schedule reference).
-use Rattle.std.specs.Prelude.{ℕ, Bool, true, false, List, Option, Some, None, if◌then◌else◌, codes}
-use Rattle.std.specs.Str.{bytes_eq}
+use Rattle.std.specs.{Prelude.{ℕ, Bool, true, false, List, Option, Some, None, if◌then◌else◌, codes}, Str.bytes_eq}
 
 -- whether a field has the first of two texts, and not the second
 abbrev pub choice_in : (first second : List ℕ) → List ℕ → Option Bool

@@ -1,26 +1,15 @@
 -- The calendars of a feed, with exceptions by the numbers of services, and on which days a service is active (GTFS Schedule reference).
-use Rattle.std.specs.Prelude.{◌≡◌, ℕ, ℤ, ◌≤◌, ◌||◌, Bool, false, List, length, Option, Some, None, ◌&&◌, not, true, Result, Ok, Err, IfSome, IsOkAnd, if◌then◌else◌}
-use Rattle.plan_model.specs.NameLists.{Adds}
-use Rattle.csv_rows.specs.Tables.{number_in, row_count, field}
-use Rattle.service_days.specs.declared.exceptions.Exception.{Exception}
-use Rattle.service_days.specs.Dates.{ServiceDate, is_excepted, dates_fault}
-use Rattle.service_days.specs.Exceptions.{same, has, has_at}
-use Rattle.plan_model.specs.Results.{and_then, unless}
-use Rattle.csv_rows.specs.declared.feed_tables.Table.{Table}
-use Rattle.csv_rows.specs.declared.feed_tables.Table.TheVariants.{Stops, Routes, Trips, StopTimes, Frequencies, Calendar, CalendarDates, Transfers}
-use Rattle.csv_rows.specs.declared.feed_tables.FeedFault.{FeedFault}
-use Rattle.csv_rows.specs.declared.feed_tables.FeedFault.TheVariants.{MissingTable}
-use Rattle.table_files.specs.declared.loading.Loaded.{Loaded}
-use Rattle.table_files.specs.declared.loading.Loaded.TheVariants.{Absent, NoRecord, Found}
-use Rattle.csv_rows.specs.declared.limits.Limits.{Limits}
-use Rattle.file_ports.specs.Ports.{FileMap}
-use Rattle.csv_rows.specs.declared.columns.Column.TheVariants.{ServiceId}
-use Rattle.csv_rows.specs.FeedTables.{table_of_fault}
-use Rattle.csv_rows.specs.Lists.{first_below, any_below}
-use Rattle.table_files.specs.Loading.{load_in, loaded_rows}
+use Rattle.std.specs.Prelude.{◌≡◌, ℕ, ℤ, ◌≤◌, ◌||◌, Bool, false, List, length, Option, Some, None, ◌&&◌, not, true, Result, Ok, Err, IfSome, IsOkAnd}
+use Rattle.std.specs.Prelude.{if◌then◌else◌}
+use Rattle.plan_model.specs.{NameLists.Adds, Results.{and_then, unless}}
+use Rattle.csv_rows.specs.{Tables.{number_in, row_count, field}, declared.feed_tables.Table.{Table, TheVariants.{Stops, Routes, Trips, StopTimes, Frequencies}}}
+use Rattle.csv_rows.specs.declared.feed_tables.{Table.TheVariants.{Calendar, CalendarDates, Transfers}, FeedFault.{FeedFault, TheVariants.MissingTable}}
+use Rattle.csv_rows.specs.{declared.{limits.Limits.Limits, columns.Column.TheVariants.ServiceId}, FeedTables.table_of_fault, Lists.{first_below, any_below}}
 use Rattle.csv_rows.specs.RowFaults.{repeated_id}
-use Rattle.service_days.specs.Periods.{runs_in_row, service_ids, periods_of, calendar_fault}
-use Rattle.service_days.specs.declared.periods.Period.{Period}
+use Rattle.service_days.specs.{declared.{exceptions.Exception.Exception, periods.Period.Period}, Dates.{ServiceDate, is_excepted, dates_fault}, Exceptions.same}
+use Rattle.service_days.specs.{Exceptions.{has, has_at}, Periods.{runs_in_row, service_ids, periods_of, calendar_fault}}
+use Rattle.table_files.specs.{declared.loading.Loaded.{Loaded, TheVariants.{Absent, NoRecord, Found}}, Loading.{load_in, loaded_rows}}
+use Rattle.file_ports.specs.Ports.{FileMap}
 
 -- one more exception, whose service is added where it is new
 pub record AddsDate (old ids : List (List ℕ)) (before after : List Exception) (d : ServiceDate) : Type 0 where

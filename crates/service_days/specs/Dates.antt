@@ -1,22 +1,13 @@
 -- The exceptions of `calendar_dates.txt`: days that are added to a service, or removed.
-use Rattle.std.specs.Prelude.{ℕ, ℤ, pos, ◌+◌, ◌&&◌, Bool, false, List, [], Option, Result, Ok, ◌∷◌}
-use Rattle.std.specs.Option.{option_or}
-use Rattle.std.specs.Ordering.{int_eq}
-use Rattle.std.specs.Str.{bytes_eq}
+use Rattle.std.specs.{Prelude.{ℕ, ℤ, pos, ◌+◌, ◌&&◌, Bool, false, List, [], Option, Result, Ok, ◌∷◌}, Option.option_or, Ordering.int_eq, Str.bytes_eq}
 use Rattle.std.specs.Result.{result_err}
 use Rattle.plan_model.specs.Results.{require, value_or}
-use mathlib.Core.Bool.{beq}
 use Rattle.clock_text.specs.Times.{date_at}
-use Rattle.csv_rows.specs.declared.columns.Column.TheVariants.{ServiceId, Date, ExceptionType}
-use Rattle.csv_rows.specs.declared.feed_tables.Table.TheVariants.{CalendarDates}
-use Rattle.csv_rows.specs.declared.feed_tables.FeedFault.{FeedFault}
-use Rattle.csv_rows.specs.declared.feed_tables.FeedFault.TheVariants.{BadField}
-use Rattle.csv_rows.specs.Lists.{first_below, any_below}
-use Rattle.csv_rows.specs.Ids.{name_in}
-use Rattle.csv_rows.specs.RowFaults.{first_missing}
-use Rattle.csv_rows.specs.Tables.{row_count, index_of, field_at}
-use Rattle.service_days.specs.declared.dates.DateColumns.{DateColumns}
-use Rattle.service_days.specs.CalendarForms.{adds_in}
+use Rattle.csv_rows.specs.declared.{columns.Column.TheVariants.{ServiceId, Date, ExceptionType}, feed_tables.Table.TheVariants.CalendarDates}
+use Rattle.csv_rows.specs.{declared.feed_tables.FeedFault.{FeedFault, TheVariants.BadField}, Lists.{first_below, any_below}, Ids.name_in}
+use Rattle.csv_rows.specs.{RowFaults.first_missing, Tables.{row_count, index_of, field_at}}
+use Rattle.service_days.specs.{declared.dates.DateColumns.DateColumns, CalendarForms.adds_in}
+use mathlib.Core.Bool.{beq}
 
 -- a service, a day, and whether it is added or removed
 pub record ServiceDate : Type 0 where

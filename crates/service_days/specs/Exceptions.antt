@@ -1,9 +1,7 @@
 -- Exceptions by the numbers of services.
-use Rattle.std.specs.Prelude.{ℕ, ℤ, ◌==◌, ◌&&◌, Bool, false, List, Option, Some, None}
-use Rattle.std.specs.List.{list_any}
-use Rattle.std.specs.Ordering.{int_eq}
-use mathlib.Core.Bool.{beq}
+use Rattle.std.specs.{Prelude.{ℕ, ℤ, ◌==◌, ◌&&◌, Bool, false, List, Option, Some, None}, List.list_any, Ordering.int_eq}
 use Rattle.service_days.specs.declared.exceptions.Exception.{Exception}
+use mathlib.Core.Bool.{beq}
 
 abbrev pub same : Exception → Exception → Bool
 same a b = (a.service == b.service) && (int_eq a.day b.day && beq a.adds b.adds)

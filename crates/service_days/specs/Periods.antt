@@ -1,25 +1,13 @@
 -- The periods of `calendar.txt`: on which weekdays of which range of days a service runs.
-use Rattle.std.specs.Prelude.{ℕ, ℤ, pos, ◌+◌, ◌==◌, ◌&&◌, int_le, Bool, false, List, Option, Result, Ok, Err, if◌then◌else◌, [], ◌∷◌}
-use Rattle.std.specs.Option.{option_or}
-use Rattle.std.specs.Str.{bytes_eq}
-use Rattle.std.specs.Result.{result_err}
+use Rattle.std.specs.{Prelude.{ℕ, ℤ, pos, ◌+◌, ◌==◌, ◌&&◌, int_le, Bool, false, List, Option, Result, Ok, Err, if◌then◌else◌, [], ◌∷◌}, Option.option_or}
+use Rattle.std.specs.{Str.bytes_eq, Result.result_err}
 use Rattle.plan_model.specs.Results.{require, value_or}
 use Rattle.jiff_core.specs.Calendar.{weekday_number}
 use Rattle.clock_text.specs.Times.{date_at}
-use Rattle.csv_rows.specs.declared.columns.Column.{Column}
-use Rattle.csv_rows.specs.declared.columns.Column.TheVariants.{ServiceId, Monday, Tuesday, Wednesday, Thursday, Friday, Saturday, Sunday, StartDate, EndDate}
-use Rattle.csv_rows.specs.declared.feed_tables.Table.TheVariants.{Calendar}
-use Rattle.csv_rows.specs.declared.feed_tables.FeedFault.{FeedFault}
-use Rattle.csv_rows.specs.declared.feed_tables.FeedFault.TheVariants.{BadField}
-use Rattle.csv_rows.specs.Lists.{first_below}
-use Rattle.csv_rows.specs.Lists.{list_below}
-use Rattle.csv_rows.specs.Ids.{name_in}
-use Rattle.csv_rows.specs.RowFaults.{first_missing, repeated_id}
-use Rattle.csv_rows.specs.Tables.{row_count, index_of, field_at, field}
-use Rattle.service_days.specs.declared.periods.Week.{Week}
-use Rattle.service_days.specs.declared.periods.Period.{Period}
-use Rattle.service_days.specs.declared.periods.PeriodColumns.{PeriodColumns}
-use Rattle.service_days.specs.CalendarForms.{weekday_flag_in}
+use Rattle.csv_rows.specs.declared.columns.Column.{Column, TheVariants.{ServiceId, Monday, Tuesday, Wednesday, Thursday, Friday, Saturday, Sunday, StartDate}}
+use Rattle.csv_rows.specs.declared.{columns.Column.TheVariants.EndDate, feed_tables.{Table.TheVariants.Calendar, FeedFault.{FeedFault, TheVariants.BadField}}}
+use Rattle.csv_rows.specs.{Lists.{first_below, list_below}, Ids.name_in, RowFaults.{first_missing, repeated_id}, Tables.{row_count, index_of, field_at, field}}
+use Rattle.service_days.specs.{declared.periods.{Week.Week, Period.Period, PeriodColumns.PeriodColumns}, CalendarForms.weekday_flag_in}
 
 -- the flag of a weekday, from 0 for Monday to 6 for Sunday
 abbrev pub flag_of : Week → ℕ → Bool

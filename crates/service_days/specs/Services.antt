@@ -1,10 +1,7 @@
 -- On which days services run, by their numbers.
 use Rattle.std.specs.Prelude.{ℕ, ℤ, not, ◌&&◌, ◌||◌, Bool, true, false, List, slice_get, Option, Some, None}
 use Rattle.csv_rows.specs.Tables.{number_in}
-use Rattle.service_days.specs.declared.periods.Period.{Period}
-use Rattle.service_days.specs.declared.exceptions.Exception.{Exception}
-use Rattle.service_days.specs.Periods.{runs_in_period}
-use Rattle.service_days.specs.Exceptions.{has_at}
+use Rattle.service_days.specs.{declared.{periods.Period.Period, exceptions.Exception.Exception}, Periods.runs_in_period, Exceptions.has_at}
 
 abbrev pub runs_within : Option Period → ℤ → Bool
 runs_within None day = false

@@ -1,10 +1,6 @@
 -- Networks that differ from another in one thing.
 use Rattle.std.specs.Prelude.{◌≡◌, ℕ, ◌<◌, ◌≤◌, List, length, All, Contains}
-use Rattle.plan_model.specs.declared.model.Connection.{Connection}
-use Rattle.plan_model.specs.declared.model.Outcome.{Outcome}
-use Rattle.plan_model.specs.declared.model.Way.{Way}
-use Rattle.plan_model.specs.Network.{NetworkModel}
-use Rattle.plan_model.specs.Network.{change_of, row_of, links_into}
+use Rattle.plan_model.specs.{declared.model.{Connection.Connection, Outcome.Outcome, Way.Way}, Network.{NetworkModel, change_of, row_of, links_into}}
 
 -- what stays where it is
 abbrev pub own : ℕ → ℕ

@@ -1,13 +1,7 @@
 -- One network in another that offers no less, and what is safe in two networks.
 use Rattle.std.specs.Prelude.{◌≡◌, ℕ, ◌≤◌, Option, ◌+◌, ◌<◌, List, [], ◌∷◌, All, Contains, IsTrue, Some, MatchOption}
-use Rattle.plan_model.specs.Network.{NetworkModel}
-use Rattle.plan_model.specs.Tree.{Tree, worst, height}
-use Rattle.plan_model.specs.Expected.{weighted_by}
-use Rattle.plan_model.specs.Strategy.{IsSafe, IsSafeFromStart}
-use Rattle.plan_model.specs.declared.model.Moment.{Moment}
-use Rattle.plan_model.specs.declared.model.Outcome.{Outcome}
-use Rattle.plan_model.specs.Network.{count, connection, from_of, to_of, dep_of, arr_of, run_of, step_of, outcomes}
-use Rattle.plan_model.specs.Ways.{way_of}
+use Rattle.plan_model.specs.{Network.{NetworkModel, count, connection, from_of, to_of, dep_of, arr_of, run_of, step_of, outcomes}, Tree.{Tree, worst, height}}
+use Rattle.plan_model.specs.{Expected.weighted_by, Strategy.{IsSafe, IsSafeFromStart}, declared.model.{Moment.Moment, Outcome.Outcome}, Ways.way_of}
 
 -- a number that is no less for a later arrival
 abbrev pub Rises : (ℕ → ℕ) → Type 0

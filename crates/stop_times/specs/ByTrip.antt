@@ -1,8 +1,7 @@
 -- The kept rows of all trips, as they are kept: one trip after the other, between bounds.
 use Rattle.std.specs.Prelude.{ℕ, ◌+◌, ◌-◌, ◌<◌, ◌≤◌, List, length, slice_index, slice_range}
 use Rattle.csv_rows.specs.Lists.{list_below}
-use Rattle.stop_times.specs.declared.rows.StopRow.{StopRow}
-use Rattle.stop_times.specs.declared.by_trip.StopTimes.TheInside.{Inside}
+use Rattle.stop_times.specs.declared.{rows.StopRow.StopRow, by_trip.StopTimes.TheInside.Inside}
 
 -- the rows of a trip are from its bound to the next one
 abbrev pub rows_between : List StopRow → List ℕ → ℕ → List StopRow

@@ -1,13 +1,10 @@
 -- The records that a reader has yet to read.
-use Rattle.std.specs.Prelude.{◌≡◌, ℕ, ◌+◌, false, List, [], map, length, Option, Some, None, if◌then◌else◌}
-use Rattle.std.specs.Borrow.{Bor}
-use Rattle.csv.specs.Machine.{ends_at_end}
-use Rattle.csv.specs.Reading.{Ready, default_config, reader_config, reader_state, reader_trim, records_from, source_of}
-use Rattle.csv.specs.declared.parser.State.{State}
-use Rattle.csv.specs.declared.reader.Reader.{Reader}
-use Rattle.csv.specs.declared.reader.Trim.TheVariants as trim
+use Rattle.std.specs.{Prelude.{◌≡◌, ℕ, ◌+◌, false, List, [], map, length, Option, Some, None, if◌then◌else◌}, Borrow.Bor}
+use Rattle.csv.specs.{Machine.ends_at_end, Reading.{Ready, default_config, reader_config, reader_state, reader_trim, records_from, source_of}}
+use Rattle.csv.specs.declared.{parser.State.State, reader.Reader.Reader}
 use Rattle.csv_rows.specs.Spaces.{trimmed_text}
 use Rattle.stop_times.specs.declared.records.Records.TheInside.{Inside}
+use Rattle.csv.specs.declared.reader.Trim.TheVariants as trim
 
 -- the bytes that a reader of a slice has yet to read
 abbrev pub source : Reader (Bor (List ℕ)) → Option (List ℕ)

@@ -1,11 +1,7 @@
 -- The rows in the order of trip and sequence, and what shows there.
 use Rattle.std.specs.Prelude.{◌≡◌, ℕ, ◌+◌, ◌<◌, ◌⊎◌, nat_lt, Bool, false, not, ◌||◌, List, length, Option, Some, None, if◌then◌else◌}
-use Rattle.csv_rows.specs.declared.feed_tables.FeedFault.{FeedFault}
-use Rattle.csv_rows.specs.declared.feed_tables.FeedFault.TheVariants.{BackwardTime}
-use Rattle.csv_rows.specs.declared.keys.Key.{Key}
-use Rattle.csv_rows.specs.Keys.{AreSorted}
-use Rattle.stop_times.specs.declared.rows.TimedRow.{TimedRow}
-use Rattle.stop_times.specs.StopTimes.{row_at, trip_of, sequence_of, is_kept, stop_arrival, departure_of}
+use Rattle.csv_rows.specs.{declared.{feed_tables.FeedFault.{FeedFault, TheVariants.BackwardTime}, keys.Key.Key}, Keys.AreSorted}
+use Rattle.stop_times.specs.{declared.rows.TimedRow.TimedRow, StopTimes.{row_at, trip_of, sequence_of, is_kept, stop_arrival, departure_of}}
 
 -- the rows that are taken: all, or those that are kept
 abbrev pub is_taken : Bool → List TimedRow → ℕ → Bool

@@ -1,27 +1,13 @@
 -- The rows of stop times and the forms of their fields (GTFS Schedule reference). Those that name a stop and a time are kept.
-use Rattle.std.specs.Prelude.{ℕ, ◌==◌, Bool, true, false, ◌||◌, List, length, Option, Some, None, option_map, if◌then◌else◌, codes, ◌≡◌, ◌+◌, nat_lt, ◌&&◌, [], slice_index, slice_index_or, IfSome, Result, Ok, is_some}
-use Rattle.std.specs.Str.{bytes_eq}
-use Rattle.clock_text.specs.Times.{time_at}
-use Rattle.std.specs.Option.{option_or}
-use Rattle.std.specs.Result.{result_err}
+use Rattle.std.specs.Prelude.{ℕ, ◌==◌, Bool, true, false, ◌||◌, List, length, Option, Some, None, option_map, if◌then◌else◌, codes, ◌≡◌, ◌+◌, nat_lt, ◌&&◌, []}
+use Rattle.std.specs.{Prelude.{slice_index, slice_index_or, IfSome, Result, Ok, is_some}, Str.bytes_eq, Option.option_or, Result.result_err}
+use Rattle.clock_text.specs.{Times.time_at, Digits.whole_of}
 use Rattle.plan_model.specs.Results.{require, value_or}
-use Rattle.clock_text.specs.Digits.{whole_of}
 use Rattle.csv_rows.specs.declared.columns.Column.TheVariants.{TripId, StopId, StopSequence, ArrivalTime, DepartureTime, PickupType, DropOffType}
-use Rattle.csv_rows.specs.declared.feed_tables.Table.TheVariants.{StopTimes}
-use Rattle.csv_rows.specs.declared.feed_tables.FeedFault.{FeedFault}
-use Rattle.csv_rows.specs.declared.feed_tables.FeedFault.TheVariants.{BadField, UnknownKey, DuplicateKey, BackwardTime, TooManyRows}
-use Rattle.csv_rows.specs.Columns.{name_of}
-use Rattle.csv_rows.specs.Lists.{first_below, any_below}
-use Rattle.csv_rows.specs.Keys.{has_twin, just_precedes}
-use Rattle.csv_rows.specs.Ids.{name_in, text_in}
-use Rattle.csv_rows.specs.Tables.{field_of}
-use Rattle.csv_rows.specs.Tables.{header, row_count, number_in}
-use Rattle.stop_times.specs.declared.rows.KnownTrip.{KnownTrip}
-use Rattle.stop_times.specs.declared.rows.StopRow.{StopRow}
-use Rattle.stop_times.specs.declared.rows.TimedRow.{TimedRow}
-use Rattle.stop_times.specs.declared.rows.TimeColumns.{TimeColumns}
-use Rattle.csv_rows.specs.RowFaults.{lack}
-use Rattle.csv_rows.specs.Lists.{list_below}
+use Rattle.csv_rows.specs.declared.feed_tables.{Table.TheVariants.StopTimes, FeedFault.{FeedFault, TheVariants.{BadField, UnknownKey, DuplicateKey}}}
+use Rattle.csv_rows.specs.{declared.feed_tables.FeedFault.TheVariants.{BackwardTime, TooManyRows}, Columns.name_of, Lists.{first_below, any_below, list_below}}
+use Rattle.csv_rows.specs.{Keys.{has_twin, just_precedes}, Ids.{name_in, text_in}, Tables.{field_of, header, row_count, number_in}, RowFaults.lack}
+use Rattle.stop_times.specs.declared.rows.{KnownTrip.KnownTrip, StopRow.StopRow, TimedRow.TimedRow, TimeColumns.TimeColumns}
 
 -- whether one may board or alight: 1 forbids it
 abbrev pub allows_in : List ℕ → Option Bool

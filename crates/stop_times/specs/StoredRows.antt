@@ -1,7 +1,6 @@
 -- The rows of stop times as they are stored.
 use Rattle.std.specs.Prelude.{Some, None, if◌then◌else◌}
-use Rattle.stop_times.specs.declared.rows.TimedRow.{TimedRow}
-use Rattle.stop_times.specs.declared.stored_row.StoredRow.TheInside.{Inside}
+use Rattle.stop_times.specs.declared.{rows.TimedRow.TimedRow, stored_row.StoredRow.TheInside.Inside}
 
 -- the row with these fields, which has those of its stop where it is kept
 abbrev pub row_of : Inside → TimedRow

@@ -1,14 +1,9 @@
 -- The stop times of a feed.
 use Rattle.std.specs.Prelude.{◌≡◌, ℕ, ◌<◌, List, [], length, slice_index_or, Result, Ok, Err}
 use Rattle.plan_model.specs.Results.{and_then, unless}
-use Rattle.csv_rows.specs.declared.columns.Column.TheVariants.{TripId}
-use Rattle.csv_rows.specs.declared.feed_tables.Table.TheVariants.{StopTimes}
-use Rattle.csv_rows.specs.declared.feed_tables.FeedFault.{FeedFault}
-use Rattle.table_files.specs.declared.loading.Loaded.{Loaded}
-use Rattle.stop_times.specs.declared.rows.StopRow.{StopRow}
-use Rattle.table_files.specs.Loading.{Records, required}
-use Rattle.stop_times.specs.StopTimes.{timed_rows, stop_times_fault}
-use Rattle.stop_times.specs.Visits.{AreStopTimes}
+use Rattle.csv_rows.specs.declared.{columns.Column.TheVariants.TripId, feed_tables.{Table.TheVariants.StopTimes, FeedFault.FeedFault}}
+use Rattle.table_files.specs.{declared.loading.Loaded.Loaded, Loading.{Records, required}}
+use Rattle.stop_times.specs.{declared.rows.StopRow.StopRow, StopTimes.{timed_rows, stop_times_fault}, Visits.AreStopTimes}
 
 -- the table by what was loaded of it
 abbrev pub stop_times_from : Result Loaded FeedFault → (trips stops : List (List ℕ)) (places : List ℕ) → Result Records FeedFault

@@ -1,10 +1,7 @@
 -- The kept rows of the trips.
 use Rattle.std.specs.Prelude.{◌≡◌, ℕ, ◌<◌, ◌≤◌, false, true, List, length, slice_index_or, Option, Some, None}
-use Rattle.stop_times.specs.declared.rows.StopRow.{StopRow}
-use Rattle.stop_times.specs.declared.rows.TimedRow.{TimedRow}
-use Rattle.csv_rows.specs.declared.keys.Key.{Key}
-use Rattle.stop_times.specs.StopTimes.{row_at, is_kept}
-use Rattle.csv_rows.specs.Keys.{key_at}
+use Rattle.stop_times.specs.{declared.rows.{StopRow.StopRow, TimedRow.TimedRow}, StopTimes.{row_at, is_kept}}
+use Rattle.csv_rows.specs.{declared.keys.Key.Key, Keys.key_at}
 
 abbrev pub no_visit : StopRow
 no_visit = record { stop = 0; place = record { 0 = 0 }; arrival = 0; departure = 0; can_board = false; can_exit = false }

@@ -1,17 +1,10 @@
 -- What a folder holds of a table, the faults of reading it, and the records of a required one.
 use Rattle.std.specs.Prelude.{◌≡◌, ℕ, ◌≤◌, ◌==◌, nat_lt, List, [], length, Option, None, Some, Result, Ok, Err, IsErrAnd, if◌then◌else◌}
-use Rattle.file_ports.specs.Counts.{HasCausesOf}
-use Rattle.file_ports.specs.Ports.{FileMap, FilesState, file_at}
-use Rattle.csv_rows.specs.declared.feed_tables.Table.{Table}
-use Rattle.csv_rows.specs.declared.feed_tables.FeedFault.{FeedFault}
-use Rattle.csv_rows.specs.declared.feed_tables.FeedFault.TheVariants.{Read, TooLong, TooManyRows, MissingTable, MissingColumn}
-use Rattle.table_files.specs.declared.loading.Loaded.{Loaded}
-use Rattle.table_files.specs.declared.loading.Loaded.TheVariants.{Absent, NoRecord, Found}
-use Rattle.csv_rows.specs.declared.limits.Limits.{Limits}
-use Rattle.csv_rows.specs.FeedTables.{path_of, is_unread_table}
-use Rattle.csv_rows.specs.Limits.{rows_of}
-use Rattle.csv_rows.specs.Tables.{table_of, row_count}
-use Rattle.csv_rows.specs.declared.columns.Column.{Column}
+use Rattle.file_ports.specs.{Counts.HasCausesOf, Ports.{FileMap, FilesState, file_at}}
+use Rattle.csv_rows.specs.declared.feed_tables.{Table.Table, FeedFault.{FeedFault, TheVariants.{Read, TooLong, TooManyRows, MissingTable, MissingColumn}}}
+use Rattle.csv_rows.specs.{declared.{limits.Limits.Limits, columns.Column.Column}, FeedTables.{path_of, is_unread_table}, Limits.rows_of, Tables.table_of}
+use Rattle.csv_rows.specs.Tables.{row_count}
+use Rattle.table_files.specs.declared.loading.Loaded.{Loaded, TheVariants.{Absent, NoRecord, Found}}
 
 -- the records of a table, of which at most `most` may come after the header
 abbrev pub loaded_from : Table → ℕ → List (List (List ℕ)) → Result Loaded FeedFault

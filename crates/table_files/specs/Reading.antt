@@ -1,13 +1,9 @@
 -- What reading tables of a folder gives.
 use Rattle.std.specs.Prelude.{◌≡◌, ◌≢◌, List, ℕ, Option, None, Result, Err, MatchResult, IfErr, IfSome}
 use Rattle.file_ports.specs.Ports.{FileMap, FilesState}
-use Rattle.csv_rows.specs.declared.feed_tables.Table.{Table}
-use Rattle.csv_rows.specs.declared.feed_tables.FeedFault.{FeedFault}
-use Rattle.csv_rows.specs.declared.feed_tables.FeedFault.TheVariants.{NoMemory}
-use Rattle.csv_rows.specs.declared.limits.Limits.{Limits}
-use Rattle.csv_rows.specs.FeedTables.{unread_table, IsFaultOf}
-use Rattle.table_files.specs.declared.loading.Loaded.{Loaded}
-use Rattle.table_files.specs.Loading.{load_in, HasFeedCauses}
+use Rattle.csv_rows.specs.{declared.{feed_tables.{Table.Table, FeedFault.{FeedFault, TheVariants.NoMemory}}, limits.Limits.Limits}, FeedTables.unread_table}
+use Rattle.csv_rows.specs.FeedTables.{IsFaultOf}
+use Rattle.table_files.specs.{declared.loading.Loaded.Loaded, Loading.{load_in, HasFeedCauses}}
 
 -- If the files are known, a value holds of them, and a fault is the first one, or there is no memory. Whatever they are, a fault is
 -- one of the reader's own, and comes from its causes.

@@ -1,8 +1,5 @@
 -- The keys of an index, and the numbers of names.
-use Rattle.std.specs.Prelude.{ℕ, List, map, if◌then◌else◌, Option, None}
-use Rattle.std.specs.Borrow.{Bor}
-use Rattle.std.specs.List.{position_from}
-use Rattle.std.specs.Str.{bytes_eq, is_utf8}
+use Rattle.std.specs.{Prelude.{ℕ, List, map, if◌then◌else◌, Option, None}, Borrow.Bor, List.position_from, Str.{bytes_eq, is_utf8}}
 
 -- the bytes of each
 abbrev pub key_texts : List (Bor (List ℕ)) → List (List ℕ)

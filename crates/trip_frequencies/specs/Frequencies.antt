@@ -1,29 +1,14 @@
 -- The rows of frequencies, the forms of their fields, and how each trip repeats by them (GTFS Schedule reference).
-use Rattle.std.specs.Prelude.{ℕ, ◌==◌, Bool, true, false, ◌||◌, List, length, Option, Some, None, option_and_then, if◌then◌else◌, codes, ◌≡◌, ◌+◌, [], ◌∷◌, map, slice_index_or, Result, Ok, Err}
-use Rattle.std.specs.Str.{bytes_eq}
-use Rattle.clock_text.specs.Digits.{whole_of}
-use Rattle.trip_frequencies.specs.FrequencyBounds.{most_headway}
-use Rattle.std.specs.List.{filter}
-use Rattle.std.specs.Option.{option_or}
-use Rattle.std.specs.Result.{result_err}
-use Rattle.plan_model.specs.Results.{and_then, require, unless, value_or}
-use Rattle.clock_text.specs.Times.{time_at}
-use Rattle.csv_rows.specs.declared.columns.Column.TheVariants.{TripId, StartTime, EndTime, HeadwaySecs, ExactTimes}
-use Rattle.csv_rows.specs.declared.feed_tables.Table.TheVariants.{Frequencies}
-use Rattle.csv_rows.specs.declared.feed_tables.FeedFault.{FeedFault}
-use Rattle.csv_rows.specs.declared.feed_tables.FeedFault.TheVariants.{BadField, UnknownKey, DuplicateKey}
-use Rattle.table_files.specs.declared.loading.Loaded.{Loaded}
-use Rattle.table_files.specs.declared.loading.Loaded.TheVariants.{Absent, NoRecord, Found}
-use Rattle.table_files.specs.Loading.{loaded_rows}
-use Rattle.csv_rows.specs.Lists.{first_below}
-use Rattle.csv_rows.specs.Keys.{has_twin}
-use Rattle.csv_rows.specs.Lists.{list_below}
-use Rattle.csv_rows.specs.Ids.{name_in}
-use Rattle.csv_rows.specs.RowFaults.{first_missing}
-use Rattle.csv_rows.specs.Tables.{row_count, number_in, index_of, field_at}
-use Rattle.trip_frequencies.specs.declared.frequencies.FrequencyRow.{FrequencyRow}
-use Rattle.trip_frequencies.specs.declared.frequencies.TripFrequency.{TripFrequency}
+use Rattle.std.specs.Prelude.{ℕ, ◌==◌, Bool, true, false, ◌||◌, List, length, Option, Some, None, option_and_then, if◌then◌else◌, codes, ◌≡◌, ◌+◌, [], ◌∷◌, map}
+use Rattle.std.specs.{Prelude.{slice_index_or, Result, Ok, Err}, Str.bytes_eq, List.filter, Option.option_or, Result.result_err}
+use Rattle.clock_text.specs.{Digits.whole_of, Times.time_at}
+use Rattle.trip_frequencies.specs.{FrequencyBounds.most_headway, declared.frequencies.{FrequencyRow.FrequencyRow, TripFrequency.TripFrequency}}
 use Rattle.trip_frequencies.specs.declared.frequencies.FrequencyColumns.{FrequencyColumns}
+use Rattle.plan_model.specs.Results.{and_then, require, unless, value_or}
+use Rattle.csv_rows.specs.declared.{columns.Column.TheVariants.{TripId, StartTime, EndTime, HeadwaySecs, ExactTimes}, feed_tables.Table.TheVariants.Frequencies}
+use Rattle.csv_rows.specs.{declared.feed_tables.FeedFault.{FeedFault, TheVariants.{BadField, UnknownKey, DuplicateKey}}, Lists.{first_below, list_below}}
+use Rattle.csv_rows.specs.{Keys.has_twin, Ids.name_in, RowFaults.first_missing, Tables.{row_count, number_in, index_of, field_at}}
+use Rattle.table_files.specs.{declared.loading.Loaded.{Loaded, TheVariants.{Absent, NoRecord, Found}}, Loading.loaded_rows}
 
 -- the seconds from one departure to the next: one at least, and a day at most
 abbrev pub headway_in : List ℕ → Option ℕ

@@ -1,7 +1,6 @@
 -- The texts of the faults of a replay.
 use Rattle.std.specs.Prelude.{ℕ, List, ◌++◌, codes, decimal}
-use Rattle.trip_replay.specs.declared.ReplayFault.{ReplayFault}
-use Rattle.trip_replay.specs.declared.ReplayFault.TheVariants.{NotADelay, TooFew, TooMany, Stuck, NoMemory}
+use Rattle.trip_replay.specs.declared.ReplayFault.{ReplayFault, TheVariants.{NotADelay, TooFew, TooMany, Stuck, NoMemory}}
 
 -- the text of a fault of a replay, but for where in the timetable it is
 abbrev pub replay_fault_text : ReplayFault → List ℕ

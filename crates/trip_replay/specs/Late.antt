@@ -1,12 +1,7 @@
 -- A trip by a tree where each connection has a delay of its own.
 use Rattle.std.specs.Prelude.{◌≡◌, ℕ, ◌<◌, ◌≤◌, List, [], Ok, All, true}
-use Rattle.plan_model.specs.Network.{NetworkModel}
-use Rattle.plan_model.specs.Network.{count, outcomes}
-use Rattle.plan_model.specs.Tree.{Tree}
-use Rattle.trip_replay.specs.declared.Ridden.{Ridden}
-use Rattle.trip_replay.specs.declared.Trace.{Trace}
-use Rattle.trip_replay.specs.Rides.{has_delay}
-use Rattle.trip_replay.specs.Walk.{walk}
+use Rattle.plan_model.specs.{Network.{NetworkModel, count, outcomes}, Tree.Tree}
+use Rattle.trip_replay.specs.{declared.{Ridden.Ridden, Trace.Trace}, Rides.has_delay, Walk.walk}
 
 -- each connection is late by one of the delays of its class
 abbrev pub ArePossible : NetworkModel → (ℕ → ℕ) → Type 0

@@ -1,15 +1,8 @@
 -- A trip by the tables of a graph where each ride is as late as it happens to be.
 use Rattle.std.specs.Prelude.{◌≡◌, ◌≢◌, ℕ, zero, suc, ◌<◌, ◌≤◌, ◌⊎◌, List, Some, Contains}
-use Rattle.plan_model.specs.declared.model.Leg.{Leg}
-use Rattle.plan_model.specs.declared.model.Outcome.{Outcome}
-use Rattle.plan_model.specs.declared.model.Query.{Query}
-use Rattle.plan_model.specs.Network.{NetworkModel}
-use Rattle.plan_model.specs.Network.{count, outcomes}
-use Rattle.plan_model.specs.Strategy.{IsBoardable}
+use Rattle.plan_model.specs.{declared.model.{Leg.Leg, Outcome.Outcome, Query.Query}, Network.{NetworkModel, count, outcomes}, Strategy.IsBoardable}
 use Rattle.plan_model.specs.Unfold.{end_of, arrival_of}
-use Rattle.plan_graph.specs.declared.PlaceTable.{PlaceTable}
-use Rattle.plan_graph.specs.declared.PlanGraph.{PlanGraph}
-use Rattle.plan_graph.specs.Unfold.{pick_at}
+use Rattle.plan_graph.specs.{declared.{PlaceTable.PlaceTable, PlanGraph.PlanGraph}, Unfold.pick_at}
 
 -- each connection is no later than by some delay of its class
 abbrev pub AreUpTo : NetworkModel → (ℕ → ℕ) → Type 0

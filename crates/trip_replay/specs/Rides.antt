@@ -1,18 +1,9 @@
 -- Where a traveller is between rides, and the rides of a trip.
-use Rattle.std.specs.Prelude.{ℕ, ◌+◌, Bool, List, Option, Some, None, ◌==◌, if◌then◌else◌, ◌≡◌, [], ◌∷◌, All, true}
-use Rattle.std.specs.List.{list_any}
-use Rattle.plan_model.specs.declared.model.Leg.{Leg}
-use Rattle.plan_model.specs.declared.model.Outcome.{Outcome}
-use Rattle.plan_model.specs.Network.{NetworkModel}
-use Rattle.plan_model.specs.Network.{arr_of, to_of}
-use Rattle.plan_model.specs.Tree.{Tree, Done}
+use Rattle.std.specs.{Prelude.{ℕ, ◌+◌, Bool, List, Option, Some, None, ◌==◌, if◌then◌else◌, ◌≡◌, [], ◌∷◌, All, true}, List.list_any}
+use Rattle.plan_model.specs.{declared.model.{Leg.Leg, Outcome.Outcome, Query.Query}, Network.{NetworkModel, arr_of, to_of}, Tree.{Tree, Done}}
 use Rattle.plan_model.specs.Unfold.{outcomes_of, ride_or_stuck, unfold_after}
-use Rattle.trip_replay.specs.declared.Position.{Position}
-use Rattle.plan_model.specs.declared.model.Query.{Query}
+use Rattle.trip_replay.specs.declared.{Position.Position, Ridden.Ridden, ReplayFault.{ReplayFault, TheVariants.{NotADelay, TooFew, TooMany, Stuck, NoMemory}}}
 use Rattle.plan_graph.specs.Ready.{IsLegOf}
-use Rattle.trip_replay.specs.declared.Ridden.{Ridden}
-use Rattle.trip_replay.specs.declared.ReplayFault.{ReplayFault}
-use Rattle.trip_replay.specs.declared.ReplayFault.TheVariants.{NotADelay, TooFew, TooMany, Stuck, NoMemory}
 
 -- whether one of the outcomes has this delay
 abbrev pub has_delay : List Outcome → ℕ → Bool

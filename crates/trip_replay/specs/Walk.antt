@@ -1,12 +1,7 @@
 -- The walk down a tree by the delays that come.
 use Rattle.std.specs.Prelude.{◌≡◌, ℕ, ◌+◌, ◌≤◌, List, [], ◌∷◌, ◌++◌, length, ◌==◌, if◌then◌else◌, Result, Ok, Err}
-use Rattle.plan_model.specs.declared.model.Outcome.{Outcome}
-use Rattle.plan_model.specs.Network.{NetworkModel}
-use Rattle.plan_model.specs.Network.{arr_of, outcomes}
-use Rattle.plan_model.specs.Tree.{Tree, Done, Ride, Stuck, Kids, Nil, Kid}
-use Rattle.trip_replay.specs.declared.Ridden.{Ridden}
-use Rattle.trip_replay.specs.declared.Trace.{Trace}
-use Rattle.trip_replay.specs.declared.ReplayFault.{ReplayFault}
+use Rattle.plan_model.specs.{declared.model.Outcome.Outcome, Network.{NetworkModel, arr_of, outcomes}, Tree.{Tree, Done, Ride, Stuck, Kids, Nil, Kid}}
+use Rattle.trip_replay.specs.declared.{Ridden.Ridden, Trace.Trace, ReplayFault.ReplayFault}
 use Rattle.trip_replay.specs.declared.ReplayFault.TheVariants as fault
 
 -- the ride from connection i to j with a delay

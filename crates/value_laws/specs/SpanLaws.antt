@@ -1,20 +1,11 @@
 -- Bounds on a mean over the arrivals keep the laws, whatever is averaged. (The proof is here because the trait names it.)
-use Rattle.std.proofs.Common.{arith, inl, inr, ap}
+use Rattle.std.proofs.{Common.{arith, inl, inr, ap}, Math.Nat.{mul-le-mul_left, mul-le-mul_right, mul_assoc}, lemmas.List.{length-map, Elements.All-map}}
 use Rattle.std.specs.Prelude.{◌≡◌, ℕ, ◌+◌, ◌-◌, ◌*◌, ◌/◌, ◌^◌, ◌≤◌, ◌⊎◌, min, max, List, [], ◌∷◌, length, map, All, refl}
-use Rattle.std.proofs.Math.Nat.{mul-le-mul_left, mul-le-mul_right, mul_assoc}
-use Rattle.std.proofs.lemmas.List.{length-map}
-use Rattle.std.proofs.lemmas.List.Elements.{All-map}
-use Rattle.plan_model.specs.declared.model.Outcome.{Outcome}
-use Rattle.plan_model.specs.Tree.{Tree, Kids, Nil, Kid, Done, Ride}
-use Rattle.plan_model.specs.DelayRows.{IsValidRow, EachKid}
-use Rattle.plan_model.specs.Expected.{BelowBy, CoversBy}
-use Rattle.interval_fixed.specs.Interval.{Interval}
-use Rattle.interval_fixed.specs.Interval.{weighted, mean_of}
-use Rattle.interval_fixed.proofs.Enclosed.{mean_gap_within}
-use Rattle.interval_fixed.proofs.Sums.{mean_below, mean_covers}
-use Rattle.value_laws.specs.ScoreLaws.{Scoring, ScoreLaws}
-use Rattle.value_laws.specs.Spans.{rounded_up, sum_up, rounded_down, sum_down}
-use Rattle.value_laws.specs.Spans.{span_scoring}
+use Rattle.plan_model.specs.{declared.model.Outcome.Outcome, Tree.{Tree, Kids, Nil, Kid, Done, Ride}, DelayRows.{IsValidRow, EachKid}, Expected.BelowBy}
+use Rattle.plan_model.specs.Expected.{CoversBy}
+use Rattle.interval_fixed.specs.Interval.{Interval, weighted, mean_of}
+use Rattle.interval_fixed.proofs.{Enclosed.mean_gap_within, Sums.{mean_below, mean_covers}}
+use Rattle.value_laws.specs.{ScoreLaws.{Scoring, ScoreLaws}, Spans.{rounded_up, sum_up, rounded_down, sum_down, span_scoring}}
 
 -- the lesser of two is below what either is below
 lesser_below : (a b p n : ℕ) → a * p ≤ n ⊎ b * p ≤ n → min a b * p ≤ n

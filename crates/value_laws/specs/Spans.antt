@@ -1,9 +1,7 @@
 -- Scores that are spans, and the mean over arrivals rounded ride by ride.
 use Rattle.std.specs.Prelude.{ℕ, ◌+◌, ◌*◌, ◌/◌, ◌≡◌, ◌-◌, ◌≤◌, min, map}
-use Rattle.plan_model.specs.Tree.{Tree, Done, Ride, Stuck, Kids, Nil, Kid}
-use Rattle.plan_model.specs.Expected.{BelowBy, CoversBy}
-use Rattle.interval_fixed.specs.Interval.{Interval}
-use Rattle.interval_fixed.specs.Interval.{mean_of}
+use Rattle.plan_model.specs.{Tree.{Tree, Done, Ride, Stuck, Kids, Nil, Kid}, Expected.{BelowBy, CoversBy}}
+use Rattle.interval_fixed.specs.Interval.{Interval, mean_of}
 use Rattle.value_laws.specs.ScoreLaws.{Scoring}
 
 abbrev mutual

@@ -1,12 +1,8 @@
 -- The latest arrival keeps the laws. (The proof is here because the trait names it.)
 use Rattle.std.proofs.Common.{arith, inl, inr}
 use Rattle.std.specs.Prelude.{◌≤◌, ◌⊎◌, List, [], ◌∷◌, refl}
-use Rattle.plan_model.specs.declared.model.Outcome.{Outcome}
-use Rattle.plan_model.specs.Tree.{Tree, Kids, Nil, Kid, worst_of}
-use Rattle.plan_model.specs.DelayRows.{EachKid}
-use Rattle.value_laws.specs.declared.WorstMoment.{WorstMoment}
-use Rattle.value_laws.specs.ScoreLaws.{ScoreLaws}
-use Rattle.value_laws.specs.Worsts.{worst_scoring, latest}
+use Rattle.plan_model.specs.{declared.model.Outcome.Outcome, Tree.{Tree, Kids, Nil, Kid, worst_of}, DelayRows.EachKid}
+use Rattle.value_laws.specs.{declared.WorstMoment.WorstMoment, ScoreLaws.ScoreLaws, Worsts.{worst_scoring, latest}}
 
 blended_below : (row : List Outcome) (values : List WorstMoment) (kids : Kids) → EachKid worst_scoring.below row values kids → latest values ≤ worst_of kids
 blended_below [] [] Nil each = omega arith

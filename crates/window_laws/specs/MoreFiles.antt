@@ -1,16 +1,12 @@
 -- Tables and folders of which one has more rows or trips than the other.
 use Rattle.std.specs.Prelude.{◌≡◌, ℕ, ℤ, ◌+◌, ◌<◌, ◌⊎◌, true, List, [], slice_index_or, Contains, ◌≤◌, None, Ok}
-use Rattle.csv_rows.specs.declared.columns.Column.TheVariants.{TripId}
-use Rattle.csv_rows.specs.Tables.{header, row_count, field}
-use Rattle.table_files.specs.Loading.{Records}
-use Rattle.table_files.specs.Loading.{loaded_rows, load_in}
+use Rattle.csv_rows.specs.{declared.{columns.Column.TheVariants.TripId, limits.Limits.Limits, feed_tables.Table.TheVariants.Transfers}, Tables.header}
+use Rattle.csv_rows.specs.Tables.{row_count, field}
+use Rattle.table_files.specs.Loading.{Records, loaded_rows, load_in}
 use Rattle.feed_lists.specs.Trips.{trip_ids}
 use Rattle.gtfs_tables.specs.Feeds.{Tables, tables_in}
-use Rattle.service_days.specs.Services.{ServiceParts, runs}
+use Rattle.service_days.specs.{Services.{ServiceParts, runs}, Calendars.{Calendars, calendars_in, is_active_service}}
 use Rattle.file_ports.specs.Ports.{FileMap, file_at}
-use Rattle.csv_rows.specs.declared.limits.Limits.{Limits}
-use Rattle.csv_rows.specs.declared.feed_tables.Table.TheVariants.{Transfers}
-use Rattle.service_days.specs.Calendars.{Calendars, calendars_in, is_active_service}
 use Rattle.plan_model.specs.Network.{IsValid}
 use Rattle.command_line.specs.Jobs.{JourneyModel}
 use Rattle.journey_model.specs.declared.problem.Problem.{Problem}

@@ -1,20 +1,13 @@
 -- Feeds and windows of which one has all that is in the other.
 use Rattle.std.specs.Prelude.{◌≡◌, ℕ, ℤ, ◌+◌, ◌*◌, ◌/◌, ◌<◌, ◌≤◌, true, List, [], ◌∷◌, length, slice_index, slice_index_or, All, Contains}
-use Rattle.plan_model.specs.Bounds.{seconds_per_day}
+use Rattle.plan_model.specs.{Bounds.seconds_per_day, NameLists.NameLists, Network.{IsValid, NetworkModel}, declared.model.Way.Way}
 use Rattle.trip_frequencies.specs.declared.frequencies.FrequencyRow.{FrequencyRow}
-use Rattle.gtfs_tables.specs.Feeds.{FeedParts}
-use Rattle.gtfs_tables.specs.Timed.{rows_of}
+use Rattle.gtfs_tables.specs.{Feeds.FeedParts, Timed.rows_of}
 use Rattle.service_days.specs.Services.{ServiceParts, runs}
 use Rattle.change_times.specs.Changes.{place_seconds, links_of}
 use Rattle.journey_problem.specs.FeedProblems.{GtfsFolder}
 use Rattle.delay_table.specs.DelayLists.{DelayLists}
-use Rattle.plan_model.specs.NameLists.{NameLists}
-use Rattle.plan_model.specs.Network.{IsValid}
-use Rattle.plan_model.specs.Network.{NetworkModel}
-use Rattle.plan_model.specs.declared.model.Way.{Way}
-use Rattle.connections.specs.Cut.{IsNetworkFrom}
-use Rattle.connections.specs.TripRuns.{frequencies_of}
-use Rattle.connections.specs.FeedNetworks.{route_of}
+use Rattle.connections.specs.{Cut.IsNetworkFrom, TripRuns.frequencies_of, FeedNetworks.route_of}
 
 -- the row of frequencies on another line of its file
 abbrev pub on_line : ℕ → FrequencyRow → FrequencyRow
