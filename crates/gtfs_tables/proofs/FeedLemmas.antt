@@ -8,7 +8,7 @@ use Rattle.csv_rows.specs.declared.limits.Limits.{Limits}
 use Rattle.csv_rows.specs.FeedTables.{rank_of, unread_table, IsFaultOf}
 use Rattle.gtfs_tables.specs.Feeds.{IsFirstOfTables}
 use Rattle.stop_times.specs.declared.rows.StopRow.{StopRow}
-use Rattle.stop_times.specs.StopTimes.{stop_times_fault}
+use Rattle.stop_times.specs.StopTimes.{TripsAndStops, named_by, stop_times_fault}
 use Rattle.table_files.specs.Loading.{Records}
 use Rattle.stop_times.specs.Timetables.{stop_times_from, AreVisits}
 use Rattle.feed_lists.specs.Lists.{stops_from, routes_from, trips_from, HasStops, HasRoutes, HasTrips}
@@ -16,7 +16,7 @@ use Rattle.feed_lists.specs.declared.stops.Stops.{Stops as StopLists}
 use Rattle.feed_lists.specs.declared.routes.Routes.{Routes as RouteLists}
 use Rattle.gtfs_tables.specs.declared.lists.FeedLists.{FeedLists}
 use Rattle.gtfs_tables.specs.declared.times.TripTimes.{TripTimes}
-use Rattle.gtfs_tables.specs.Parts.{parts_by, HasVisits, HasRepeats, AreLists, AreTripTimes, AreSoundLists, AreSoundTimes}
+use Rattle.gtfs_tables.specs.Parts.{parts_by, named_with, HasVisits, HasRepeats, AreLists, AreTripTimes, AreSoundLists, AreSoundTimes}
 use Rattle.table_files.proofs.LoadLemmas.{load_in-other}
 
 -- what was read is the feed of its tables
@@ -28,7 +28,7 @@ abbrev TripsBy : Type 0
 TripsBy = List (List ℕ) → Result Records FeedFault
 
 abbrev TimesBy : Type 0
-TimesBy = (trips stops : List (List ℕ)) (places : List ℕ) → Result Records FeedFault
+TimesBy = TripsAndStops → Result Records FeedFault
 
 abbrev FrequenciesBy : Type 0
 FrequenciesBy = List (List ℕ) → Result Loaded FeedFault
@@ -53,12 +53,15 @@ module _ (t : TripsBy) (x : TimesBy) (q : FrequenciesBy) where
   trips_stop s r stops routes f a b h = grind arith
 
   are_read : (s r d : Result Records FeedFault) (l : FeedLists) → HasStops s l.stops → HasRoutes r l.routes → t l.routes.ids ≡ d → HasTrips l.routes d l.trips
-      → AreRead l (tables_by s r t x q) (x l.trips.ids l.stops.ids l.stops.places.items) (q l.trips.ids)
-  are_read s r d l a b e c = grind arith
+      → AreRead l (tables_by s r t x q) (x (named_with l.trips.ids l.stops)) (q l.trips.ids)
+  are_read (Ok s) (Ok r) (Ok d) l a b e c = grind arith
+  are_read (Ok s) (Ok r) (Err f) l a b e c = absurd c
+  are_read (Ok s) (Err f) d l a b e c = absurd b
+  are_read (Err f) r d l a b e c = absurd a
 
 module _ (l : FeedLists) (tables : Result Tables FeedFault) where
   repeats_stop : (x : Result Records FeedFault) (q : Result Loaded FeedFault) (visits : List (List StopRow)) (f : FeedFault) → AreRead l tables x q
-      → AreVisits l.trips.ids l.stops.ids l.stops.places.items x visits → q ≡ Err f → tables ≡ Err f
+      → AreVisits (named_with l.trips.ids l.stops) x visits → q ≡ Err f → tables ≡ Err f
   repeats_stop (Ok x) q visits f w v h = grind (arith, and_then-err)
   repeats_stop (Err e) q visits f w v h = absurd v
 
@@ -71,7 +74,7 @@ module _ (l : FeedLists) (tables : Result Tables FeedFault) where
 -- the same of what is loaded
 module _ (load : Table → Result Loaded FeedFault) where
   abbrev times_by : FeedLists → Result Records FeedFault
-  times_by l = stop_times_from (load StopTimes) l.trips.ids l.stops.ids l.stops.places.items
+  times_by l = stop_times_from (load StopTimes) (named_with l.trips.ids l.stops)
 
   lists_read : (l : FeedLists) → AreLists load l → AreRead l (tables_from load) (times_by l) (frequencies_from (load Frequencies) l.trips.ids)
   lists_read l a = grind (arith, are_read)
@@ -105,7 +108,7 @@ module _ (m : FileMap) (folder : List ℕ) (limits : Limits) where
     fault_at_times f own h a = grind (arith, lists_read, beside, and_then-err, times_by)
 
     pub fault_at_repeats : (visits : List (List StopRow)) (f : FeedFault) → IsFaultOf Frequencies f
-        → AreVisits l.trips.ids l.stops.ids l.stops.places.items (times_by (load_in m folder limits None) l) visits
+        → AreVisits (named_with l.trips.ids l.stops) (times_by (load_in m folder limits None) l) visits
         → frequencies_from (load_in m folder limits (unread_table f) Frequencies) l.trips.ids ≡ Err f → AreLists (load_in m folder limits None) l
         → IsFirstOfTables folder limits m f
     unfolding tables_in
@@ -130,7 +133,7 @@ sound_feed l t a v =
       stops = s.1;
       routes = r.1;
       trips = ap (λ z. trips_fault z d.0) (sym r.2.0) ∙ d.1;
-      stop_times = grind arith;
+      stop_times = ap (λ n. stop_times_fault n x.0) (λ i. named_by (sym d.2.0 i) (sym s.2.0 i) (sym s.2.1 i)) ∙ x.1;
       frequencies = ap (λ z. fault_of_frequencies z q.0) (sym d.2.0) ∙ q.1;
       feed = is_feed l t s.0 r.0 d.0 x.0 q.0 s.2 r.2 d.2 x.2 q.2;
     }

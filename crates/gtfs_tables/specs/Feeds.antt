@@ -7,7 +7,8 @@ use Rattle.csv_rows.specs.{declared.{feed_tables.FeedFault.FeedFault, limits.Lim
 use Rattle.table_files.specs.{declared.loading.Loaded.Loaded, Loading.{load_in, loaded_rows, Records}}
 use Rattle.trip_frequencies.specs.{declared.frequencies.FrequencyRow.FrequencyRow, Frequencies.{frequency_rows, fault_of_frequencies, frequencies_from}}
 use Rattle.trip_frequencies.specs.Frequencies.{all_repeats_of}
-use Rattle.stop_times.specs.{declared.rows.StopRow.StopRow, StopTimes.{timed_rows, stop_times_fault}, Visits.AreStopTimes, Timetables.stop_times_from}
+use Rattle.stop_times.specs.{declared.rows.StopRow.StopRow, Visits.AreStopTimes, Timetables.stop_times_from}
+use Rattle.stop_times.specs.StopTimes.{TripsAndStops, named_by, timed_rows, stop_times_fault}
 use Rattle.feed_lists.specs.{Lists.{stops_from, routes_from, trips_from}, Stops.{stop_ids, stop_places, stops_fault}, Routes.{route_ids, route_types}}
 use Rattle.feed_lists.specs.{Routes.routes_fault, Trips.{trip_ids, trip_routes, trip_services, trip_types, trips_fault}}
 
@@ -19,15 +20,18 @@ pub record Tables : Type 0 where
   pub stop_times : Records
   pub frequencies : Loaded
 
+-- what the rows of stop times name, where these are the tables of the trips and of the stops
+abbrev pub named_in : (trips stops : Records) → TripsAndStops
+named_in trips stops = named_by (trip_ids trips) (stop_ids stops) (stop_places stops)
+
 -- the tables one after the other
 abbrev pub tables_by : (stops routes : Result Records FeedFault) (trips : List (List ℕ) → Result Records FeedFault)
-    (stop_times : (trips stops : List (List ℕ)) (places : List ℕ) → Result Records FeedFault) (frequencies : List (List ℕ) → Result Loaded FeedFault)
-    → Result Tables FeedFault
+    (stop_times : TripsAndStops → Result Records FeedFault) (frequencies : List (List ℕ) → Result Loaded FeedFault) → Result Tables FeedFault
 tables_by stops routes trips stop_times frequencies =
     and_then stops (λ s.
     and_then routes (λ r.
     and_then (trips (route_ids r)) (λ t.
-    and_then (stop_times (trip_ids t) (stop_ids s) (stop_places s)) (λ x.
+    and_then (stop_times (named_in t s)) (λ x.
     and_then (frequencies (trip_ids t)) (λ q.
     Ok (record { stops = s; routes = r; trips = t; stop_times = x; frequencies = q }))))))
 
@@ -66,8 +70,7 @@ pub record IsFeed (t : Tables) (f : FeedParts) : Type 0 where
   pub routes : f.route_ids ≡ route_ids t.routes
   pub routes_of_trips : f.routes ≡ trip_routes (route_ids t.routes) t.trips
   pub size : length f.stop_times ≡ row_count t.trips
-  pub times : (trip : ℕ) → trip < row_count t.trips
-      → AreStopTimes (timed_rows (trip_ids t.trips) (stop_ids t.stops) (stop_places t.stops) t.stop_times) trip (slice_index_or f.stop_times trip [])
+  pub times : (trip : ℕ) → trip < row_count t.trips → AreStopTimes (timed_rows (named_in t.trips t.stops) t.stop_times) trip (slice_index_or f.stop_times trip [])
   pub frequencies_of_trips : f.frequencies ≡ all_repeats_of (frequency_rows (trip_ids t.trips) (loaded_rows t.frequencies)) (row_count t.trips)
 
 -- there is a feed, and this is it
@@ -81,7 +84,7 @@ pub record IsSoundFeed (f : FeedParts) : Type 0 where
   pub stops : stops_fault tables.stops ≡ None
   pub routes : routes_fault tables.routes ≡ None
   pub trips : trips_fault (route_ids tables.routes) tables.trips ≡ None
-  pub stop_times : stop_times_fault (trip_ids tables.trips) (stop_ids tables.stops) (stop_places tables.stops) tables.stop_times ≡ None
+  pub stop_times : stop_times_fault (named_in tables.trips tables.stops) tables.stop_times ≡ None
   pub frequencies : fault_of_frequencies (trip_ids tables.trips) tables.frequencies ≡ None
   pub feed : IsFeed tables f
 

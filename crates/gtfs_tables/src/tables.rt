@@ -9,6 +9,7 @@ ghost use Rattle.csv_rows.specs.Tables.{table_of};
 ghost use Rattle.stop_times.specs.StopTimeBounds.{most_stop_times};
 ghost use Rattle.stop_times.specs.Timetables.{stop_times_from, AreVisits};
 ghost use Rattle.stop_times.specs.StopTimes.{stop_times_fault};
+ghost use Rattle.gtfs_tables.specs.Parts.{named_with};
 
 use csv_rows::{FeedFault, Ids, Limits, Table};
 use feed_lists::Stops;
@@ -44,11 +45,10 @@ pub(crate) fn load_stop_times<F: Files>(
     stops: &Stops,
 ) -> Result<StopTimes, FeedFault>
     ensures reads { ReadsTable StopTimesTable folder.now limits.now (F.state files.old) (F.state files.new)
-        (λ loaded. stop_times_from loaded trips.now stops.now.ids stops.now.places.items)
-        (AreVisits trips.now stops.now.ids stops.now.places.items) result }
-    ensures sound { IfOk result (λ v.
-        IsOfSomeTable (stop_times_fault trips.now stops.now.ids stops.now.places.items)
-        (λ t. AreVisits trips.now stops.now.ids stops.now.places.items (Ok t) v)) }
+        (λ loaded. stop_times_from loaded (named_with trips.now stops.now))
+        (AreVisits (named_with trips.now stops.now)) result }
+    ensures sound { IfOk result (λ v. IsOfSomeTable (stop_times_fault (named_with trips.now stops.now))
+        (λ t. AreVisits (named_with trips.now stops.now) (Ok t) v)) }
     ensures few { IfOk result (λ v. (trip : ℕ) → trip < length trips.now
         → length (slice_index_or v trip []) ≤ most_stop_times) }
     ensures sized { IfOk result (λ v. length v ≡ length trips.now) }

@@ -2,9 +2,8 @@
 use Rattle.journey_problem.proofs.Common.{◌≡◌, ℕ, ◌<◌, sym, ap, ◌∙◌, arith, List, [], length, Some, Result, true, is_some, ext_get_or, row_count, FeedFault, FeedParts, Tables, IsFeed, IsFeedOf}
 use Rattle.stop_times.specs.declared.rows.StopRow.{StopRow}
 use Rattle.stop_times.specs.StopTimes.{row_at, is_kept, timed_rows}
-use Rattle.feed_lists.specs.Stops.{stop_ids, stop_places}
-use Rattle.feed_lists.specs.Trips.{trip_ids}
 use Rattle.stop_times.specs.Visits.{no_visit, IsVisit, AreStopTimes}
+use Rattle.gtfs_tables.specs.Feeds.{named_in}
 use Rattle.journey_problem.proofs.OneOrder.{Enumerates, agree, same_size}
 
 never_both : (rows : _) (a b : ℕ) → (row_at rows a).sequence < (row_at rows b).sequence → (row_at rows b).sequence < (row_at rows a).sequence → ⊥
@@ -35,7 +34,7 @@ one_list rows trip visits other s t =
 -- tables make one feed
 pub one_feed : (t : Tables) (f g : FeedParts) → IsFeed t f → IsFeed t g → f ≡ g
 one_feed t f g a b =
-    let rows = timed_rows (trip_ids t.trips) (stop_ids t.stops) (stop_places t.stops) t.stop_times in
+    let rows = timed_rows (named_in t.trips t.stops) t.stop_times in
     let times : f.stop_times ≡ g.stop_times = ext_get_or [] f.stop_times g.stop_times (a.size ∙ sym b.size) (λ k h.
     let inside : k < row_count t.trips = omega (arith, h, a.size) in
     one_list rows k _ _ (a.times k inside) (b.times k inside)) in

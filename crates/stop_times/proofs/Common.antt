@@ -36,8 +36,8 @@ pub use Rattle.stop_times.specs.ByTrip.{IsBounded, parted, rows_between}
 pub use Rattle.stop_times.specs.RecordsRemaining.{IsReading, records_after, source}
 pub use Rattle.stop_times.specs.StopTimeBounds.{end_of_times, most_stop_times}
 pub use Rattle.stop_times.specs.StopTimeKeys.{AreKeysOf, AreRowsRising, IsRowBefore, backward_after, goes_back_after, is_taken}
-pub use Rattle.stop_times.specs.StopTimes.{IsKnownIn, IsStopOf, bad_time, counted_fault, departure_of, goes_back, is_kept, just_before, missing_time_column, no_row, order_fault, row_at, sequence_of}
-pub use Rattle.stop_times.specs.StopTimes.{stop_arrival, stop_number_in, time_columns, timed_from, timed_in, timed_of, timed_rows, times_in, times_of, trip_of, visit_of}
+pub use Rattle.stop_times.specs.StopTimes.{IsKnownIn, IsStopOf, TripsAndStops, bad_time, counted_fault, departure_of, goes_back, is_kept, just_before, missing_time_column, named_by, named_of, no_row}
+pub use Rattle.stop_times.specs.StopTimes.{order_fault, row_at, sequence_of, stop_arrival, stop_number_in, time_columns, timed_from, timed_in, timed_of, timed_rows, times_in, times_of, trip_of, visit_of}
 unfoldable pub use Rattle.stop_times.specs.StopTimes.{backward_time, repeated_time, stop_times_fault, timed_at}
 pub use Rattle.stop_times.specs.Timetables.{AreVisits, stop_times_from}
 pub use Rattle.stop_times.specs.Visits.{AreStopTimes, IsSpanOf, IsVisit, no_visit, visit_at, visit_or_none}

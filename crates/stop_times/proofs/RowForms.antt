@@ -1,7 +1,7 @@
 -- What follows from the form of a row of stop times.
 use Rattle.stop_times.proofs.Common.{rules, ◌≡◌, ℕ, ◌+◌, ◌<◌, ◌≤◌, ◌-◌, ◌==◌, nat_eq, nat_le, ◌&&◌, Bool, List, [], length, take, drop, slice_index, slice_index_or, Option, Some, None, IfSome, refl}
 use Rattle.stop_times.proofs.Common.{subst, arith, Result, Ok, Err, common_steps, nat_tests, and_parts, result_err, value_or, TripId, StopId, StopSequence, ArrivalTime, DepartureTime, PickupType}
-use Rattle.stop_times.proofs.Common.{DropOffType, StopTimes, FeedFault, BadField, UnknownKey, number_in, StopRow, TimedRow, time_columns, stop_number_in, times_of, visit_of, timed_from, timed_at}
+use Rattle.stop_times.proofs.Common.{DropOffType, StopTimes, FeedFault, BadField, UnknownKey, number_in, StopRow, TimedRow, TripsAndStops, time_columns, stop_number_in, times_of, visit_of, timed_from, timed_at}
 use Rattle.stop_times.proofs.Common.{no_row, optional-each, number_inside, end_of_times}
 use Rattle.std.specs.List.{list_all}
 use Rattle.std.specs.Char.{is_ascii_digit}
@@ -51,14 +51,14 @@ visit_form : (stops : ℕ) (places : List ℕ) (o a d : Option ℕ) (board exit 
 visit_form stops places o a d board exit h k l = grind arith
 
 -- a row that has no fault by itself
-from_in_form : (trips stops : List (List ℕ)) (places : List ℕ) (line : ℕ) (trip stop sequence arrival departure pickup drop_off : List ℕ) (r : TimedRow)
-    → timed_from trips stops places line trip stop sequence arrival departure pickup drop_off ≡ Ok r → InForm (length stops) places r
-from_in_form trips stops places line trip stop sequence arrival departure pickup drop_off =
-    let P : TimedRow → Type 0 = InForm (length stops) places in
+from_in_form : (named : TripsAndStops) (line : ℕ) (trip stop sequence arrival departure pickup drop_off : List ℕ) (r : TimedRow)
+    → timed_from named line trip stop sequence arrival departure pickup drop_off ≡ Ok r → InForm (length named.stops) named.places r
+from_in_form named line trip stop sequence arrival departure pickup drop_off =
+    let P : TimedRow → Type 0 = InForm (length named.stops) named.places in
     require-each P (name_in trip) (BadField StopTimes line TripId) _ (λ trip' e0.
-    require-each P (number_in trip' trips) (UnknownKey StopTimes line TripId) _ (λ number e1.
+    require-each P (number_in trip' named.trips) (UnknownKey StopTimes line TripId) _ (λ number e1.
     require-each P (text_in stop) (BadField StopTimes line StopId) _ (λ stop' e2.
-    require-each P (stop_number_in stops stop') (UnknownKey StopTimes line StopId) _ (λ stop_number e3.
+    require-each P (stop_number_in named.stops stop') (UnknownKey StopTimes line StopId) _ (λ stop_number e3.
     require-each P (whole_of 999999999 sequence) (BadField StopTimes line StopSequence) _ (λ sequence' e4.
     require-each P (time_in arrival) (BadField StopTimes line ArrivalTime) _ (λ arrival' e5.
     require-each P (time_in departure) (BadField StopTimes line DepartureTime) _ (λ departure' e6.
@@ -66,8 +66,8 @@ from_in_form trips stops places line trip stop sequence arrival departure pickup
     require-each P (allows_in drop_off) (BadField StopTimes line DropOffType) _ (λ exit e8 r q.
     subst P (same_ok _ r q) (record {
       sequence = whole_bound 999999999 sequence' sequence e4;
-      visit = visit_form (length stops) places stop_number arrival' departure' board exit
-          (optional-each (λ k. k < length stops) (length stop' == 0) (number_in stop' stops) (number_inside stop' stops) stop_number e3)
+      visit = visit_form (length named.stops) named.places stop_number arrival' departure' board exit
+          (optional-each (λ k. k < length named.stops) (length stop' == 0) (number_in stop' named.stops) (number_inside stop' named.stops) stop_number e3)
           (optional-each (λ k. k < end_of_times) (length arrival == 0) (time_at arrival) (time_below arrival) arrival' e5)
           (optional-each (λ k. k < end_of_times) (length departure == 0) (time_at departure) (time_below departure) departure' e6);
     }))))))))))
@@ -75,12 +75,12 @@ from_in_form trips stops places line trip stop sequence arrival departure pickup
 ok_form : (P : TimedRow → Type 0) (o : Result TimedRow FeedFault) → result_err o ≡ None → ((r : TimedRow) → o ≡ Ok r → P r) → P (value_or no_row o)
 ok_form P o h k = grind arith
 
-pub row_in_form : (trips stops : List (List ℕ)) (places : List ℕ) (t : List (List (List ℕ))) (i : ℕ) → result_err (timed_at trips stops places t i) ≡ None
-    → InForm (length stops) places (value_or no_row (timed_at trips stops places t i))
+pub row_in_form : (named : TripsAndStops) (t : List (List (List ℕ))) (i : ℕ) → result_err (timed_at named t i) ≡ None
+    → InForm (length named.stops) named.places (value_or no_row (timed_at named t i))
 unfolding timed_at
-row_in_form trips stops places t i none =
+row_in_form named t i none =
     let c = time_columns t in
     let row = slice_index_or t (i + 1) [] in
-    ok_form (InForm (length stops) places) (timed_at trips stops places t i) none
-    (from_in_form trips stops places (i + 2) (field_of row c.trip) (field_of row c.stop) (field_of row c.sequence) (field_of row c.arrival)
+    ok_form (InForm (length named.stops) named.places) (timed_at named t i) none
+    (from_in_form named (i + 2) (field_of row c.trip) (field_of row c.stop) (field_of row c.sequence) (field_of row c.arrival)
     (field_of row c.departure) (field_of row c.pickup) (field_of row c.drop_off))

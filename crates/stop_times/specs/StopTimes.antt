@@ -7,7 +7,19 @@ use Rattle.csv_rows.specs.declared.columns.Column.TheVariants.{TripId, StopId, S
 use Rattle.csv_rows.specs.declared.feed_tables.{Table.TheVariants.StopTimes, FeedFault.{FeedFault, TheVariants.{BadField, UnknownKey, DuplicateKey}}}
 use Rattle.csv_rows.specs.{declared.feed_tables.FeedFault.TheVariants.{BackwardTime, TooManyRows}, Columns.name_of, Lists.{first_below, any_below, list_below}}
 use Rattle.csv_rows.specs.{Keys.{has_twin, just_precedes}, Ids.{name_in, text_in}, Tables.{field_of, header, row_count, number_in}, RowFaults.lack}
-use Rattle.stop_times.specs.declared.rows.{KnownTrip.KnownTrip, StopRow.StopRow, TimedRow.TimedRow, TimeColumns.TimeColumns}
+use Rattle.stop_times.specs.declared.{named.Named.Named, rows.{KnownTrip.KnownTrip, StopRow.StopRow, TimedRow.TimedRow, TimeColumns.TimeColumns}}
+
+-- what the fields of a row name: the ids of the trips and of the stops, and the place of each stop
+pub record TripsAndStops : Type 0 where
+  pub trips : List (List ℕ)
+  pub stops : List (List ℕ)
+  pub places : List ℕ
+
+abbrev pub named_by : (trips stops : List (List ℕ)) (places : List ℕ) → TripsAndStops
+named_by trips stops places = record { trips = trips; stops = stops; places = places }
+
+abbrev pub named_of : Named → TripsAndStops
+named_of n = named_by n.trips n.stops n.places.now
 
 -- whether one may board or alight: 1 forbids it
 abbrev pub allows_in : List ℕ → Option Bool
@@ -59,17 +71,16 @@ abbrev pub row_from_stop : (stops : List (List ℕ)) (line : ℕ) (id : List ℕ
 row_from_stop stops line id rest = require (text_in id) (BadField StopTimes line StopId) (λ id'. require (stop_number_in stops id') (UnknownKey StopTimes line StopId) rest)
 
 -- the row of these fields, or the first that is not of its form or names nothing
-abbrev pub timed_from : (trips stops : List (List ℕ)) (places : List ℕ) (line : ℕ) (trip stop sequence arrival departure pickup drop_off : List ℕ)
-    → Result TimedRow FeedFault
-timed_from trips stops places line trip stop sequence arrival departure pickup drop_off =
-    row_from_trip trips line trip (λ trip_number.
-    row_from_stop stops line stop (λ stop_number.
+abbrev pub timed_from : TripsAndStops → (line : ℕ) (trip stop sequence arrival departure pickup drop_off : List ℕ) → Result TimedRow FeedFault
+timed_from named line trip stop sequence arrival departure pickup drop_off =
+    row_from_trip named.trips line trip (λ trip_number.
+    row_from_stop named.stops line stop (λ stop_number.
     require (whole_of 999999999 sequence) (BadField StopTimes line StopSequence) (λ sequence'.
     require (time_in arrival) (BadField StopTimes line ArrivalTime) (λ arrival'.
     require (time_in departure) (BadField StopTimes line DepartureTime) (λ departure'.
     require (allows_in pickup) (BadField StopTimes line PickupType) (λ board.
     require (allows_in drop_off) (BadField StopTimes line DropOffType) (λ exit.
-    Ok (record { trip = trip_number; sequence = sequence'; visit = visit_of places stop_number (times_of arrival' departure') board exit }))))))))
+    Ok (record { trip = trip_number; sequence = sequence'; visit = visit_of named.places stop_number (times_of arrival' departure') board exit }))))))))
 
 -- the indexes of the columns of a header
 abbrev pub columns_of : List (List ℕ) → TimeColumns
@@ -87,22 +98,22 @@ columns_of names = record {
 abbrev pub time_columns : List (List (List ℕ)) → TimeColumns
 time_columns t = columns_of (header t)
 
--- the row in a line with these fields, where these are the ids of the trips and of the stops, and the places of the stops
-abbrev pub timed_of : (trips stops : List (List ℕ)) (places : List ℕ) (line : ℕ) → TimeColumns → List (List ℕ) → Result TimedRow FeedFault
-timed_of trips stops places line c fields =
-    timed_from trips stops places line (field_of fields c.trip) (field_of fields c.stop) (field_of fields c.sequence) (field_of fields c.arrival)
+-- the row in a line with these fields
+abbrev pub timed_of : TripsAndStops → (line : ℕ) → TimeColumns → List (List ℕ) → Result TimedRow FeedFault
+timed_of named line c fields =
+    timed_from named line (field_of fields c.trip) (field_of fields c.stop) (field_of fields c.sequence) (field_of fields c.arrival)
     (field_of fields c.departure) (field_of fields c.pickup) (field_of fields c.drop_off)
 
 -- row i
-abbrev pub timed_in : (trips stops : List (List ℕ)) (places : List ℕ) → List (List (List ℕ)) → TimeColumns → ℕ → Result TimedRow FeedFault
-timed_in trips stops places t c i = timed_of trips stops places (i + 2) c (slice_index_or t (i + 1) [])
+abbrev pub timed_in : TripsAndStops → List (List (List ℕ)) → TimeColumns → ℕ → Result TimedRow FeedFault
+timed_in named t c i = timed_of named (i + 2) c (slice_index_or t (i + 1) [])
 
-unfoldable pub timed_at : (trips stops : List (List ℕ)) (places : List ℕ) → List (List (List ℕ)) → ℕ → Result TimedRow FeedFault
-timed_at trips stops places t i = timed_in trips stops places t (time_columns t) i
+unfoldable pub timed_at : TripsAndStops → List (List (List ℕ)) → ℕ → Result TimedRow FeedFault
+timed_at named t i = timed_in named t (time_columns t) i
 
 -- the first fault of row i by itself
-abbrev pub bad_time : (trips stops : List (List ℕ)) (places : List ℕ) → List (List (List ℕ)) → ℕ → Option FeedFault
-bad_time trips stops places t i = result_err (timed_at trips stops places t i)
+abbrev pub bad_time : TripsAndStops → List (List (List ℕ)) → ℕ → Option FeedFault
+bad_time named t i = result_err (timed_at named t i)
 
 abbrev pub no_row : TimedRow
 no_row = record { trip = 0; sequence = 0; visit = None }
@@ -112,8 +123,8 @@ abbrev pub counted_fault : (most count : ℕ) → Option FeedFault → Option Fe
 counted_fault most count fault = if nat_lt most count then Some (TooManyRows StopTimes count) else fault
 
 -- the rows, where they have no fault by themselves
-abbrev pub timed_rows : (trips stops : List (List ℕ)) (places : List ℕ) → List (List (List ℕ)) → List TimedRow
-timed_rows trips stops places t = list_below (λ i. value_or no_row (timed_at trips stops places t i)) (row_count t)
+abbrev pub timed_rows : TripsAndStops → List (List (List ℕ)) → List TimedRow
+timed_rows named t = list_below (λ i. value_or no_row (timed_at named t i)) (row_count t)
 
 abbrev pub row_at : List TimedRow → ℕ → TimedRow
 row_at rows i = slice_index_or rows i no_row
@@ -166,7 +177,6 @@ abbrev pub order_fault : List TimedRow → Option FeedFault
 order_fault rows = option_or (first_below (repeated_time rows) (length rows)) (first_below (backward_time rows) (length rows))
 
 -- the first fault of the stop times
-unfoldable pub stop_times_fault : (trips stops : List (List ℕ)) (places : List ℕ) → List (List (List ℕ)) → Option FeedFault
-stop_times_fault trips stops places t =
-    option_or (missing_time_column (time_columns t))
-    (option_or (first_below (bad_time trips stops places t) (row_count t)) (order_fault (timed_rows trips stops places t)))
+unfoldable pub stop_times_fault : TripsAndStops → List (List (List ℕ)) → Option FeedFault
+stop_times_fault named t =
+    option_or (missing_time_column (time_columns t)) (option_or (first_below (bad_time named t) (row_count t)) (order_fault (timed_rows named t)))

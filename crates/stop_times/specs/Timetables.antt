@@ -3,14 +3,14 @@ use Rattle.std.specs.Prelude.{◌≡◌, ℕ, ◌<◌, List, [], length, slice_i
 use Rattle.plan_model.specs.Results.{and_then, unless}
 use Rattle.csv_rows.specs.declared.{columns.Column.TheVariants.TripId, feed_tables.{Table.TheVariants.StopTimes, FeedFault.FeedFault}}
 use Rattle.table_files.specs.{declared.loading.Loaded.Loaded, Loading.{Records, required}}
-use Rattle.stop_times.specs.{declared.rows.StopRow.StopRow, StopTimes.{timed_rows, stop_times_fault}, Visits.AreStopTimes}
+use Rattle.stop_times.specs.{declared.rows.StopRow.StopRow, StopTimes.{TripsAndStops, timed_rows, stop_times_fault}, Visits.AreStopTimes}
 
 -- the table by what was loaded of it
-abbrev pub stop_times_from : Result Loaded FeedFault → (trips stops : List (List ℕ)) (places : List ℕ) → Result Records FeedFault
-stop_times_from loaded trips stops places = and_then (required StopTimes TripId loaded) (λ t. unless (stop_times_fault trips stops places t) t)
+abbrev pub stop_times_from : Result Loaded FeedFault → TripsAndStops → Result Records FeedFault
+stop_times_from loaded named = and_then (required StopTimes TripId loaded) (λ t. unless (stop_times_fault named t) t)
 
 -- the kept rows of each trip, of what was read of the table
-abbrev pub AreVisits : (trips stops : List (List ℕ)) (places : List ℕ) → Result Records FeedFault → List (List StopRow) → Type 0
-AreVisits trips stops places (Ok t) visits =
-    (length visits ≡ length trips) × ((trip : ℕ) → trip < length trips → AreStopTimes (timed_rows trips stops places t) trip (slice_index_or visits trip []))
-AreVisits trips stops places (Err fault) visits = ⊥
+abbrev pub AreVisits : TripsAndStops → Result Records FeedFault → List (List StopRow) → Type 0
+AreVisits named (Ok t) visits =
+    (length visits ≡ length named.trips) × ((trip : ℕ) → trip < length named.trips → AreStopTimes (timed_rows named t) trip (slice_index_or visits trip []))
+AreVisits named (Err fault) visits = ⊥

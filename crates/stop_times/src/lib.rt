@@ -7,6 +7,7 @@
 mod by_trip;
 mod forms;
 mod keys;
+mod named;
 mod records;
 mod rows;
 mod stop_order;

@@ -5,9 +5,10 @@ ghost use Rattle.csv_rows.specs.FeedTables.{unread_table, IsFaultOf};
 ghost use Rattle.csv_rows.specs.Tables.{field_of};
 ghost use Rattle.csv_rows.specs.declared.feed_tables.FeedFault.{FeedFault};
 ghost use Rattle.stop_times.specs.declared.rows.TimedRow.{TimedRow};
-ghost use Rattle.stop_times.specs.StopTimes.{stop_number_in, times_of, visit_of, columns_of, timed_of, missing_time_column, row_from_trip, row_from_stop, IsTripOf, IsStopOf, IsKnownIn, time_in};
+ghost use Rattle.stop_times.specs.StopTimes.{stop_number_in, times_of, visit_of, columns_of, timed_of, named_of, missing_time_column, row_from_trip, row_from_stop, IsTripOf, IsStopOf, IsKnownIn, time_in};
 
 use crate::forms::{read_allows, read_time_or_none};
+use crate::named::Named;
 use crate::records::Record;
 use clock_text::read_whole;
 use csv_rows::{Column, FeedFault, Table, lack, read_name, read_text};
@@ -173,15 +174,6 @@ fn visit_of(
     })
 }
 
-/// What the fields of a row name: the trips, and the stops with the place of each.
-#[derive(Drop)]
-pub(crate) struct Named<'a> {
-    pub(crate) trips: TextIndex<'a>,
-    pub(crate) stops: TextIndex<'a>,
-    pub(crate) places: &'a [u32],
-    ghost placed: { length places.now ≡ length stops },
-}
-
 /// A field that names a trip, and the number of that trip.
 #[derive(Clone, Copy)]
 pub(crate) struct NamedTrip<'a> {
@@ -269,11 +261,9 @@ pub(crate) fn read_timed_row(
     expected: u32,
 ) -> Result<TimedRow, FeedFault>
     requires { IfSome known (λ k. IsTripOf named.now.trips k.id.now k.trip) }
-    ensures row { IfOk result (λ r.
-        timed_of named.now.trips named.now.stops named.now.places.now line columns row.now ≡ Ok r) }
+    ensures row { IfOk result (λ r. timed_of (named_of named.now) line columns row.now ≡ Ok r) }
     ensures trip { IfOk result (λ r. IsTripOf named.now.trips (field_of row.now columns.trip) r.trip) }
-    ensures fault { IfErr result (λ f.
-        timed_of named.now.trips named.now.stops named.now.places.now line columns row.now ≡ Err f) }
+    ensures fault { IfErr result (λ f. timed_of (named_of named.now) line columns row.now ≡ Err f) }
     ensures content { IfErr result (λ f. unread_table f ≡ None) }
     ensures own { IfErr result (IsFaultOf StopTimesTable) }
 {

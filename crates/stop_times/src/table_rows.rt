@@ -8,12 +8,12 @@ ghost use Rattle.csv_rows.specs.Tables.{table_of};
 ghost use Rattle.csv_rows.specs.declared.feed_tables.FeedFault.{FeedFault};
 ghost use Rattle.stop_times.specs.declared.rows.TimedRow.{TimedRow};
 ghost use Rattle.stop_times.specs.Timetables.{stop_times_from};
-ghost use Rattle.stop_times.specs.StopTimes.{columns_of, timed_of, bad_time, counted_fault, timed_rows, order_fault, stop_times_fault, IsKnownIn};
+ghost use Rattle.stop_times.specs.StopTimes.{columns_of, named_of, timed_of, bad_time, counted_fault, timed_rows, order_fault, stop_times_fault, IsKnownIn};
 
+use crate::named::Named;
 use crate::records::{Record, Records};
 use crate::rows::{
-    KnownTrip, Named, TimeColumns, columns_of, keep_trip, missing_column, named_trip,
-    read_timed_row,
+    KnownTrip, TimeColumns, columns_of, keep_trip, missing_column, named_trip, read_timed_row,
 };
 use crate::stop_order::StopOrder;
 use crate::stored_row::StoredRow;
@@ -34,11 +34,12 @@ fn take_row(
     order: &mut StopOrder,
 ) -> Result<(), FeedFault>
     requires { IsKnownIn named.now.trips known.old }
-    ensures row { OnOk result ((r : TimedRow) × (timed_of named.now.trips named.now.stops named.now.places.now
-        (length timed.old.items + 2) columns row.now ≡ Ok r) × (timed.new.items ≡ timed.old.items ++ r ∷ [])) }
+    ensures row { OnOk result ((r : TimedRow)
+        × (timed_of (named_of named.now) (length timed.old.items + 2) columns row.now ≡ Ok r)
+        × (timed.new.items ≡ timed.old.items ++ r ∷ [])) }
     ensures known { OnOk result (IsKnownIn named.now.trips known.new) }
-    ensures fault { IfErr result (λ f. f ≢ FeedFault.NoMemory → timed_of named.now.trips named.now.stops named.now.places.now
-        (length timed.old.items + 2) columns row.now ≡ Err f) }
+    ensures fault { IfErr result (λ f. f ≢ FeedFault.NoMemory
+        → timed_of (named_of named.now) (length timed.old.items + 2) columns row.now ≡ Err f) }
     ensures content { IfErr result (λ f. unread_table f ≡ None) }
     ensures own { IfErr result (IsFaultOf StopTimesTable) }
 {
@@ -103,15 +104,12 @@ fn rows_after(
     limits: &Limits,
 ) -> Result<Vec<StoredRow>, FeedFault>
     requires { columns ≡ columns_of row.old }
-    ensures rows { IfOk result (λ timed. timed.items
-        ≡ timed_rows named.now.trips named.now.stops named.now.places.now (row.old ∷ records.old)) }
+    ensures rows { IfOk result (λ timed. timed.items ≡ timed_rows (named_of named.now) (row.old ∷ records.old)) }
     ensures few { IfOk result (λ timed. length timed.items ≤ limits.now.stop_times) }
-    ensures none { OnOk result (first_below
-        (bad_time named.now.trips named.now.stops named.now.places.now (row.old ∷ records.old))
-        (length records.old) ≡ None) }
+    ensures none { OnOk result
+        (first_below (bad_time (named_of named.now) (row.old ∷ records.old)) (length records.old) ≡ None) }
     ensures fault { IfErr result (λ f. f ≢ FeedFault.NoMemory → counted_fault limits.now.stop_times (length records.old)
-        (first_below (bad_time named.now.trips named.now.stops named.now.places.now (row.old ∷ records.old))
-        (length records.old)) ≡ Some f) }
+        (first_below (bad_time (named_of named.now) (row.old ∷ records.old)) (length records.old)) ≡ Some f) }
     ensures content { IfErr result (λ f. unread_table f ≡ None) }
     ensures own { IfErr result (IsFaultOf StopTimesTable) }
 {
@@ -147,16 +145,14 @@ pub(crate) fn read_timed_rows(
     named: &Named<'_>,
     limits: &Limits,
 ) -> Result<Vec<StoredRow>, FeedFault>
-    ensures rows { IfOk result (λ timed. timed.items
-        ≡ timed_rows named.now.trips named.now.stops named.now.places.now (table_of bytes.now)) }
+    ensures rows { IfOk result (λ timed. timed.items ≡ timed_rows (named_of named.now) (table_of bytes.now)) }
     ensures few { IfOk result (λ timed. length timed.items ≤ limits.now.stop_times) }
     ensures header { OnOk result (0 < length (table_of bytes.now)) }
-    ensures rest { OnOk result
-        (stop_times_fault named.now.trips named.now.stops named.now.places.now (table_of bytes.now)
-        ≡ order_fault (timed_rows named.now.trips named.now.stops named.now.places.now (table_of bytes.now))) }
+    ensures rest { OnOk result (stop_times_fault (named_of named.now) (table_of bytes.now)
+        ≡ order_fault (timed_rows (named_of named.now) (table_of bytes.now))) }
     ensures fault { IfErr result (λ f. f ≢ FeedFault.NoMemory
-        → stop_times_from (loaded_from StopTimesTable limits.now.stop_times (table_of bytes.now))
-        named.now.trips named.now.stops named.now.places.now ≡ Err f) }
+        → stop_times_from (loaded_from StopTimesTable limits.now.stop_times (table_of bytes.now)) (named_of named.now)
+        ≡ Err f) }
     ensures content { IfErr result (λ f. unread_table f ≡ None) }
     ensures own { IfErr result (IsFaultOf StopTimesTable) }
 {

@@ -9,12 +9,12 @@ ghost use Rattle.csv_rows.specs.Tables.{table_of};
 ghost use Rattle.stop_times.specs.StopTimeBounds.{most_stop_times};
 ghost use Rattle.stop_times.specs.StopTimeKeys.{AreKeysOf, AreRowsRising};
 ghost use Rattle.stop_times.specs.Timetables.{stop_times_from, AreVisits};
-ghost use Rattle.stop_times.specs.StopTimes.{repeated_time, order_fault, stop_times_fault, timed_rows};
+ghost use Rattle.stop_times.specs.StopTimes.{named_by, repeated_time, order_fault, stop_times_fault, timed_rows};
 ghost use Rattle.stop_times.specs.Visits.{AreStopTimes};
 
 use crate::by_trip::StopTimes;
 use crate::keys::{are_rising, first_backward, kept_keys, sorted_keys};
-use crate::rows::Named;
+use crate::named::Named;
 use crate::stored_row::StoredRow;
 use crate::table_rows::read_timed_rows;
 use crate::visits::visits_of;
@@ -71,14 +71,14 @@ fn rows_of(
 ) -> Result<Vec<StoredRow>, FeedFault>
     requires { length places.now ≡ length stops.now }
     ensures rows { IfOk result (λ timed. timed.items
-        ≡ timed_rows trips.now stops.now places.now (table_of bytes.now)) }
+        ≡ timed_rows (named_by trips.now stops.now places.now) (table_of bytes.now)) }
     ensures few { IfOk result (λ timed. length timed.items ≤ limits.now.stop_times) }
     ensures header { OnOk result (0 < length (table_of bytes.now)) }
-    ensures rest { OnOk result (stop_times_fault trips.now stops.now places.now (table_of bytes.now)
-        ≡ order_fault (timed_rows trips.now stops.now places.now (table_of bytes.now))) }
+    ensures rest { OnOk result (stop_times_fault (named_by trips.now stops.now places.now) (table_of bytes.now)
+        ≡ order_fault (timed_rows (named_by trips.now stops.now places.now) (table_of bytes.now))) }
     ensures fault { IfErr result (λ f. f ≢ FeedFault.NoMemory
         → stop_times_from (loaded_from StopTimesTable limits.now.stop_times (table_of bytes.now))
-        trips.now stops.now places.now ≡ Err f) }
+        (named_by trips.now stops.now places.now) ≡ Err f) }
     ensures content { IfErr result (λ f. unread_table f ≡ None) }
     ensures own { IfErr result (IsFaultOf StopTimesTable) }
 {
@@ -109,15 +109,15 @@ pub fn read_stop_times(
     ensures few { IfOk result (λ visits. (trip : ℕ) → trip < length trips.now
         → length (slice_index_or visits trip []) ≤ most_stop_times) }
     ensures size { IfOk result (λ visits. length visits ≡ length trips.now) }
-    ensures visits { IfOk result (λ visits. AreVisits trips.now stops.now places.now
+    ensures visits { IfOk result (λ visits. AreVisits (named_by trips.now stops.now places.now)
         (stop_times_from (loaded_from StopTimesTable limits.now.stop_times (table_of bytes.items))
-        trips.now stops.now places.now) visits) }
+        (named_by trips.now stops.now places.now)) visits) }
     ensures sound { IfOk result (λ visits.
-        IsOfSomeTable (stop_times_fault trips.now stops.now places.now)
-        (λ t. AreVisits trips.now stops.now places.now (Ok t) visits)) }
+        IsOfSomeTable (stop_times_fault (named_by trips.now stops.now places.now))
+        (λ t. AreVisits (named_by trips.now stops.now places.now) (Ok t) visits)) }
     ensures fault { IfErr result (λ f. f ≢ FeedFault.NoMemory
         → stop_times_from (loaded_from StopTimesTable limits.now.stop_times (table_of bytes.items))
-        trips.now stops.now places.now ≡ Err f) }
+        (named_by trips.now stops.now places.now) ≡ Err f) }
     ensures content { IfErr result (λ f. unread_table f ≡ None) }
     ensures own { IfErr result (IsFaultOf StopTimesTable) }
 {

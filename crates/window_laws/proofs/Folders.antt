@@ -16,7 +16,7 @@ use Rattle.feed_lists.specs.Trips.{trip_ids, trips_fault}
 use Rattle.stop_times.specs.StopTimes.{stop_times_fault}
 use Rattle.stop_times.specs.Timetables.{stop_times_from}
 use Rattle.trip_frequencies.specs.Frequencies.{frequencies_from, fault_of_frequencies}
-use Rattle.gtfs_tables.specs.Feeds.{FeedParts, Tables, IsFeed, IsFeedOf, IsSoundFeed, tables_from}
+use Rattle.gtfs_tables.specs.Feeds.{FeedParts, Tables, IsFeed, IsFeedOf, IsSoundFeed, named_in, tables_from}
 unfoldable use Rattle.gtfs_tables.specs.Feeds.{tables_in}
 use Rattle.service_days.specs.Services.{ServiceParts, runs}
 use Rattle.service_days.specs.Calendars.{Calendars, RunsBy}
@@ -49,7 +49,7 @@ module _ (load : Table → Result Loaded FeedFault) (t : Tables) (is : tables_fr
       let (stops, stops_read, rest) = then_parts (stops_from (load Stops)) _ t is in
       let (routes, routes_read, rest) = then_parts (routes_from (load Routes)) _ t rest in
       let (trips, trips_read, rest) = then_parts (trips_from (load Trips) (route_ids routes)) _ t rest in
-      let (times, times_read, rest) = then_parts (stop_times_from (load StopTimes) (trip_ids trips) (stop_ids stops) (stop_places stops)) _ t rest in
+      let (times, times_read, rest) = then_parts (stop_times_from (load StopTimes) (named_in trips stops)) _ t rest in
       let (repeats, repeats_read, rest) = then_parts (frequencies_from (load Frequencies) (trip_ids trips)) _ t rest in
       let all : Tables = record { stops = stops; routes = routes; trips = trips; stop_times = times; frequencies = repeats } in
       let same : all ≡ t = cc in (
@@ -58,8 +58,8 @@ module _ (load : Table → Result Loaded FeedFault) (t : Tables) (is : tables_fr
           stops = subst (λ (x : Tables). stops_fault x.stops ≡ None) {x = all} same (no_fault _ stops_fault stops stops_read);
           routes = subst (λ (x : Tables). routes_fault x.routes ≡ None) {x = all} same (no_fault _ routes_fault routes routes_read);
           trips = subst (λ (x : Tables). trips_fault (route_ids x.routes) x.trips ≡ None) {x = all} same (no_fault _ (trips_fault (route_ids routes)) trips trips_read);
-          stop_times = subst (λ (x : Tables). stop_times_fault (trip_ids x.trips) (stop_ids x.stops) (stop_places x.stops) x.stop_times ≡ None) {x = all} same
-              (no_fault _ (stop_times_fault (trip_ids trips) (stop_ids stops) (stop_places stops)) times times_read);
+          stop_times = subst (λ (x : Tables). stop_times_fault (named_in x.trips x.stops) x.stop_times ≡ None) {x = all} same
+              (no_fault _ (stop_times_fault (named_in trips stops)) times times_read);
           frequencies = subst (λ (x : Tables). fault_of_frequencies (trip_ids x.trips) x.frequencies ≡ None) {x = all} same (no_fault _ (fault_of_frequencies (trip_ids trips)) repeats repeats_read);
           feed = feed;
         },

@@ -13,12 +13,14 @@ use Rattle.csv_rows.proofs.IdLemmas.{number-here}
 use Rattle.csv_rows.proofs.RowLemmas.{name_text}
 use Rattle.csv_rows.proofs.ListLemmas.{length-list_below, get-list_below}
 use Rattle.table_files.specs.Loading.{Records}
+use Rattle.feed_lists.specs.Stops.{stop_ids}
 use Rattle.feed_lists.specs.Trips.{trip_ids}
 use Rattle.stop_times.specs.declared.rows.StopRow.{StopRow}
-use Rattle.stop_times.specs.StopTimes.{stop_number_in, timed_from, timed_of, columns_of, time_columns, no_row, timed_rows, row_at}
+use Rattle.stop_times.specs.StopTimes.{TripsAndStops, stop_number_in, timed_from, timed_of, columns_of, time_columns, no_row, timed_rows, row_at}
 unfoldable use Rattle.stop_times.specs.StopTimes.{timed_at}
 use Rattle.stop_times.specs.StopTimes.{allows_in, time_in}
 use Rattle.stop_times.specs.Visits.{no_visit, AreStopTimes}
+use Rattle.gtfs_tables.specs.Feeds.{named_in}
 use Rattle.journey_problem.proofs.OneOrder.{Enumerates, agree, same_size}
 use Rattle.window_laws.proofs.Types.{TimedRow}
 use Rattle.window_laws.specs.MoreFiles.{IsSameRow, AddsRows}
@@ -35,7 +37,7 @@ IsKeptToo i j a b = (v : StopRow) → a.visit ≡ Some v → a.trip ≡ i → (b
 none_kept : (v : StopRow) → no_row.visit ≡ Some v → ⊥
 none_kept v is = cc
 
-module _ (stops : List (List ℕ)) (places : List ℕ) (line other : ℕ) (stop sequence arrival departure pickup drop_off : List ℕ) where
+module _ (line other : ℕ) (stop sequence arrival departure pickup drop_off : List ℕ) where
   by_number : {E : Type 0} (i j : ℕ) (o p : Option ℕ) (e f : E) (n m : ℕ → Result TimedRow E) → ((k l : ℕ) → Agree k l (value_or no_row (n k)) (value_or no_row (m l)))
       → (o ≡ Some i → p ≡ Some j) → IsKeptToo i j (value_or no_row (require o e n)) (value_or no_row (require p f m))
   by_number i j None p e f n m all then_too = λ v kept of_trip. absurd (none_kept v kept)
@@ -45,15 +47,15 @@ module _ (stops : List (List ℕ)) (places : List ℕ) (line other : ℕ) (stop 
       let no : None ≡ Some j = then_too (ap (λ (x : ℕ). Some x) here) in absurd (cc)
   by_number i j (Some k) (Some l) e f n m all then_too = λ v kept of_trip. grind arith
 
-  kept_too : (trips others : List (List ℕ)) (i j : ℕ) (trip : List ℕ) → ((id : List ℕ) → number_in id trips ≡ Some i → number_in id others ≡ Some j)
-      → IsKeptToo i j (value_or no_row (timed_from trips stops places line trip stop sequence arrival departure pickup drop_off))
-      (value_or no_row (timed_from others stops places other trip stop sequence arrival departure pickup drop_off))
-  kept_too trips others i j trip too =
+  kept_too : (stops trips others : Records) (i j : ℕ) (trip : List ℕ) → ((id : List ℕ) → number_in id (trip_ids trips) ≡ Some i → number_in id (trip_ids others) ≡ Some j)
+      → IsKeptToo i j (value_or no_row (timed_from (named_in trips stops) line trip stop sequence arrival departure pickup drop_off))
+      (value_or no_row (timed_from (named_in others stops) other trip stop sequence arrival departure pickup drop_off))
+  kept_too stops trips others i j trip too =
       both (IsKeptToo i j) no_row (λ v kept. absurd (none_kept v kept)) (name_in trip) _ _ _ _ (λ id.
-      by_number i j (number_in id trips) (number_in id others) _ _ _ _ (λ k l.
+      by_number i j (number_in id (trip_ids trips)) (number_in id (trip_ids others)) _ _ _ _ (λ k l.
       let nothing : Agree k l no_row no_row = (refl, refl, λ v kept. absurd (none_kept v kept)) in
       both (Agree k l) no_row nothing (text_in stop) _ _ _ _ (λ name.
-      both (Agree k l) no_row nothing (stop_number_in stops name) _ _ _ _ (λ number.
+      both (Agree k l) no_row nothing (stop_number_in (stop_ids stops) name) _ _ _ _ (λ number.
       both (Agree k l) no_row nothing (whole_of 999999999 sequence) _ _ _ _ (λ order.
       both (Agree k l) no_row nothing (time_in arrival) _ _ _ _ (λ from.
       both (Agree k l) no_row nothing (time_in departure) _ _ _ _ (λ to.
@@ -64,58 +66,58 @@ module _ (stops : List (List ℕ)) (places : List ℕ) (line other : ℕ) (stop 
   abbrev IsNamed : (names : List (List ℕ)) → (trip : List ℕ) → (i : ℕ) → TimedRow → Type 0
   IsNamed names trip i a = (v : StopRow) → a.visit ≡ Some v → a.trip ≡ i → number_in trip names ≡ Some i
 
-  kept_named : (trips : List (List ℕ)) (i : ℕ) (trip : List ℕ)
-      → IsNamed trips trip i (value_or no_row (timed_from trips stops places line trip stop sequence arrival departure pickup drop_off))
-  kept_named trips i trip =
-      let nothing : IsNamed trips trip i no_row = λ v kept. absurd (none_kept v kept) in
-      read_on (IsNamed trips trip i) no_row nothing (name_in trip) _ _ (λ id is.
-      read_on (IsNamed trips trip i) no_row nothing (number_in id trips) _ _ (λ k here.
-      let there : number_in trip trips ≡ Some k = ap (λ (text : List ℕ). number_in text trips) (sym (name_text trip id is)) ∙ here in
-      read_on (IsNamed trips trip i) no_row nothing (text_in stop) _ _ (λ name _.
-      read_on (IsNamed trips trip i) no_row nothing (stop_number_in stops name) _ _ (λ number _.
-      read_on (IsNamed trips trip i) no_row nothing (whole_of 999999999 sequence) _ _ (λ order _.
-      read_on (IsNamed trips trip i) no_row nothing (time_in arrival) _ _ (λ from _.
-      read_on (IsNamed trips trip i) no_row nothing (time_in departure) _ _ (λ to _.
-      read_on (IsNamed trips trip i) no_row nothing (allows_in pickup) _ _ (λ board _.
-      read_on (IsNamed trips trip i) no_row nothing (allows_in drop_off) _ _ (λ exit _. (λ v kept of_trip. there ∙ ap (λ (x : ℕ). Some x) of_trip))))))))))
+  kept_named : (named : TripsAndStops) (i : ℕ) (trip : List ℕ)
+      → IsNamed named.trips trip i (value_or no_row (timed_from named line trip stop sequence arrival departure pickup drop_off))
+  kept_named named i trip =
+      let nothing : IsNamed named.trips trip i no_row = λ v kept. absurd (none_kept v kept) in
+      read_on (IsNamed named.trips trip i) no_row nothing (name_in trip) _ _ (λ id is.
+      read_on (IsNamed named.trips trip i) no_row nothing (number_in id named.trips) _ _ (λ k here.
+      let there : number_in trip named.trips ≡ Some k = ap (λ (text : List ℕ). number_in text named.trips) (sym (name_text trip id is)) ∙ here in
+      read_on (IsNamed named.trips trip i) no_row nothing (text_in stop) _ _ (λ name _.
+      read_on (IsNamed named.trips trip i) no_row nothing (stop_number_in named.stops name) _ _ (λ number _.
+      read_on (IsNamed named.trips trip i) no_row nothing (whole_of 999999999 sequence) _ _ (λ order _.
+      read_on (IsNamed named.trips trip i) no_row nothing (time_in arrival) _ _ (λ from _.
+      read_on (IsNamed named.trips trip i) no_row nothing (time_in departure) _ _ (λ to _.
+      read_on (IsNamed named.trips trip i) no_row nothing (allows_in pickup) _ _ (λ board _.
+      read_on (IsNamed named.trips trip i) no_row nothing (allows_in drop_off) _ _ (λ exit _. (λ v kept of_trip. there ∙ ap (λ (x : ℕ). Some x) of_trip))))))))))
 
-module _ (stops : List (List ℕ)) (places : List ℕ) (trips others t u : Records) (i j : ℕ) (one : IsSameRow trips others i j) (unique : AreDistinct (trip_ids others)) where
+module _ (stops trips others t u : Records) (i j : ℕ) (one : IsSameRow trips others i j) (unique : AreDistinct (trip_ids others)) where
   abbrev ones : List TimedRow
-  ones = timed_rows (trip_ids trips) stops places t
+  ones = timed_rows (named_in trips stops) t
 
   abbrev twos : List TimedRow
-  twos = timed_rows (trip_ids others) stops places u
+  twos = timed_rows (named_in others stops) u
 
   row_too : (p q : ℕ) → IsSameRow t u p q → IsKeptToo i j (row_at ones p) (row_at twos q)
   unfolding timed_at
   row_too p q same =
-      let here : row_at ones p ≡ value_or no_row (timed_at (trip_ids trips) stops places t p) = get-list_below _ (row_count t) p no_row same.here in
-      let there : row_at twos q ≡ value_or no_row (timed_at (trip_ids others) stops places u q) = get-list_below _ (row_count u) q no_row same.there in
-      let read : List (List ℕ) → List (List ℕ) → TimedRow = λ names fields. value_or no_row (timed_of (trip_ids others) stops places (q + 2) (columns_of names) fields) in
+      let here : row_at ones p ≡ value_or no_row (timed_at (named_in trips stops) t p) = get-list_below _ (row_count t) p no_row same.here in
+      let there : row_at twos q ≡ value_or no_row (timed_at (named_in others stops) u q) = get-list_below _ (row_count u) q no_row same.there in
+      let read : List (List ℕ) → List (List ℕ) → TimedRow = λ names fields. value_or no_row (timed_of (named_in others stops) (q + 2) (columns_of names) fields) in
       let is : row_at twos q ≡ read (header t) (slice_index_or t (p + 1) []) = there ∙ ap₂ read same.headers same.fields in
       let fields = slice_index_or t (p + 1) [] in
       let c = time_columns t in
-      let kept : IsKeptToo i j (value_or no_row (timed_at (trip_ids trips) stops places t p)) (read (header t) fields) =
-      kept_too stops places (p + 2) (q + 2) (field_of fields c.stop) (field_of fields c.sequence) (field_of fields c.arrival) (field_of fields c.departure) (field_of fields c.pickup)
-      (field_of fields c.drop_off) (trip_ids trips) (trip_ids others) i j (field_of fields c.trip) (number_too trips others i j one unique) in
-      subst (λ (a : TimedRow). IsKeptToo i j a (row_at twos q)) (sym here) (subst (IsKeptToo i j (value_or no_row (timed_at (trip_ids trips) stops places t p))) (sym is) kept)
+      let kept : IsKeptToo i j (value_or no_row (timed_at (named_in trips stops) t p)) (read (header t) fields) =
+      kept_too (p + 2) (q + 2) (field_of fields c.stop) (field_of fields c.sequence) (field_of fields c.arrival) (field_of fields c.departure) (field_of fields c.pickup)
+      (field_of fields c.drop_off) stops trips others i j (field_of fields c.trip) (number_too trips others i j one unique) in
+      subst (λ (a : TimedRow). IsKeptToo i j a (row_at twos q)) (sym here) (subst (IsKeptToo i j (value_or no_row (timed_at (named_in trips stops) t p))) (sym is) kept)
 
-module _ (stops : List (List ℕ)) (places : List ℕ) (trips others t u : Records) (i j : ℕ) (one : IsSameRow trips others i j) (unique : AreDistinct (trip_ids others)) where
+module _ (stops trips others t u : Records) (i j : ℕ) (one : IsSameRow trips others i j) (unique : AreDistinct (trip_ids others)) where
   abbrev rows : List TimedRow
-  rows = timed_rows (trip_ids trips) stops places t
+  rows = timed_rows (named_in trips stops) t
 
   abbrev more : List TimedRow
-  more = timed_rows (trip_ids others) stops places u
+  more = timed_rows (named_in others stops) u
 
   -- a kept row of a trip of the one is a row of the other
   row_named : (q : ℕ) → q < row_count u → (v : StopRow) → (row_at more q).visit ≡ Some v → (row_at more q).trip ≡ j → number_in (field u TripId q) (trip_ids others) ≡ Some j
   unfolding timed_at
   row_named q inside v kept of_trip =
-      let there : row_at more q ≡ value_or no_row (timed_at (trip_ids others) stops places u q) = get-list_below _ (row_count u) q no_row inside in
+      let there : row_at more q ≡ value_or no_row (timed_at (named_in others stops) u q) = get-list_below _ (row_count u) q no_row inside in
       let fields = slice_index_or u (q + 1) [] in
       let c = time_columns u in
-      let is = kept_named stops places (q + 2) 0 (field_of fields c.stop) (field_of fields c.sequence) (field_of fields c.arrival) (field_of fields c.departure) (field_of fields c.pickup)
-      (field_of fields c.drop_off) (trip_ids others) j (field_of fields c.trip) v (ap (λ (a : TimedRow). a.visit) (sym there) ∙ kept) (ap (λ (a : TimedRow). a.trip) (sym there) ∙ of_trip) in
+      let is = kept_named (q + 2) 0 (field_of fields c.stop) (field_of fields c.sequence) (field_of fields c.arrival) (field_of fields c.departure) (field_of fields c.pickup)
+      (field_of fields c.drop_off) (named_in others stops) j (field_of fields c.trip) v (ap (λ (a : TimedRow). a.visit) (sym there) ∙ kept) (ap (λ (a : TimedRow). a.trip) (sym there) ∙ of_trip) in
       ap (λ (text : List ℕ). number_in text (trip_ids others)) (sym (field_of-at u c.trip q)) ∙ is
 
   module _ (alone : AreDistinct (trip_ids trips)) (adds : AddsRows (trip_ids trips) t u) where
@@ -169,7 +171,7 @@ module _ (stops : List (List ℕ)) (places : List ℕ) (trips others t u : Recor
       kept_behind k h =
           let (p, same) = behind k h in
           let v = b.visit k h in
-          let back = row_too stops places others trips u t j i (turned trips others i j one) alone (b.line k) p (turned t u p (b.line k) same) (slice_index_or after k no_visit) v.kept v.of_trip in
+          let back = row_too stops others trips u t j i (turned trips others i j one) alone (b.line k) p (turned t u p (b.line k) same) (slice_index_or after k no_visit) v.kept v.of_trip in
           (back.0, back.1, sym back.2)
 
       other_way : Enumerates Taken (λ x y. x < y) second (length after)
@@ -179,7 +181,7 @@ module _ (stops : List (List ℕ)) (places : List ℕ) (trips others t u : Recor
         all = λ s taken.
             let (p, inside, v, kept, of_trip, is) = taken in
             let (q, same) = adds.each p inside in
-            let too = row_too stops places trips others t u i j one unique p q same v kept of_trip in
+            let too = row_too stops trips others t u i j one unique p q same v kept of_trip in
             let (k, below, at) = b.all q (omega (arith, same.there, more_size)) too.1 (ap is_some too.0) in
             (k, below, ap (λ (x : ℕ). (row_at more x).sequence) at ∙ too.2 ∙ is);
       }

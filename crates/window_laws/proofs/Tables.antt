@@ -12,13 +12,13 @@ use Rattle.csv_rows.proofs.ListLemmas.{length-list_below, get-list_below}
 use Rattle.table_files.specs.Loading.{Records}
 use Rattle.table_files.specs.Loading.{loaded_rows}
 use Rattle.feed_lists.specs.Routes.{route_ids}
-use Rattle.feed_lists.specs.Stops.{stop_ids, stop_places}
+use Rattle.feed_lists.specs.Stops.{stop_ids}
 use Rattle.feed_lists.specs.Trips.{Trip, trip_or_none, trip_ids}
 unfoldable use Rattle.feed_lists.specs.Trips.{trip_at, trips_fault}
 use Rattle.trip_frequencies.specs.Frequencies.{repeats_of, frequency_rows}
 use Rattle.stop_times.specs.StopTimes.{timed_rows}
 use Rattle.stop_times.specs.Visits.{AreStopTimes}
-use Rattle.gtfs_tables.specs.Feeds.{FeedParts, IsSoundFeed}
+use Rattle.gtfs_tables.specs.Feeds.{FeedParts, IsSoundFeed, named_in}
 use Rattle.gtfs_tables.specs.Timed.{rows_of}
 use Rattle.service_days.specs.Services.{ServiceParts}
 use Rattle.connections.specs.TripRuns.{frequencies_of}
@@ -79,12 +79,9 @@ module _ (less more : FeedParts) (a : IsSoundFeed less) (b : IsSoundFeed more) (
 
     rows_same : rows_of more j ≡ rows_of less i
     rows_same =
-        let stops = stop_ids a.tables.stops in
-        let places = stop_places a.tables.stops in
-        let times : AreStopTimes (timed_rows (trip_ids b.tables.trips) stops places b.tables.stop_times) j (rows_of more j) =
-        subst (λ (s : Records). AreStopTimes (timed_rows (trip_ids b.tables.trips) (stop_ids s) (stop_places s) b.tables.stop_times) j (rows_of more j)) among.stops
-        (b.feed.times j same.there) in
-        sym (same_visits stops places a.tables.trips b.tables.trips a.tables.stop_times b.tables.stop_times i j same distinct_more distinct_less among.stop_times (rows_of less i) (rows_of more j)
+        let times : AreStopTimes (timed_rows (named_in b.tables.trips a.tables.stops) b.tables.stop_times) j (rows_of more j) =
+        subst (λ (s : Records). AreStopTimes (timed_rows (named_in b.tables.trips s) b.tables.stop_times) j (rows_of more j)) among.stops (b.feed.times j same.there) in
+        sym (same_visits a.tables.stops a.tables.trips b.tables.trips a.tables.stop_times b.tables.stop_times i j same distinct_more distinct_less among.stop_times (rows_of less i) (rows_of more j)
         (a.feed.times i same.here) times)
 
     repeats_same : RepeatToo (frequencies_of less i) (frequencies_of more j)
