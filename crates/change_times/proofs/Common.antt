@@ -14,7 +14,7 @@ pub use Rattle.plan_model.specs.declared.model.Way.{Way}
 pub use Rattle.table_files.specs.Loading.{loaded_rows}
 pub use Rattle.table_files.specs.Loading.{Records}
 pub use Rattle.table_files.specs.declared.loading.Loaded.{Loaded}
-pub use Rattle.change_times.specs.Changes.{AreCollectedChanges, AreReportedBySome, ChangeParts, change_seconds, fault_of_transfers, greatest_link, links_of}
+pub use Rattle.change_times.specs.Changes.{AreCollectedChanges, AreReportedBySome, ChangeParts, fault_of_transfers, greatest_link, links_of}
 pub use Rattle.change_times.specs.Walks.{greater}
 unfoldable pub use Rattle.change_times.specs.Walks.{greatest_below}
 pub use Rattle.change_times.specs.Links.{ComeBefore, link_from, ways_at}

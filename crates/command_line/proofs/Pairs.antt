@@ -1,5 +1,5 @@
 -- Words as a name, a value and the others.
-use Rattle.command_line.proofs.Common.{◌≡◌, ℕ, suc, ◌-◌, ◌<◌, ◌≤◌, List, [], ◌∷◌, length, map, string_bytes, arith, refl, ap, sym, ◌∙◌, Option, Some, None, Bool, true, false, take, drop, get_or}
+use Rattle.command_line.proofs.Common.{◌≡◌, ℕ, suc, ◌-◌, ◌<◌, ◌≤◌, List, ◌∷◌, length, map, string_bytes, arith, refl, ap, sym, ◌∙◌, Option, Some, None, Bool, true, false, take, drop, get_or}
 use Rattle.command_line.proofs.Common.{String, is_none, is_some, not, option_map, ◌&&◌, ◌==◌, bytes_eq, Global, OptionName, option_name, option_named, value_of, is_new, are_settings}
 use Rattle.std.proofs.Math.Seq.{take-length}
 

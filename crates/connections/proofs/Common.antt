@@ -1,7 +1,7 @@
 -- The names that most proofs of this crate cite, passed on from one place. Declares nothing.
 pub use Rattle.std.proofs.Common.{All, AllPairs, Bool, Contains, IfNone, IfSome, IsAscii, IsPermutation, IsSorted, List, None, Option, Ordering, SFits, Some, [], add-one, ap, append-nil}
 pub use Rattle.std.proofs.Common.{append_assoc, ap₂, arith, below_more, decimal, drop, false, get_or, if◌then◌else◌, inl, inr, int_le, is_lt, le-leb, le-ltb, leb-true, length, length-append, lt-ltb}
-pub use Rattle.std.proofs.Common.{ltb-false, ltb-true, map, max, min, nat_cmp, nat_le, nat_lt, negsuc, pos, refl, rules, slice_index, slice_index_or, subst, suc, sum_by, sym, take, true}
+pub use Rattle.std.proofs.Common.{ltb-true, map, max, min, nat_cmp, nat_le, nat_lt, negsuc, pos, refl, rules, slice_index, slice_index_or, subst, suc, sum_by, sym, take, true}
 pub use Rattle.std.proofs.Common.{unsigned_abs, w32, zero, ℕ, ℤ, ⊎_elim, ◌&&◌, ◌*◌, ◌++◌, ◌+ℤ◌, ◌+◌, ◌-◌, ◌<ℤ◌, ◌<◌, ◌^◌, ◌∙◌, ◌∷◌, ◌≡◌, ◌≢◌, ◌≤ℤ◌, ◌≤◌, ◌⊎◌}
 pub use Rattle.std.proofs.Math.Nat.{add-mul, le-mul_of_pos_right, mul-le-mul_right, suc-mul, zero-mul}
 pub use Rattle.std.proofs.lemmas.Bool.{and_from, and_parts, cases_Bool, cases_eq, cases_lt, cond_both, eqb-true, false_from_ne_true, lt-leb}
@@ -29,7 +29,7 @@ pub use Rattle.gtfs_tables.specs.Feeds.{FeedParts}
 pub use Rattle.gtfs_tables.specs.Timed.{AreTimed, IsTimed, kept_at, rows_of}
 pub use Rattle.gtfs_tables.specs.Timed.{AreRepeating, AreRepeats, IsFrequency, IsSmall, repeat_at}
 pub use Rattle.plan_model.proofs.Lists.{AllPairs-append, AllPairs-first, AllPairs-map, AllPairs-nil, AllPairs-one, AllPairs-tail}
-pub use Rattle.plan_model.specs.Bounds.{end_of_arrivals, end_of_steps, first_start, most_connections}
+pub use Rattle.plan_model.specs.Bounds.{end_of_arrivals, end_of_steps, most_connections}
 pub use Rattle.plan_model.specs.NameLists.{IsTrimmed, NameLists, NamesFit}
 pub use Rattle.plan_model.specs.Network.{AreLinksInto, IsValid, no_connection}
 unfoldable pub use Rattle.plan_model.specs.Network.{change_of, connection, row_of}
@@ -38,13 +38,13 @@ pub use Rattle.plan_model.specs.declared.model.Connection.{Connection}
 pub use Rattle.plan_model.specs.declared.model.PlaceId.{PlaceId}
 pub use Rattle.plan_model.specs.declared.model.Way.{Way}
 pub use Rattle.run_repeat.specs.Runs.{AreBelow, IsRunOf, departure}
-pub use Rattle.service_days.specs.Services.{ServiceParts, runs_at}
+pub use Rattle.service_days.specs.Services.{ServiceParts}
 pub use Rattle.stop_times.specs.StopTimeBounds.{end_of_times}
 pub use Rattle.stop_times.specs.declared.rows.StopRow.{StopRow}
 pub use Rattle.trip_frequencies.specs.declared.frequencies.FrequencyRow.{FrequencyRow}
 pub use Rattle.connections.specs.Counts.{HaveWays, count_in, each_of, entries_in, row_sum, runs_sum, steps_sum, trip_sum, window_sum}
 unfoldable pub use Rattle.connections.specs.Counts.{day_sum, days_sum, leaving_sum, rows_sum}
-pub use Rattle.connections.specs.FeedNetworks.{AreChanges, AreRunNames, IsRunName, arrives, class_of_trip, connection_from, route_of, start_text}
+pub use Rattle.connections.specs.FeedNetworks.{AreChanges, AreRunNames, IsRunName, class_of_trip, connection_from, route_of, start_text}
 unfoldable pub use Rattle.connections.specs.FeedNetworks.{connections_below, run_connections}
 pub use Rattle.connections.specs.FeedRuns.{AreRunsOf, HaveConnections, IsDay, IsRunOfFeed, IsSmallRepeat}
 pub use Rattle.connections.specs.Joins.{only_if}

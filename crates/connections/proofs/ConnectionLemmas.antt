@@ -1,9 +1,9 @@
 -- The connections of runs are in order, fit their places and classes, and each run has one.
-use Rattle.connections.proofs.Common.{common_steps, ◌≡◌, ℕ, suc, ◌+◌, ◌-◌, ◌<◌, ◌≤◌, ◌⊎◌, inl, inr, ℤ, pos, negsuc, ◌≤ℤ◌, List, length, map, get_or, slice_index, Some, All, refl, sym, ap, ◌∙◌, subst}
+use Rattle.connections.proofs.Common.{common_steps, ◌≡◌, ℕ, suc, ◌+◌, ◌-◌, ◌<◌, ◌≤◌, ◌⊎◌, inl, ℤ, pos, negsuc, ◌≤ℤ◌, List, length, map, get_or, slice_index, Some, All, refl, sym, ap, ◌∙◌, subst}
 use Rattle.connections.proofs.Common.{arith, AllPairs, unsigned_abs, ints, get_or_default, length-map, All-weaker, All-get_or, All-map, Contains-get_or, AllPairs-map, end_of_arrivals, end_of_steps}
 use Rattle.connections.proofs.Common.{most_connections, Connection, NameLists, IsTrimmed, NamesFit, IsValid, connection, no_connection, change_of, row_of, NetworkModel, plain_network, DelayLists}
-use Rattle.connections.proofs.Common.{StopRow, FeedParts, AreIds, rows_of, kept_at, AreTimed, IsTimed, Origin, Window, Run, join_below, IsWindow, departs, steps_of, run_at, run_steps, AreRunsOf}
-use Rattle.connections.proofs.Common.{HaveConnections, AreChanges, AreRunNames, arrives, connection_from, run_connections, connections_below, class_of_trip, route_of}
+use Rattle.connections.proofs.Common.{StopRow, FeedParts, AreIds, rows_of, AreTimed, IsTimed, Origin, Window, Run, join_below, IsWindow, steps_of, run_at, run_steps, AreRunsOf}
+use Rattle.connections.proofs.Common.{HaveConnections, AreChanges, AreRunNames, connection_from, run_connections, connections_below, class_of_trip, route_of}
 use Rattle.plan_model.proofs.Links.{AreLinks-none}
 use Rattle.plan_model.specs.declared.model.Outcome.{Outcome}
 use Rattle.delay_table.proofs.ClassBounds.{class_for-inside}

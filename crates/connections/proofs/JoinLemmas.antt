@@ -1,5 +1,5 @@
 -- Lists joined one after the other.
-use Rattle.connections.proofs.Common.{◌≡◌, ℕ, zero, suc, ◌+◌, ◌-◌, ◌<◌, ◌≤◌, Bool, true, false, List, [], ◌∷◌, ◌++◌, length, get_or, All, Contains, refl, sym, ap, subst, arith, inl, inr, ⊎_elim}
+use Rattle.connections.proofs.Common.{◌≡◌, ℕ, zero, suc, ◌+◌, ◌-◌, ◌<◌, ◌≤◌, Bool, true, List, [], ◌∷◌, ◌++◌, length, get_or, All, Contains, refl, sym, ap, subst, arith, inl, inr, ⊎_elim}
 use Rattle.connections.proofs.Common.{add-one, append-nil, append_assoc, length-append, AllPairs, cases_lt, cases_eq, All-nil, All-cons, All-append, All-get_or, All-weaker, Contains-append_left}
 use Rattle.connections.proofs.Common.{Contains-append_right, AllPairs-append, AllPairs-nil, AllPairs-one, list_below, list_below-zero, list_below-next, length-list_below, join_below, only_if}
 

@@ -1,5 +1,5 @@
 -- Runs of rows of frequencies in their order: a list has one order.
-use Rattle.connections.proofs.Common.{◌≡◌, ℕ, ◌+◌, ◌≤◌, Bool, true, false, List, [], ◌∷◌, get_or, All, refl, sym, ap, ap₂, ◌∙◌, arith, sum_by, if◌then◌else◌, AllPairs, Ordering, is_lt, nat_cmp}
+use Rattle.connections.proofs.Common.{◌≡◌, ℕ, ◌+◌, ◌≤◌, Bool, false, List, [], ◌∷◌, get_or, All, refl, sym, ap, ap₂, ◌∙◌, arith, sum_by, if◌then◌else◌, AllPairs, Ordering, is_lt, nat_cmp}
 use Rattle.connections.proofs.Common.{IsSorted, IsPermutation, cond_both, nat_tests, All-cons, All-head, All-tail, All-weaker, sum_by-cons, sum_by-le, AllPairs-nil, AllPairs-one, AllPairs-first}
 use Rattle.connections.proofs.Common.{AllPairs-tail, Repeat, repeat_precedes, with_repeat, in_order}
 use Rattle.std.specs.Ordering.{ordering_then}

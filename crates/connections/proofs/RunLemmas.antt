@@ -1,5 +1,5 @@
 -- The runs that depart in a window, by service day, position of the trip, and how they start.
-use Rattle.connections.proofs.Common.{◌≡◌, ℕ, ◌<ℤ◌, ◌<◌, ◌⊎◌, inl, inr, Bool, true, false, List, [], ◌∷◌, length, map, All, refl, sym, ◌∙◌, subst, arith, ⊎_elim, if◌then◌else◌, AllPairs, ltb-true}
+use Rattle.connections.proofs.Common.{◌≡◌, ℕ, ◌<ℤ◌, ◌<◌, ◌⊎◌, inl, inr, Bool, List, [], ◌∷◌, length, map, All, refl, sym, ◌∙◌, subst, arith, ⊎_elim, if◌then◌else◌, AllPairs, ltb-true}
 use Rattle.connections.proofs.Common.{ints, All-weaker, All-nil, All-get_or, All-map, same_Some, FrequencyRow, StopRow, FeedParts, AreRepeats, AreRepeating, rows_of, ServiceParts, ServiceDay, Repeat}
 use Rattle.connections.proofs.Common.{Run, Window, join_below, only_if, origin_of_day, day_at, IsWindow, is_active_trip, has_connection, steps_of, rows_repeats, in_order, frequencies_of, own_run}
 use Rattle.connections.proofs.Common.{repeat_run, runs_of_trip, trip_runs, day_runs, runs_below, window_runs, no_run, run_steps, days, IsRunOfFeed, AreRunsOf, HaveConnections, AllPairs-map}

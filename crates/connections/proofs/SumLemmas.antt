@@ -1,6 +1,6 @@
 -- Sums over the steps, the trips and the days of a window.
 use Rattle.connections.proofs.Common.{common_steps, ◌≡◌, ℕ, zero, suc, ◌+◌, ◌-◌, ◌*◌, ◌^◌, ◌<◌, ◌≤◌, min, Bool, true, false, List, [], ◌∷◌, length, get_or, if◌then◌else◌, refl, sym, ap, ◌∙◌, arith}
-use Rattle.connections.proofs.Common.{⊎_elim, sum_by, nat_lt, ◌&&◌, pos, ◌≤ℤ◌, le-mul_of_pos_right, suc-mul, add-mul, zero-mul, fun_ext, cases_lt, cases_Bool, cond_both, and_parts, ints, get_or_past}
+use Rattle.connections.proofs.Common.{⊎_elim, sum_by, nat_lt, ◌&&◌, pos, ◌≤ℤ◌, le-mul_of_pos_right, add-mul, zero-mul, fun_ext, cases_lt, cases_Bool, cond_both, and_parts, ints, get_or_past}
 use Rattle.connections.proofs.Common.{sum_by-cons, All-get_or, PlaceId, Way, ChangeParts, links_of, AreLinksInto, FrequencyRow, StopRow, FeedParts, end_of_times, IsFrequency, AreRepeats}
 use Rattle.connections.proofs.Common.{AreRepeating, IsSmall, repeat_at, rows_of, kept_at, IsTimed, departure, ServiceParts, ServiceDay, Origin, Repeat, Window, only_if, sum_below, origin_of_day}
 use Rattle.connections.proofs.Common.{holds, day_at, IsWindow, departs, is_active_trip, steps_below, steps_of, origin_at, repeat_of, is_repeat, row_repeats, frequencies_of, days, each_of, steps_sum}

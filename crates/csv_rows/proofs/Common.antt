@@ -1,9 +1,9 @@
 -- The names that most proofs of this crate cite, passed on from one place. Declares nothing.
 pub use Rattle.std.proofs.Common.{All, AllPairs, Bool, Bor, Contains, Decides, Err, IfErr, IfNone, IfSome, IsErr, IsErrAnd, IsPermutation, IsSorted, IsUtf8, List, None, Ok, Option, Ordering, Result}
 pub use Rattle.std.proofs.Common.{Some, [], add-one, ap, append_assoc, ap₂, arith, below_more, bytes_eq, drop, drop-drop, eq-eqb, eq-or-lt_of_le, eqb, eqb-true, false, get_or, get_or-drop}
-pub use Rattle.std.proofs.Common.{if◌then◌else◌, inl, inr, is_lt, length, length-append, length-drop, lt-ltb, map, nat_cmp, nat_lt, ne_eqb, not, option_map, refl, reverse, rules, slice_get}
+pub use Rattle.std.proofs.Common.{if◌then◌else◌, inl, is_lt, length, length-append, length-drop, lt-ltb, map, nat_cmp, nat_lt, ne_eqb, not, option_map, refl, reverse, rules, slice_get}
 pub use Rattle.std.proofs.Common.{slice_index_or, subst, suc, sym, take, true, true≢false, zero, ℕ, ⊎_elim, ◌&&◌, ◌++◌, ◌+◌, ◌-◌, ◌<◌, ◌==◌, ◌^◌, ◌||◌, ◌∙◌, ◌∷◌, ◌≡◌, ◌≢◌, ◌≤◌, ◌⊎◌}
-pub use Rattle.std.proofs.lemmas.Bool.{and_from, and_parts, both_ways, cases_Bool, cases_lt, eqb-false, false_from_ne_true, false≢true, ltb-false, ltb-true, not-true, not_from_false}
+pub use Rattle.std.proofs.lemmas.Bool.{and_from, and_parts, both_ways, cases_Bool, cases_lt, eqb-false, false_from_ne_true, ltb-false, ltb-true, not-true, not_from_false}
 pub use Rattle.std.proofs.lemmas.Bool.Decides.{Decides-below_or, nat_tests}
 pub use Rattle.std.proofs.lemmas.Grind.{common_steps}
 pub use Rattle.std.proofs.lemmas.List.{drop-append-le, get_or-map, get_or_append_left, get_or_default, get_or_push, length-map, map-append, reverse-append, reverse-reverse, take-append-le, take_more}

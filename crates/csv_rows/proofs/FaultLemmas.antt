@@ -1,8 +1,6 @@
 -- In which table a fault is, and the first of several.
-use Rattle.std.proofs.Common.{arith}
-use Rattle.csv_rows.proofs.Common.{◌≡◌, ℕ, ◌<◌, Option, Some, None, IfSome, Result, Ok, Err, IfErr, sym, ap, ◌∙◌, subst, IsErr, IsErrAnd, ⊤, option_or, Table, FeedFault, first_below, IsFirstFault}
+use Rattle.csv_rows.proofs.Common.{◌≡◌, ℕ, ◌<◌, Option, None, Result, IfErr, ap, ◌∙◌, IsErr, IsErrAnd, ⊤, option_or, Table, FeedFault, first_below, IsFirstFault, MatchResult, arith}
 use Rattle.csv_rows.proofs.Common.{ReportsFirst}
-use Rattle.std.proofs.Common.{MatchResult}
 use Rattle.csv_rows.proofs.FirstLemmas.{first-at}
 
 -- what a step that failed says of its error holds of what `?` passes on
@@ -11,11 +9,6 @@ match_raised Q P r h p = grind arith
 
 pub if_raised : {A E : Type 0} {e : E} (P : E → Type 0) (r : Result A E) → IsErr r × IsErrAnd r (λ raised. raised ≡ e) → P e → IfErr r P
 if_raised P r h p = match_raised ⊤ P r h p
-
--- the same for another statement
-pub some_raised : {F A E : Type 0} (o : Option F) (e : E) (P : F → E → Type 0) (r : Result A E) → IsErr r × IsErrAnd r (λ raised. raised ≡ e)
-    → IfSome o (λ m. P m e) → IfSome o (λ m. IfErr r (P m))
-some_raised o e P r h p = grind (arith, if_raised)
 
 -- the fault of a step is that of the steps of which it is the first
 module _ {table : Table} (a b : Option FeedFault) (fault : FeedFault) where

@@ -1,6 +1,5 @@
 -- Whatever the form in which records are written, they are read.
-use Rattle.std.proofs.Common.{arith}
-use Rattle.csv_rows.proofs.Common.{◌≡◌, ◌≢◌, ◌⊎◌, ℕ, Bool, true, false, List, [], ◌∷◌, ◌++◌, Some, None, inl, inr, refl, sym, ap, subst, ◌∙◌, ◌==◌, ◌||◌, map, append_assoc, cases_Bool}
+use Rattle.csv_rows.proofs.Common.{◌≡◌, ◌≢◌, ◌⊎◌, ℕ, Bool, true, false, List, [], ◌∷◌, ◌++◌, Some, None, refl, sym, ap, subst, ◌∙◌, ◌==◌, ◌||◌, map, append_assoc, cases_Bool, arith}
 use Rattle.csv_rows.proofs.Common.{and_parts, eqb-true, false_from_ne_true, list_any, trimmed_text, table_of, Reached, default_config, strip_bom}
 use Rattle.std.specs.List.{list_all}
 use Rattle.csv.specs.Machine.{Read, next_record, after_end}

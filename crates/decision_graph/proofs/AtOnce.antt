@@ -1,5 +1,5 @@
 -- A journey that is at its target when it begins.
-use Rattle.decision_graph.proofs.Common.{◌≡◌, ℕ, ◌<◌, ◌≤◌, [], Option, Some, None, MatchOption, MatchOption-at_some, true, refl, sym, subst, arith, ◌==◌, nat_tests, Scoring, ScoreLaws, Leg, Query, NetworkModel, Tree, Done, Ride, Stuck}
+use Rattle.decision_graph.proofs.Common.{◌≡◌, ℕ, ◌<◌, ◌≤◌, [], Option, Some, None, MatchOption, MatchOption-at_some, refl, sym, subst, arith, nat_tests, Scoring, ScoreLaws, Leg, Query, NetworkModel, Tree, Done, Ride, Stuck}
 use Rattle.decision_graph.proofs.Common.{IsSafeFor, ExpandedGraph, RideTable, IsBestBy, IsNoneSafe, IsExpandedBy, HasSteadyChoice}
 use Rattle.std.proofs.lemmas.List.Elements.{All-nil}
 use Rattle.decision_graph.specs.Planned.{no_rides}

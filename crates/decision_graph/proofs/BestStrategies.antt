@@ -1,12 +1,10 @@
 -- From what a scan promises to a best strategy.
-use Rattle.std.proofs.Common.{arith}
-use Rattle.decision_graph.proofs.Common.{◌≡◌, ◌≢◌, List, Some, sym, ◌∙◌, subst, MatchOption-at_some, Leg, Query, NetworkModel, Tree, ExpandedGraph, unfold_expanded, Scoring, FollowsRules}
+use Rattle.decision_graph.proofs.Common.{◌≡◌, ◌≢◌, List, Some, ◌∙◌, MatchOption-at_some, Leg, Query, NetworkModel, Tree, ExpandedGraph, Scoring, FollowsRules, arith}
 use Rattle.decision_graph.proofs.Common.{IsByRules, IsBestBy, IsNoneSafe, IsExpandedBy, HasSteadyChoice}
 use Rattle.plan_model.specs.declared.model.ConnectionId.{ConnectionId}
 use Rattle.plan_model.specs.Order.{IsScanOrder}
 use Rattle.meat_scan.specs.ScanResult.{ScanResult, chosen_by, leg_choice}
 use Rattle.meat_scan.specs.Solves.{Solves, IsStartAnswer}
-use Rattle.meat_scan.proofs.Ruled.{by_rules}
 use Rattle.leg_extract.specs.Extracted.{IsExtracted}
 
 -- the graph of the choices of a scan, from its start leg on

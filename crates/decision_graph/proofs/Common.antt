@@ -1,5 +1,5 @@
 -- The names that most proofs of this crate cite, passed on from one place. Declares nothing.
-pub use Rattle.std.proofs.Common.{List, MatchOption, None, Option, Some, [], ap, arith, inl, inr, mul-le-mul_right, nat_le, refl, subst, sym, true, ℕ, ◌*◌, ◌+◌, ◌<◌, ◌==◌, ◌^◌, ◌∙◌, ◌≡◌, ◌≢◌, ◌≤◌}
+pub use Rattle.std.proofs.Common.{List, MatchOption, None, Option, Some, [], ap, arith, inl, inr, mul-le-mul_right, nat_le, refl, subst, sym, true, ℕ, ◌*◌, ◌+◌, ◌<◌, ◌^◌, ◌∙◌, ◌≡◌, ◌≢◌, ◌≤◌}
 pub use Rattle.std.proofs.lemmas.Bool.Decides.{nat_tests}
 pub use Rattle.std.proofs.lemmas.Option.{MatchOption-at_some}
 pub use Rattle.decision_graph.specs.Planned.{HasSteadyChoice, IsExpanded, IsExpandedBy, IsNoneSafe}

@@ -1,5 +1,5 @@
 -- Plans by one deadline and by another.
-use Rattle.decision_graph.proofs.Common.{◌≡◌, ℕ, ◌+◌, ◌*◌, ◌^◌, ◌<◌, ◌≤◌, Some, arith, inl, inr, mul-le-mul_right, Interval, NetworkModel, Query, IsSafeFor, IsLeastWorst, Tree, worst, height}
+use Rattle.decision_graph.proofs.Common.{◌≡◌, ℕ, ◌+◌, ◌*◌, ◌^◌, ◌<◌, ◌≤◌, Some, arith, inl, inr, mul-le-mul_right, Interval, NetworkModel, Query, IsLeastWorst, Tree, worst, height}
 use Rattle.decision_graph.proofs.Common.{PlanGraph, unfold_plan, IsBest, IsPlanned}
 use Rattle.std.proofs.lemmas.Bool.{cases_lt}
 use Rattle.std.proofs.Math.Nat.{one-le-pow}

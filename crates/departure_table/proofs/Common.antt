@@ -1,16 +1,16 @@
 -- The names that most proofs of this crate cite, passed on from one place. Declares nothing.
-pub use Rattle.std.proofs.Common.{All, AllPairs, IsSome, List, MatchOption, None, Option, Some, [], ap, append-nil, append_assoc, arith, false, inl, inr, length, length-append, map, nat_le, refl}
-pub use Rattle.std.proofs.Common.{if◌then◌else◌, replicate, slice_index_or, take, take_all, subst, suc, sym, true, zero, ℕ, ⊎_elim, ◌++◌, ◌+◌, ◌-◌, ◌<◌, ◌↔◌, ◌∙◌, ◌∷◌, ◌≡◌, ◌≢◌, ◌≤◌, ◌==◌, ◌⊎◌}
+pub use Rattle.std.proofs.Common.{All, AllPairs, IsSome, List, MatchOption, None, Option, Some, [], ap, append-nil, append_assoc, arith, false, inl, inr, length, map, nat_le, refl}
+pub use Rattle.std.proofs.Common.{replicate, slice_index_or, take, take_all, subst, suc, sym, true, zero, ℕ, ⊎_elim, ◌++◌, ◌+◌, ◌-◌, ◌<◌, ◌↔◌, ◌∙◌, ◌∷◌, ◌≡◌, ◌≢◌, ◌≤◌, ◌==◌, ◌⊎◌}
 pub use Rattle.std.proofs.lemmas.Bool.{cases_eq, cases_lt, cases_order}
 pub use Rattle.std.proofs.lemmas.Bool.Decides.{nat_tests}
 pub use Rattle.std.specs.List.{range_with_len}
 pub use Rattle.plan_model.specs.Bounds.{end_of_arrivals}
-pub use Rattle.plan_model.specs.Gates.{FitGates, HasGates, IsGate, extended_by, links_with_gates, places_with, source_at, way_from, way_if_to, ways_from_gates}
-pub use Rattle.plan_model.specs.Network.{AreLinksInto, IsValid, arr_of, count, dep_of, from_of, links_into}
+pub use Rattle.plan_model.specs.Gates.{FitGates, HasGates, IsGate, extended_by, links_with_gates, places_with, source_at, way_from, ways_from_gates}
+pub use Rattle.plan_model.specs.Network.{AreLinksInto, IsValid, arr_of, count, dep_of, links_into}
 pub use Rattle.plan_model.specs.Network.{NetworkModel, plain_network}
 pub use Rattle.plan_model.specs.Strategy.{IsLeastWorst, IsLeg}
 pub use Rattle.plan_model.specs.Tree.{Done, Kids, Ride, Stuck, Tree}
-pub use Rattle.plan_model.specs.Ways.{own_way, way_in, way_of, ways_into}
+pub use Rattle.plan_model.specs.Ways.{way_of}
 pub use Rattle.plan_model.specs.declared.model.Connection.{Connection}
 pub use Rattle.plan_model.specs.declared.model.Leg.{Leg}
 pub use Rattle.plan_model.specs.declared.model.Moment.{Moment}

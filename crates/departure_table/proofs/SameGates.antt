@@ -1,20 +1,18 @@
 -- A scan finds the same at the gates of one source, whatever other gates there are.
-use Rattle.departure_table.proofs.Common.{◌≡◌, ℕ, zero, suc, ◌+◌, ◌-◌, ◌<◌, ◌≤◌, ◌==◌, arith, inl, inr, Option, Some, None, List, [], ◌∷◌, length, All, refl, ap, sym, ◌∙◌, if◌then◌else◌, nat_tests}
-use Rattle.departure_table.proofs.Common.{Query, PlaceId, NetworkModel, IsValid, MeanSpan, way_of, extended_by, source_at, FitGates, row_found, row_of_choice, DepartureRow, AreLooked}
+use Rattle.departure_table.proofs.Common.{◌≡◌, ℕ, zero, suc, ◌+◌, ◌<◌, ◌≤◌, ◌==◌, arith, inl, inr, Option, Some, List, [], ◌∷◌, length, All, refl, ap, sym, ◌∙◌, nat_tests}
+use Rattle.departure_table.proofs.Common.{Query, PlaceId, NetworkModel, IsValid, MeanSpan, way_of, extended_by, source_at, FitGates, row_found, DepartureRow, AreLooked}
 unfoldable use Rattle.plan_model.specs.Network.{connection, row_of}
-use Rattle.std.specs.Option.{option_map}
 use Rattle.plan_model.specs.Network.{count}
 use Rattle.plan_model.specs.Order.{IsScanOrder}
 use Rattle.plan_model.specs.declared.model.ConnectionId.{ConnectionId}
 use Rattle.plan_model.specs.declared.model.Outcome.{Outcome}
 use Rattle.plan_model.proofs.ScanOrders.{has_each_id}
 use Rattle.stop_profile.specs.declared.Row.{Row}
-use Rattle.stop_profile.specs.Inserts.{row_in_time}
-use Rattle.trip_exit.specs.Offers.{Exit, exit_after_offer}
+use Rattle.trip_exit.specs.Offers.{Exit}
 use Rattle.value_laws.specs.ScoreLaws.{Scoring}
 use Rattle.value_laws.specs.Means.{mean_scoring}
 use Rattle.meat_scan.specs.Rules.{Kept, kept_after, kept_next, FollowsRules}
-use Rattle.meat_scan.specs.ScanResult.{ScanResult, found_rows}
+use Rattle.meat_scan.specs.ScanResult.{ScanResult}
 use Rattle.meat_scan.specs.Step.{exits_with}
 use Rattle.meat_scan.specs.Step.{values_after}
 use Rattle.plan_model.proofs.GateWays.{same_ways, from_the_gate}

@@ -1,7 +1,7 @@
 -- What is said of a gate is said of its source in the network.
-use Rattle.departure_table.proofs.Common.{◌≡◌, ℕ, zero, ◌≤◌, arith, Option, Some, List, [], ◌∷◌, true, refl, subst, MatchOption, nat_le, ◌↔◌, nat_tests, Query, Moment}
+use Rattle.departure_table.proofs.Common.{◌≡◌, ℕ, zero, ◌≤◌, arith, Option, List, [], ◌∷◌, true, refl, MatchOption, nat_le, ◌↔◌, nat_tests, Query, Moment}
 use Rattle.departure_table.proofs.Common.{NetworkModel, IsGate, IsValid, count, Tree, DepartureRow, IsASecondAway, SafeAfter, SafeFrom, IsNoneSafeFrom, IsBestFrom, IsTable, IsGreatestMoment}
-use Rattle.departure_table.proofs.Common.{IsExtendedFor, SaysOfSource, first_row_by}
+use Rattle.departure_table.proofs.Common.{IsExtendedFor, SaysOfSource}
 use Rattle.plan_model.proofs.Views.{seen, leg_there}
 use Rattle.plan_model.proofs.GateTrees.{gate_there, gate_back}
 

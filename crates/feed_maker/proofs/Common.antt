@@ -1,6 +1,6 @@
 -- The names that most proofs of this crate cite, passed on from one place. Declares nothing.
 pub use Rattle.std.proofs.Common.{Bool, Err, IfSome, List, None, Ok, Option, Result, Some, [], add-one, ap, append-nil, append_assoc, arith, bytes_eq, codes, decimal, drop, false, flat_map}
-pub use Rattle.std.proofs.Common.{if◌then◌else◌, length, refl, rules, slice_get, string_bytes, subst, suc, sym, take, take-append-drop, true, vec_capacity, vec_len, zero, zero-add, ℕ, ◌%◌, ◌*◌}
+pub use Rattle.std.proofs.Common.{if◌then◌else◌, length, refl, rules, slice_get, string_bytes, suc, sym, take, take-append-drop, true, vec_capacity, vec_len, zero, zero-add, ℕ, ◌%◌, ◌*◌}
 pub use Rattle.std.proofs.Common.{◌++◌, ◌+◌, ◌-◌, ◌/◌, ◌<◌, ◌∙◌, ◌∷◌, ◌≡◌, ◌≤◌}
 pub use Rattle.std.proofs.lemmas.Slice.Eq.{bytes_eq-Decides}
 pub use Rattle.feed_maker.specs.MadeTables.{SameFolder}

@@ -1,6 +1,5 @@
 -- A file that comes after another one.
-use Rattle.std.proofs.Common.{arith}
-use Rattle.feed_maker.proofs.Common.{◌≡◌, ℕ, List, ◌∷◌, Bool, true, false, refl, ap, sym, ◌∙◌, Option, Some, Result, Ok, Err, if◌then◌else◌, bytes_eq, bytes_eq-Decides, FileMap, file_at, Opens}
+use Rattle.feed_maker.proofs.Common.{◌≡◌, ℕ, List, ◌∷◌, Bool, true, false, refl, ap, sym, ◌∙◌, Option, Some, Result, Ok, Err, if◌then◌else◌, bytes_eq, bytes_eq-Decides, FileMap, file_at, Opens, arith}
 use Rattle.file_ports.specs.declared.ports.Presence.{Presence}
 use Rattle.file_ports.specs.declared.ports.Presence.TheVariants.{Present, Absent}
 

@@ -4,11 +4,11 @@ pub use Rattle.std.proofs.Common.{nat_cmp, ne_eqb, refl, slice_index_or, slice_s
 pub use Rattle.std.proofs.lemmas.Bool.{cases_eq, cases_lt}
 pub use Rattle.std.proofs.lemmas.Grind.{common_steps}
 pub use Rattle.std.proofs.lemmas.List.{at_drop_more, get_or-map, length-map, map-set}
-pub use Rattle.std.proofs.lemmas.List.Elements.{All-cons, All-contains, All-head, All-nil, All-tail, All-weaker, Contains-get_or}
+pub use Rattle.std.proofs.lemmas.List.Elements.{All-contains, All-head, All-nil, All-tail, Contains-get_or}
 pub use Rattle.std.proofs.lemmas.Map.Lookups.{CmpEqualImpliesEq, exact_pairs, exact_unsigned}
 pub use Rattle.graph_compact.specs.RowsByPlace.{gathered_rows, lists_of, put_rows, row_cmp, rows_in, tables_of, with_ride, with_table}
 pub use Rattle.plan_graph.proofs.Orders.{leg_cmp-Less, leg_cmp-exact, leg_cmp-total, nat_cmp-Less, ordering_then-Less}
-pub use Rattle.plan_graph.specs.Ready.{IsByLimits, IsFirstInTime, IsLegOf, IsPickedAfter, IsPruned, IsReadyRide, IsReadyRow, IsSafeForSome, Stands}
+pub use Rattle.plan_graph.specs.Ready.{IsFirstInTime, IsLegOf, IsPickedAfter, IsPruned, IsReadyRide, IsSafeForSome, Stands}
 pub use Rattle.plan_graph.specs.Walked.{leg_cmp, row_by}
 pub use Rattle.plan_graph.specs.declared.GraphRow.{GraphRow}
 pub use Rattle.plan_graph.specs.declared.PlaceTable.{PlaceTable}

@@ -1,11 +1,10 @@
 -- The graph by place unfolds to the same tree, and is tidy.
 use Rattle.graph_compact.proofs.Common.{◌≡◌, ◌≢◌, ℕ, suc, ◌+◌, ◌≤◌, ◌<◌, List, [], ◌∷◌, length, Option, Some, Contains, All, AllPairs, arith, sym, subst, refl, inl, inr, ◌∙◌, ap, ap₂}
-use Rattle.graph_compact.proofs.Common.{slice_index_or, MatchOption, nat_cmp, Less, ne_eqb, eq-eqb, common_steps, cases_eq, All-nil, All-cons, All-weaker, All-contains, Contains-get_or}
-use Rattle.graph_compact.proofs.Common.{exact_unsigned, Leg, NetworkModel, end_of, arrival_of, outcomes_of, unfolding_of, by_place, GraphRow, Ride, PlaceTable, IsReadyRide, IsReadyRow, IsPruned}
-use Rattle.graph_compact.proofs.Common.{IsByLimits, IsPickedAfter, IsLegOf, IsFirstInTime, IsSafeForSome, Stands, row_by, leg_cmp, All-from_contains, AllPairs-nil, nat_cmp-Less}
+use Rattle.graph_compact.proofs.Common.{slice_index_or, MatchOption, nat_cmp, Less, ne_eqb, eq-eqb, common_steps, cases_eq, All-nil, All-contains, Contains-get_or}
+use Rattle.graph_compact.proofs.Common.{exact_unsigned, Leg, NetworkModel, end_of, arrival_of, outcomes_of, unfolding_of, by_place, GraphRow, Ride, PlaceTable, IsReadyRide, IsPruned}
+use Rattle.graph_compact.proofs.Common.{IsPickedAfter, IsLegOf, IsFirstInTime, IsSafeForSome, Stands, row_by, leg_cmp, All-from_contains, AllPairs-nil, nat_cmp-Less}
 use Rattle.graph_compact.proofs.Common.{ordering_then-Less, leg_cmp-Less, row_cmp, with_table, gathered_rows, tables_of}
 use Rattle.std.proofs.lemmas.Bool.Decides.{nat_tests}
-use Rattle.std.proofs.lemmas.List.Kept.{AllPairs-cons}
 use Rattle.std.proofs.lemmas.Map.Keys.{Less-from_sorted}
 use Rattle.plan_model.specs.declared.model.Outcome.{Outcome}
 use Rattle.plan_model.specs.declared.model.Query.{Query}
@@ -70,13 +69,6 @@ module _ (T : ℕ → List GraphRow) where
     pub low : base ≤ table.place.0
     pub rows : table.rows ≡ T table.place.0
     pub some : 1 ≤ length table.rows
-
-  lower : (base : ℕ) (tables : List PlaceTable) → All (IsTableOf (base + 1)) tables → All (IsTableOf base) tables
-  lower base tables = All-weaker (IsTableOf (base + 1)) (IsTableOf base) (λ t found. record { low = omega (arith, found.low); rows = found.rows; some = found.some }) tables
-
-  with_first : (base : ℕ) (rows : List GraphRow) (tables : List PlaceTable) → rows ≡ T base → All (IsTableOf (base + 1)) tables → AllPairs ByPlace tables
-      → All (IsTableOf base) (with_table base rows tables) × AllPairs ByPlace (with_table base rows tables)
-  with_first base rows tables h1 h2 h3 = grind (arith, All-cons, AllPairs-cons, All-weaker)
 
   -- the tables are such, and rise
   pub tables_found : (base : ℕ) (lists : List (List GraphRow)) → AreFrom base lists → All (IsTableOf base) (tables_of base lists) × AllPairs ByPlace (tables_of base lists)

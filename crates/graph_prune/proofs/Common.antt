@@ -1,5 +1,5 @@
 -- The names that most proofs of this crate cite, passed on from one place. Declares nothing.
-pub use Rattle.std.proofs.Common.{All, AllPairs, Bool, Contains, List, MatchOption, None, Option, Some, [], ap, append-nil, ap₂, arith, drop, false, get_or, if◌then◌else◌, inl, inr, length, map}
+pub use Rattle.std.proofs.Common.{All, AllPairs, Bool, Contains, List, MatchOption, None, Option, Some, [], ap, append-nil, arith, drop, false, get_or, if◌then◌else◌, inl, inr, length, map}
 pub use Rattle.std.proofs.Common.{option_map, refl, slice_index_or, subst, sym, true, ℕ, ◌++◌, ◌+◌, ◌<◌, ◌∙◌, ◌∷◌, ◌≡◌, ◌≢◌, ◌≤◌}
 pub use Rattle.std.proofs.lemmas.Bool.Decides.{nat_tests}
 pub use Rattle.std.proofs.lemmas.List.Elements.{All-contains, All-head, All-map, All-tail}

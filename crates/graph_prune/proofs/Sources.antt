@@ -1,6 +1,5 @@
 -- What a ready graph picks.
-use Rattle.std.proofs.Common.{arith}
-use Rattle.graph_prune.proofs.Common.{◌≡◌, ◌≢◌, ℕ, List, Option, Some, Contains, All, sym, subst, ◌∙◌, ap, MatchOption, All-contains, Leg, Outcome, Query, NetworkModel, end_of, arrival_of}
+use Rattle.graph_prune.proofs.Common.{◌≡◌, ◌≢◌, ℕ, List, Option, Some, Contains, All, sym, subst, ◌∙◌, ap, MatchOption, All-contains, Leg, Outcome, Query, NetworkModel, end_of, arrival_of, arith}
 use Rattle.graph_prune.proofs.Common.{outcomes_of, GraphRow, Ride, ExpandedGraph, pick_row, pick_after, HasRisingRides, IsReady, IsReadyRide, IsReadyRow, IsLegOf, pick_in_time, ride_there}
 use Rattle.graph_prune.proofs.Common.{IsKeptAfter}
 use Rattle.graph_prune.proofs.Limits.{in_time_kept}

@@ -1,5 +1,5 @@
 -- What is known of the exits that were looked at, the last ones first.
-use Rattle.graph_score.proofs.Common.{◌≡◌, ◌≢◌, ℕ, zero, suc, ◌+◌, ◌-◌, ◌<◌, ◌≤◌, true, false, List, [], ◌∷◌, ◌++◌, length, set, Option, Some, None, All, Contains, arith, sym, subst, refl, inl, inr}
+use Rattle.graph_score.proofs.Common.{◌≡◌, ◌≢◌, ℕ, zero, suc, ◌+◌, ◌-◌, ◌<◌, ◌≤◌, false, List, [], ◌∷◌, ◌++◌, length, set, Option, Some, None, All, Contains, arith, sym, subst, refl, inl, inr}
 use Rattle.graph_score.proofs.Common.{◌∙◌, ap, append_assoc, slice_index_or, ◌==◌, get_or-set_other, get_or-set_same, append-nil, length-set, cases_lt, cases_eq, nat_tests, All-contains}
 use Rattle.graph_score.proofs.Common.{Contains-append_right, Departure, Leg, Outcome, Query, NetworkModel, IsValid, count, dep_of, arr_of, EachKid, departure_of, Tree, Done, Stuck, end_of}
 use Rattle.graph_score.proofs.Common.{kids_after, boards_later, Contains-cons_cases, Contains-from_map, PlaceTable, PlanGraph, pick_at, rows_of_place, IsLegOf, rows_of_place-by, row_of_pick}

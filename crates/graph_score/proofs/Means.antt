@@ -1,5 +1,5 @@
 -- The bounds of a tree that is safe enclose its expected arrival, and are not farther apart than its rides are nested.
-use Rattle.graph_score.proofs.Common.{◌≡◌, ℕ, suc, ◌+◌, ◌-◌, ◌*◌, ◌^◌, ◌<◌, ◌≤◌, List, [], ◌∷◌, map, length, Option, All, arith, refl, ap, All-cons, All-nil, Outcome, NetworkModel, IsValid, count}
+use Rattle.graph_score.proofs.Common.{◌≡◌, ℕ, ◌+◌, ◌-◌, ◌*◌, ◌^◌, ◌<◌, ◌≤◌, List, [], ◌∷◌, map, length, Option, All, arith, refl, All-cons, All-nil, Outcome, NetworkModel, IsValid, count}
 use Rattle.graph_score.proofs.Common.{to_of, arr_of, outcomes, EachKid, Tree, Done, Ride, Stuck, Kids, Nil, Kid, height, height_of, IsSafe, AreSafe, Interval, span_of, spans_of}
 use Rattle.std.proofs.Math.Nat.{mul_assoc}
 use Rattle.plan_model.specs.Bounds.{nanos_per_second}

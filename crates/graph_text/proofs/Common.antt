@@ -1,7 +1,7 @@
 -- The names that most proofs of this crate cite, passed on from one place. Declares nothing.
 pub use Rattle.std.proofs.Common.{All, AllPairs, Bool, Err, Global, IfSome, IsErr, IsErrAnd, IsSome, List, MatchOption, None, Ok, Option, Result, Some, Vec, [], ap, append-nil, append_assoc, arith}
 pub use Rattle.std.proofs.Common.{codes, decimal, drop, eq-eqb, eqb, eqb-true, false, if◌then◌else◌, inl, inr, is_some, le-leb, leb-true, length, lt-ltb, ltb-true, map, nat_le, ne_eqb}
-pub use Rattle.std.proofs.Common.{option_and_then, option_map, refl, slice_index_or, subst, suc, sym, take, true, zero, ℕ, ◌&&◌, ◌++◌, ◌+◌, ◌-◌, ◌<◌, ◌==◌, ◌^◌, ◌∙◌, ◌∷◌, ◌≡◌, ◌≢◌, ◌≤◌, ◌⊎◌}
+pub use Rattle.std.proofs.Common.{option_and_then, option_map, refl, slice_index_or, subst, suc, sym, take, true, ℕ, ◌&&◌, ◌++◌, ◌+◌, ◌-◌, ◌<◌, ◌==◌, ◌^◌, ◌∙◌, ◌∷◌, ◌≡◌, ◌≢◌, ◌≤◌, ◌⊎◌}
 pub use Rattle.std.proofs.lemmas.Bool.{and_parts, cases_eq, false≢true}
 pub use Rattle.std.proofs.lemmas.List.Elements.{All-cons, All-contains, All-head, All-map, All-nil, All-tail}
 pub use Rattle.clock_text.proofs.OneText.{if_cases, some_cases}
@@ -31,7 +31,7 @@ pub use Rattle.printed_rows.specs.Records.{place_name, run_name, text_of_records
 unfoldable pub use Rattle.printed_rows.specs.Records.{row_of_fields}
 pub use Rattle.graph_text.specs.Asked.{IsHeadOf}
 pub use Rattle.graph_text.specs.GraphRows.{AreGraphRows, AreLegRows, AreTableRows, IsHeadRow, IsLegRow, IsPlaceRow, IsTextOf, is_head, is_place, version_in}
-pub use Rattle.graph_text.specs.GraphTexts.{leg_fields, leg_row, place_row, plan_text, plan_text_in, ride_text, rides_text, rows_text, table_text, tables_text}
+pub use Rattle.graph_text.specs.GraphTexts.{leg_fields, leg_row, plan_text, plan_text_in, ride_text, rides_text, rows_text, tables_text}
 pub use Rattle.graph_text.specs.Printable.{IsPrintableExpanded, IsPrintablePlan, IsPrintableQuery}
 pub use Rattle.graph_text.specs.Reading.{IsPlaced, IsReadAs, IsUnlessNoMemory, after_leg_row, after_place_row, agrees, are_in_order, can_start, equals_limit, graph_after_first, graph_of}
 pub use Rattle.graph_text.specs.Reading.{graph_of_records, head_in, head_numbers, head_of, head_row_in, is_by_limit, leg_between, leg_found, leg_names, leg_numbers, leg_row_in, names_in, no_tables}

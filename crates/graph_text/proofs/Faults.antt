@@ -1,7 +1,7 @@
 -- The first fault of a text is that of its first row that breaks a rule, or of the first row that is missing.
 use Rattle.graph_text.proofs.Common.{◌≡◌, ◌≢◌, ℕ, suc, ◌+◌, ◌-◌, Bool, true, false, List, [], ◌∷◌, Option, Some, None, IsSome, is_some, Result, Ok, Err, arith, sym, subst, refl, ◌∙◌, ap, ◌==◌}
 use Rattle.graph_text.proofs.Common.{if◌then◌else◌, codes, inl, inr, ◌⊎◌, option_map, eqb-true, eq-eqb, ne_eqb, leb-true, le-leb, nat_le, false≢true, and_parts, cases_eq, moment_at, nanos_at}
-use Rattle.graph_text.proofs.Common.{if_cases, and_then, require, require-ok, Leg, PlaceId, NetworkModel, NameLists, IsValid, change_of, dep_of, GraphRow, PlanGraph, field, is_kind, whole_at}
+use Rattle.graph_text.proofs.Common.{if_cases, and_then, require, require-ok, Leg, PlaceId, NetworkModel, NameLists, IsValid, GraphRow, PlanGraph, field, is_kind, whole_at}
 use Rattle.graph_text.proofs.Common.{number_of, rises, is_query, Head, TextFault, LegRow, LegNames, PlaceRow, HeadRow, TableStart, Reading, Version, width_of, is_place, is_head, version_in, IsLegRow}
 use Rattle.graph_text.proofs.Common.{IsPlaceRow, leg_numbers, leg_row_in, names_in, leg_found, is_by_limit, can_start, row_in, start_in, place_numbers, place_row_in, table_in, head_numbers}
 use Rattle.graph_text.proofs.Common.{head_row_in, head_in, step, after_place_row, after_leg_row, place_tables_from, no_tables, started_in, graph_after_first, graph_of_records}

@@ -3,7 +3,7 @@ use Rattle.graph_text.proofs.Common.{◌≡◌, ℕ, ◌≤◌, Bool, true, List
 use Rattle.graph_text.proofs.Common.{eqb-true, eq-eqb, leb-true, le-leb, false≢true, and_parts, moment_at, nanos_at, if_cases, some_cases, require-ok, Leg, NetworkModel, NameLists, IsValid}
 use Rattle.graph_text.proofs.Common.{change_of, connection, run_of, step_of, from_of, to_of, dep_of, arr_of, limit_of, GraphRow, IsLegOf, IsFitRow, Head, Version, LegRow, LegNames, PlaceRow, HeadRow}
 use Rattle.graph_text.proofs.Common.{TableStart, leg_names, names_in, leg_numbers, leg_row_in, leg_found, leg_between, agrees, equals_limit, can_start, is_by_limit, start_in, row_in, place_numbers}
-use Rattle.graph_text.proofs.Common.{place_row_in, table_in, are_in_order, head_numbers, head_row_in, head_of, head_in, width_of, IsHeadOf, is_place, is_head, version_in, IsLegRow, IsPlaceRow}
+use Rattle.graph_text.proofs.Common.{place_row_in, table_in, are_in_order, head_numbers, head_row_in, head_of, head_in, width_of, IsHeadOf, is_head, version_in, IsLegRow, IsPlaceRow}
 use Rattle.graph_text.proofs.Common.{IsHeadRow, is_query, connection_of, number_of, rises, field, whole_at, is_kind, if-value}
 use Rattle.printed_rows.proofs.Found.{connection_back, connection_holds}
 

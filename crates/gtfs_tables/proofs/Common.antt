@@ -1,13 +1,12 @@
 -- The names that most proofs of this crate cite, passed on from one place. Declares nothing.
-pub use Rattle.std.proofs.Common.{AllPairs, Bool, Err, IfOk, IfSome, IsErr, List, None, Ok, Option, Result, Some, [], ap, ap₂, arith, eq-eqb, false, filter, if◌then◌else◌, length, map}
-pub use Rattle.std.proofs.Common.{option_and_then, refl, slice_index, slice_index_or, subst, suc, sum_by, sym, true, unwrap_or, zero, ℕ, ◌++◌, ◌+◌, ◌<◌, ◌==◌, ◌∙◌, ◌∷◌, ◌≡◌, ◌≢◌, ◌≤◌}
-pub use Rattle.std.proofs.lemmas.Bool.{cases_lt}
+pub use Rattle.std.proofs.Common.{AllPairs, Bool, Err, IfSome, List, None, Ok, Option, Result, Some, [], ap, arith, false, filter, if◌then◌else◌, length, map}
+pub use Rattle.std.proofs.Common.{option_and_then, refl, slice_index, slice_index_or, subst, suc, sum_by, sym, unwrap_or, zero, ℕ, ◌+◌, ◌<◌, ◌==◌, ◌∙◌, ◌∷◌, ◌≡◌, ◌≤◌}
 pub use Rattle.table_files.proofs.ReadingLemmas.{own-of, reads-after, reads-both, reads-fault, reads-raised, reads-value}
 pub use Rattle.csv_rows.proofs.ListLemmas.{get-list_below, length-list_below, list_below-next, list_below-zero}
 pub use Rattle.csv_rows.specs.Tables.{field, field_at, number_in, row_count}
 pub use Rattle.csv_rows.specs.declared.columns.Column.TheVariants.{EndTime, ExactTimes, HeadwaySecs, StartTime, StopId, TripId}
 pub use Rattle.csv_rows.specs.declared.feed_tables.FeedFault.{FeedFault}
-pub use Rattle.csv_rows.specs.declared.feed_tables.FeedFault.TheVariants.{BadField, NoMemory, UnknownKey}
+pub use Rattle.csv_rows.specs.declared.feed_tables.FeedFault.TheVariants.{BadField, UnknownKey}
 pub use Rattle.csv_rows.specs.declared.feed_tables.Table.TheVariants.{Frequencies, Routes, StopTimes, Stops, Trips}
 pub use Rattle.feed_lists.specs.Stops.{parent_of, place_from, stop_ids, stop_places}
 pub use Rattle.feed_lists.specs.Trips.{trip_ids, trips_fault}

@@ -1,6 +1,6 @@
 -- The tables of a feed, one after the other.
-use Rattle.gtfs_tables.proofs.Common.{◌≡◌, ℕ, ◌==◌, false, List, None, sym, ap, ap₂, ◌∙◌, subst, arith, Result, Ok, Err, and_then, Stops, Routes, Trips}
-use Rattle.gtfs_tables.proofs.Common.{StopTimes, Frequencies, FeedFault, Loaded, load_in, stop_ids, trip_ids, trips_fault, fault_of_frequencies, frequencies_from, Tables, tables_by}
+use Rattle.gtfs_tables.proofs.Common.{◌≡◌, ℕ, ◌==◌, false, List, None, sym, ap, ◌∙◌, subst, arith, Result, Ok, Err, and_then, Stops, Routes, Trips}
+use Rattle.gtfs_tables.proofs.Common.{StopTimes, Frequencies, FeedFault, Loaded, load_in, trips_fault, fault_of_frequencies, frequencies_from, Tables, tables_by}
 use Rattle.gtfs_tables.proofs.Common.{tables_from, tables_in, IsFeed, IsFeedOf, IsSoundFeed, length-list_below, and_then-err}
 use Rattle.file_ports.specs.Ports.{FileMap}
 use Rattle.csv_rows.specs.declared.feed_tables.Table.{Table}

@@ -1,6 +1,6 @@
 -- The rows of frequencies of a feed's trips are within their bounds, and their lines rise.
-use Rattle.gtfs_tables.proofs.Common.{◌≡◌, ℕ, ◌+◌, ◌<◌, ◌≤◌, ◌==◌, Bool, true, false, List, [], map, length, slice_index_or, Option, Some, None, if◌then◌else◌, filter, refl, sym, ap, ◌∙◌, subst}
-use Rattle.gtfs_tables.proofs.Common.{arith, Result, Ok, Err, option_and_then, AllPairs, eq-eqb, cases_lt, value_or, TripId, StartTime, EndTime, HeadwaySecs, ExactTimes, Frequencies, FeedFault}
+use Rattle.gtfs_tables.proofs.Common.{◌≡◌, ℕ, ◌+◌, ◌<◌, ◌≤◌, ◌==◌, Bool, List, [], map, length, slice_index_or, Option, Some, None, if◌then◌else◌, filter, refl, sym, ap, ◌∙◌, subst}
+use Rattle.gtfs_tables.proofs.Common.{arith, Result, Ok, option_and_then, AllPairs, value_or, TripId, StartTime, EndTime, HeadwaySecs, ExactTimes, Frequencies, FeedFault}
 use Rattle.gtfs_tables.proofs.Common.{BadField, UnknownKey, Loaded, loaded_rows, row_count, number_in, field, field_at, length-list_below, get-list_below, FrequencyRow, FeedParts, IsSoundFeed}
 use Rattle.gtfs_tables.proofs.Common.{frequency_from, frequency_columns, frequency_at, frequency_rows, bad_frequency, no_frequency, frequencies_fault, fault_of_frequencies, repeats_of, IsFrequency}
 use Rattle.gtfs_tables.proofs.Common.{AreRepeats, AreRepeating, trip_ids, require-ok}
@@ -10,7 +10,6 @@ use Rattle.std.proofs.lemmas.List.Kept.{AllPairs-filter}
 use Rattle.std.specs.Result.{result_err}
 use Rattle.clock_text.specs.Digits.{whole_of}
 use Rattle.clock_text.specs.Times.{time_at}
-use Rattle.table_files.specs.declared.loading.Loaded.TheVariants.{Absent, NoRecord, Found}
 use Rattle.csv_rows.specs.Lists.{first_below}
 use Rattle.csv_rows.specs.Ids.{name_in}
 use Rattle.csv_rows.proofs.FirstLemmas.{first-zero, none-both, none-each}
@@ -25,9 +24,6 @@ use Rattle.clock_text.proofs.DigitLemmas.{whole_bound}
 record IsFormed (line : ℕ) (r : TripFrequency) : Type 0 where
   bounds : IsFrequency r.row
   line_is : r.row.line ≡ line
-
-not_zero : (m n : ℕ) (b : Bool) → (m == 0) ≡ b → (if b then None else Some m) ≡ Some n → (m ≡ n) × (1 ≤ n)
-not_zero m n b e h = grind (arith, eq-eqb, cases_lt)
 
 headway_some : (o : Option ℕ) (n : ℕ) → option_and_then (λ seconds. if seconds == 0 then None else Some seconds) o ≡ Some n → (o ≡ Some n) × (1 ≤ n)
 headway_some o n h = grind arith

@@ -1,9 +1,7 @@
 -- The tables of a feed are no larger than they may be.
-use Rattle.gtfs_tables.proofs.Common.{◌≡◌, ℕ, zero, suc, ◌+◌, ◌<◌, ◌≤◌, ◌==◌, Bool, true, false, List, [], ◌∷◌, ◌++◌, length, sum_by, if◌then◌else◌, refl, sym, ap, ◌∙◌, arith, cases_lt}
+use Rattle.gtfs_tables.proofs.Common.{◌≡◌, ℕ, zero, suc, ◌+◌, ◌≤◌, ◌==◌, List, [], ◌∷◌, length, sum_by, if◌then◌else◌, ap, arith}
 use Rattle.gtfs_tables.proofs.Common.{list_below-zero, list_below-next, length-list_below, FrequencyRow, IsSmall, repeats_in, all_repeats_in, feed_parts_of, IsWholeFeed}
-use Rattle.std.proofs.lemmas.Bool.Decides.{nat_tests}
 use Rattle.std.proofs.lemmas.List.Sums.{sum_by_push}
-use Rattle.csv_rows.specs.Lists.{list_below}
 use Rattle.gtfs_tables.specs.declared.feed.Feed.TheInside.{Inside}
 
 abbrev total : List ℕ → List FrequencyRow → ℕ → ℕ
@@ -27,18 +25,9 @@ total-nothing : (t : ℕ) (trips : List ℕ) (n : ℕ) → total (t ∷ trips) [
 total-nothing t trips zero = total-zero (t ∷ trips) []
 total-nothing t trips (suc n) = omega (arith, total-suc (t ∷ trips) [] n, total-nothing t trips n)
 
-here : (same : Bool) (row : FrequencyRow) (rest : List FrequencyRow) → length (if same then row ∷ rest else rest) ≡ length rest + (if same then 1 else 0)
-here same row rest = grind arith
-
 -- one row more is of one trip at most, which is or is not among the first n
 abbrev once : ℕ → ℕ → ℕ
 once t n = if t == n then 1 else 0
-
-once_is : (t n : ℕ) (b : Bool) → b ≡ (t == n) → ((if b then 1 else 0) ≤ 1) × (n < t → (if b then 1 else 0) ≤ 0) × (t < n → (if b then 1 else 0) ≤ 0)
-once_is t n b e = grind (arith, nat_tests)
-
-one_more : (t n a b c d e f : ℕ) → a ≡ b + c → d ≡ e + f → c ≡ f + once t n → b ≤ e + 1 → (n ≤ t → b ≤ e) → (a ≤ d + 1) × (suc n ≤ t → a ≤ d)
-one_more t n a b c d e f h k l m p = grind (arith, once_is, cases_lt)
 
 total-more : (t : ℕ) (trips : List ℕ) (row : FrequencyRow) (rows : List FrequencyRow) (n : ℕ)
     → (total (t ∷ trips) (row ∷ rows) n ≤ total trips rows n + 1) × (n ≤ t → total (t ∷ trips) (row ∷ rows) n ≤ total trips rows n)

@@ -1,5 +1,5 @@
 -- The bounds of a plan, and those that `check` finds of its graph.
-use Rattle.journey_answers.proofs.Common.{◌≡◌, ℕ, ◌+◌, ◌/◌, ◌≤◌, arith, Option, Some, List, [], ◌∷◌, refl, sym, ◌∙◌, ap, Outcome, Query, NetworkModel, to_of, arr_of, outcomes, nanos_per_second}
+use Rattle.journey_answers.proofs.Common.{◌≡◌, ℕ, ◌+◌, ◌/◌, ◌≤◌, arith, Option, List, [], ◌∷◌, refl, ap, Outcome, Query, NetworkModel, to_of, arr_of, outcomes, nanos_per_second}
 use Rattle.journey_answers.proofs.Common.{Tree, Done, Ride, Stuck, Kids, Nil, Kid, IsSafe, AreSafe, IsSafeFor}
 use Rattle.interval_fixed.specs.Interval.{Interval}
 use Rattle.interval_fixed.specs.Interval.{weighted_lo, weighted_hi}

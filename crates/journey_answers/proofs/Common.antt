@@ -1,5 +1,5 @@
 -- The names that most proofs of this crate cite, passed on from one place. Declares nothing.
-pub use Rattle.std.proofs.Common.{All, Bool, Err, List, MatchOption, None, Option, Result, Some, [], ap, arith, false, if◌then◌else◌, inl, inr, length, nat_le, refl, slice_index_or, subst, suc, sym, true, zero}
+pub use Rattle.std.proofs.Common.{All, Bool, Err, List, MatchOption, None, Option, Result, Some, [], ap, arith, if◌then◌else◌, inl, inr, length, nat_le, refl, slice_index_or, subst, suc, sym, true, zero}
 pub use Rattle.std.proofs.Common.{ℕ, ◌*◌, ◌+◌, ◌-◌, ◌/◌, ◌<◌, ◌==◌, ◌∙◌, ◌∷◌, ◌≡◌, ◌≢◌, ◌≤◌}
 pub use Rattle.std.proofs.lemmas.Option.{MatchOption-at_some}
 pub use Rattle.decision_graph.specs.Planned.{IsNoneSafe}
@@ -18,7 +18,7 @@ pub use Rattle.journey_report.specs.Findings.{findings_of}
 pub use Rattle.plan_graph.specs.Unfold.{unfold_plan}
 pub use Rattle.plan_graph.specs.declared.PlanGraph.{PlanGraph}
 pub use Rattle.plan_model.specs.Bounds.{last_start, nanos_per_second, seconds_per_day}
-pub use Rattle.plan_model.specs.Network.{IsValid, arr_of, connection, count, outcomes, to_of}
+pub use Rattle.plan_model.specs.Network.{IsValid, arr_of, count, outcomes, to_of}
 pub use Rattle.plan_model.specs.Network.{NetworkModel}
 pub use Rattle.plan_model.specs.Strategy.{AreSafe, IsSafe, IsSafeFor, IsSafeFromStart}
 pub use Rattle.plan_model.specs.Tree.{Done, Kid, Kids, Nil, Ride, Stuck, Tree}

@@ -1,5 +1,5 @@
 -- The departures, and the bounds of a reach, are those that the rules give.
-use Rattle.journey_answers.proofs.Common.{◌≡◌, ℕ, ◌+◌, ◌*◌, ◌<◌, arith, List, [], ◌∷◌, All, length, subst, Query, NetworkModel, DepartureRow, Problem, IsRuled, AreByRules, added_query}
+use Rattle.journey_answers.proofs.Common.{◌≡◌, ℕ, ◌*◌, ◌<◌, arith, List, [], ◌∷◌, All, length, subst, Query, NetworkModel, DepartureRow, Problem, IsRuled, AreByRules, added_query}
 use Rattle.value_laws.specs.declared.MeanSpan.{MeanSpan}
 use Rattle.meat_scan.specs.ScanResult.{ScanResult}
 use Rattle.plan_model.specs.Gates.{extended_by}

@@ -1,10 +1,10 @@
 -- A reach does not depend on the source of its query, and has a text.
-use Rattle.journey_answers.proofs.Common.{ℕ, ◌<◌, ◌≤◌, arith, length, slice_index_or, All, List, Option, None, Some, MatchOption, Query, NetworkModel, IsValid}
+use Rattle.journey_answers.proofs.Common.{ℕ, arith, slice_index_or, All, List, Option, MatchOption, Query, NetworkModel, IsValid}
 use Rattle.plan_model.specs.NameLists.{NameLists, NamesFit}
 use Rattle.journey_report.specs.DepartureTexts.{IsPrintable}
 use Rattle.departure_table.proofs.EachRow.{each_row, leaves_early}
 use Rattle.departure_table.specs.Looked.{asked_at}
-use Rattle.departure_table.specs.Reach.{IsReach, IsReachRow, row_of_place}
+use Rattle.departure_table.specs.Reach.{IsReach, IsReachRow}
 use Rattle.departure_table.specs.declared.reach_rows.ReachRow.{ReachRow}
 
 module _ (m : NetworkModel) (q : Query) (x start : ℕ) where

@@ -1,6 +1,5 @@
 -- A search that has a least worst arrival has a safe strategy.
-use Rattle.std.proofs.Common.{arith}
-use Rattle.journey_answers.proofs.Common.{◌≡◌, Option, Some, None, ◌≤◌, ℕ, MatchOption, subst, Moment, Query, NetworkModel, IsNoneSafe, Problem, IsWorst, IsQueryOf, InQuery}
+use Rattle.journey_answers.proofs.Common.{◌≡◌, Option, None, ◌≤◌, ℕ, MatchOption, subst, Moment, Query, NetworkModel, IsNoneSafe, Problem, IsWorst, IsQueryOf, InQuery, arith}
 use Rattle.std.proofs.Math.Logic.{∥∥₁_elim}
 use Rattle.plan_model.proofs.Laws.{safe_exists}
 

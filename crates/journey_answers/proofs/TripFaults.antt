@@ -1,5 +1,5 @@
 -- The fault of a trip, and where it is.
-use Rattle.journey_answers.proofs.Common.{◌≡◌, ℕ, List, None, Some, Result, Err, sym, subst, arith, refl, ◌≢◌, ◌<◌, ◌≤◌, length, Query, PlanGraph, IsAnswer, Replay, NoMemory, unread_input}
+use Rattle.journey_answers.proofs.Common.{◌≡◌, ℕ, List, None, Some, Result, Err, sym, subst, arith, ◌≢◌, ◌<◌, ◌≤◌, length, Query, PlanGraph, IsAnswer, Replay, NoMemory, unread_input}
 use Rattle.journey_answers.proofs.Common.{last_printable, HasSite, Problem, parts_of, last_start, arrivals, places, replay_as, IsSafeTrip, trip_by, IsTripFault}
 use Rattle.graph_text.specs.declared.Head.{Head}
 use Rattle.trip_replay.specs.declared.ReplayFault.{ReplayFault}

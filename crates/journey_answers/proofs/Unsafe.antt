@@ -1,6 +1,6 @@
 -- Where one may fail by a graph: at a place of the network, at a moment that has a text.
-use Rattle.journey_answers.proofs.Common.{◌≡◌, ℕ, zero, suc, ◌+◌, ◌-◌, ◌<◌, ◌≤◌, List, [], ◌∷◌, length, Bool, true, false, Option, Some, None, inl, inr, refl, sym, subst, arith, All}
-use Rattle.journey_answers.proofs.Common.{if◌then◌else◌, ◌==◌, MatchOption-at_some, Outcome, Query, NetworkModel, IsValid, count, connection, arr_of, Tree, Done, Stuck, PlanGraph, unfold_plan}
+use Rattle.journey_answers.proofs.Common.{◌≡◌, ℕ, zero, suc, ◌+◌, ◌-◌, ◌<◌, ◌≤◌, List, [], ◌∷◌, length, Bool, Option, Some, inl, inr, sym, subst, arith, All}
+use Rattle.journey_answers.proofs.Common.{if◌then◌else◌, ◌==◌, MatchOption-at_some, Outcome, Query, NetworkModel, IsValid, count, arr_of, Tree, Done, Stuck, PlanGraph, unfold_plan}
 use Rattle.journey_answers.proofs.Common.{IsUnsafe, Problem, last_start, seconds_per_day, last_printable}
 use Rattle.std.proofs.lemmas.List.Elements.{All-head, All-tail}
 use Rattle.plan_model.specs.declared.model.Leg.{Leg}

@@ -27,9 +27,9 @@ pub use Rattle.file_ports.proofs.CauseLemmas.{causes-idle, causes-next, causes-o
 pub use Rattle.file_ports.specs.Ports.{FileMap, FilesState, file_at}
 pub use Rattle.gtfs_tables.specs.Feeds.{FeedParts, IsFeed, IsFeedOf, Tables, tables_from}
 unfoldable pub use Rattle.gtfs_tables.specs.Feeds.{tables_in}
-pub use Rattle.journey_model.specs.Faults.{IsFirst, MayBeUnread, is_unread_input, unread_input}
+pub use Rattle.journey_model.specs.Faults.{IsFirst, MayBeUnread, unread_input}
 pub use Rattle.journey_model.specs.declared.faults.Fault.{Fault}
-pub use Rattle.journey_model.specs.declared.faults.Fault.TheVariants.{Delays, Limit, Missing, NoMemory, Read, UnknownStop}
+pub use Rattle.journey_model.specs.declared.faults.Fault.TheVariants.{Delays, NoMemory, Read, UnknownStop}
 pub use Rattle.journey_model.specs.declared.faults.Input.{Input}
 pub use Rattle.journey_model.specs.declared.problem.Problem.{Problem}
 pub use Rattle.plan_model.proofs.SameParts.{same_parts}

@@ -1,5 +1,5 @@
 -- The steps of reading a feed, put together.
-use Rattle.journey_problem.proofs.Common.{arith, ◌≡◌, ℕ, List, Option, Some, None, Result, subst, ◌≢◌, IfOk, IfErr, OnOk, IfSome, FileMap, file_at, Limits, place_of_stop, IsNetworkFrom, DelayLists}
+use Rattle.journey_problem.proofs.Common.{arith, ◌≡◌, ℕ, List, Option, Some, None, Result, ◌≢◌, IfOk, IfErr, OnOk, IfSome, FileMap, file_at, Limits, place_of_stop, IsNetworkFrom, DelayLists}
 use Rattle.journey_problem.proofs.Common.{AreDelays, JourneyModel, source_or_target, Input, Fault, NoMemory, Problem, MayBeUnread, unread_input, AreDelaysOf, delay_fault, GtfsFolder, IsFolder}
 use Rattle.journey_problem.proofs.Common.{IsSoundFolder, IsWindowFault, IsFaultAfterFolder, IsFeedProblem, HasFeedTimetable, window_fault_of}
 

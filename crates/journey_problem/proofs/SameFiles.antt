@@ -1,7 +1,7 @@
 -- Files that agree at the paths of a journey, or have the same records there, have the same problems and the same faults.
-use Rattle.journey_problem.proofs.Common.{◌≡◌, ℕ, ◌≤◌, ap, sym, subst, ◌∙◌, List, length, Bool, false, if◌then◌else◌, Option, None, Result, Err, IfSome, IsOkAnd, option_map, inl, inr, fun_ext}
+use Rattle.journey_problem.proofs.Common.{◌≡◌, ℕ, ◌≤◌, ap, sym, subst, ◌∙◌, List, length, false, if◌then◌else◌, Option, None, Result, Err, IfSome, IsOkAnd, option_map, inl, inr, fun_ext}
 use Rattle.journey_problem.proofs.Common.{FileMap, file_at, Limits, path_of, unread_table, FeedFault, FeedParts, tables_in, tables_from, IsFeedOf, calendars_in, RunsBy, runs, AreCollectedChanges}
-use Rattle.journey_problem.proofs.Common.{table_of, SourceModel, CutFile, FeedFolder, JourneyModel, Problem, Fault, Read, Delays, Input, unread_input, is_unread_input, DelayLists, AreDelaysOf}
+use Rattle.journey_problem.proofs.Common.{table_of, SourceModel, CutFile, FeedFolder, JourneyModel, Problem, Fault, Delays, Input, unread_input, DelayLists, AreDelaysOf}
 use Rattle.journey_problem.proofs.Common.{delay_fault, first_cut_fault, first_delay_fault, fault_in, cut_as, stop_fault, cut_records, delay_records, cut_problem_fault, Records, bytes_present, path_by}
 use Rattle.journey_problem.proofs.Common.{arith, GtfsFolder, IsFolder, IsFeedProblem, IsCutProblem, IsFolderFault, IsLaterTableFault, IsFaultAfterFolder, IsFeedProblemFault, IsProblem, IsProblemOver}
 use Rattle.journey_problem.proofs.Common.{IsProblemFault, IsProblemFaultOver}

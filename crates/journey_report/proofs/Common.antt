@@ -1,5 +1,5 @@
 -- The names that most proofs of this crate cite, passed on from one place. Declares nothing.
-pub use Rattle.std.proofs.Common.{All, Bool, Global, IfOk, List, Result, Vec, [], ap, append-nil, arith, decimal, drop, false, length, refl, slice_index_or, subst, sum_by, sym, take, true, ℕ, ◌*◌}
+pub use Rattle.std.proofs.Common.{All, Bool, Global, IfOk, List, Result, Vec, [], ap, append-nil, arith, decimal, drop, length, refl, slice_index_or, subst, sum_by, sym, take, true, ℕ, ◌*◌}
 pub use Rattle.std.proofs.Common.{◌++◌, ◌+◌, ◌<◌, ◌==◌, ◌^◌, ◌||◌, ◌∙◌, ◌∷◌, ◌≡◌, ◌≤◌}
 pub use Rattle.std.proofs.lemmas.List.{at_drop_all}
 pub use Rattle.clock_text.specs.Civil.{moment_text, nanos_text}

@@ -1,5 +1,5 @@
 -- The rows of a trip.
-use Rattle.journey_report.proofs.Common.{◌≡◌, ℕ, ◌+◌, ◌<◌, ◌≤◌, List, [], ◌∷◌, ◌++◌, length, drop, Bool, true, false, arith, refl, sym, ap, ◌∙◌, All, ◌==◌, ◌||◌, append-nil, at_drop_all}
+use Rattle.journey_report.proofs.Common.{◌≡◌, ℕ, ◌+◌, ◌<◌, ◌≤◌, List, [], ◌∷◌, ◌++◌, length, drop, Bool, true, arith, refl, sym, ap, ◌∙◌, All, ◌==◌, ◌||◌, append-nil, at_drop_all}
 use Rattle.journey_report.proofs.Common.{NetworkModel, NameLists, Ridden, rides_text, arrived_text}
 use Rattle.std.specs.List.{list_any}
 use Rattle.std.proofs.lemmas.Bool.Decides.{nat_tests}
@@ -7,7 +7,6 @@ use Rattle.std.proofs.lemmas.List.Elements.{All-head, All-tail}
 use Rattle.plan_model.specs.declared.model.Outcome.{Outcome}
 use Rattle.plan_model.specs.Network.{connection, IsValid}
 use Rattle.plan_model.specs.Bounds.{seconds_per_day}
-use Rattle.plan_model.specs.Unfold.{outcomes_of}
 use Rattle.trip_replay.specs.Rides.{IsRidden, arrival_after, place_after}
 use Rattle.plan_model.specs.declared.model.Moment.{Moment}
 use Rattle.journey_model.specs.Sites.{last_printable}

@@ -22,7 +22,7 @@ use Rattle.plan_graph.proofs.Tables.{table_away, table_there, by_for}
 use Rattle.plan_graph.proofs.Graphs.{IsKeptAfter, ready, busy, table_of_ride, picks_taken}
 use Rattle.value_laws.specs.ScoreLaws.{Scoring}
 use Rattle.meat_scan.specs.ScanResult.{ScanResult, choice_of, leg_choice, chosen_by}
-use Rattle.meat_scan.specs.Solves.{HasAnswers, SolvesEach, IsStartAnswer, IsSafeAt}
+use Rattle.meat_scan.specs.Solves.{HasAnswers, SolvesEach, IsSafeAt}
 use Rattle.leg_extract.specs.Extracted.{IsExtracted, HasArrivals}
 
 module _ {V : Type 0} {scoring : Scoring V} (n : NetworkModel) (q : Query) (found : ScanResult V) (answers : HasAnswers scoring n q found) where

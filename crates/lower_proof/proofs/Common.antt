@@ -1,6 +1,6 @@
 -- The names that most proofs of this crate cite, passed on from one place. Declares nothing.
 pub use Rattle.std.proofs.Common.{All, AllPairs, Bool, Contains, Err, Global, IfOk, IsPermutation, IsSorted, IsTrue, List, None, Ok, OnOk, Option, Ordering, Result, Some, Vec, [], ap, append-nil}
-pub use Rattle.std.proofs.Common.{append_assoc, arith, codes, cond, count_by, decimal, drop, eq-eqb, ext_get_or, false, get_or, get_or-set_other, get_or-set_same, get_or-take, if◌then◌else◌, inl}
+pub use Rattle.std.proofs.Common.{append_assoc, arith, codes, cond, count_by, decimal, drop, eq-eqb, ext_get_or, get_or, get_or-set_other, get_or-set_same, get_or-take, if◌then◌else◌, inl}
 pub use Rattle.std.proofs.Common.{inr, is_lt, is_some, le-leb, le-ltb, leb-false, leb-true, length, length-set, length-take, lt-ltb, ltb, ltb-true, map, max, nat_cmp, nat_le, option_and_then}
 pub use Rattle.std.proofs.Common.{option_map, refl, reverse, rules, set, slice_get, slice_index_or, subst, suc, sum_by, sym, take, take_all, take_at, true, zero, ℕ, ◌*◌, ◌++◌, ◌+◌, ◌-◌, ◌/◌, ◌<◌}
 pub use Rattle.std.proofs.Common.{◌^◌, ◌∙◌, ◌∷◌, ◌≡◌, ◌≢◌, ◌≤◌, ◌⊎◌}
@@ -8,7 +8,7 @@ pub use Rattle.std.proofs.Math.Nat.{le-max_left, max-le, mul-add, mul-le-mul_lef
 pub use Rattle.std.proofs.lemmas.Bool.{both_ways, cases_Bool, cases_eq, cases_lt, cases_order}
 pub use Rattle.std.proofs.lemmas.Bool.Decides.{nat_tests}
 pub use Rattle.std.proofs.lemmas.List.{drop_all, get_or-reverse, get_or_append_left, get_or_at, get_or_default, get_or_past, get_or_read, length_push, map-append, take_more}
-pub use Rattle.std.proofs.lemmas.List.Elements.{All-contains, All-map, All-pop, All-push, Contains-append_left, Contains-append_right}
+pub use Rattle.std.proofs.lemmas.List.Elements.{All-contains, All-map, All-push, Contains-append_left, Contains-append_right}
 pub use Rattle.std.proofs.lemmas.List.Sorted.{All-permutation, Contains-permutation, IsPartitionPoint-from_clause, IsPermutation-trans, length_permutation, ranks_by, sorted_far}
 pub use Rattle.std.proofs.lemmas.List.Sums.{count_by-le-length, sum_by-cons}
 pub use Rattle.std.specs.Result.{result_err}
@@ -48,6 +48,6 @@ pub use Rattle.lower_proof.specs.declared.LowerBounds.{LowerBounds}
 pub use Rattle.lower_proof.specs.declared.board.Entry.{Entry}
 pub use Rattle.lower_proof.specs.declared.reader.BoundsRow.{BoundsRow}
 pub use Rattle.lower_proof.specs.declared.reader.ProofFault.{ProofFault}
-pub use Rattle.lower_proof.specs.declared.reader.ProofFault.TheVariants.{NoConnection, NoMemory, NotRising, OtherQuery, Row, UnknownName}
+pub use Rattle.lower_proof.specs.declared.reader.ProofFault.TheVariants.{NoMemory, Row}
 pub use Rattle.lower_proof.specs.declared.reader.RowValue.{RowValue}
 pub use Rattle.lower_proof.specs.declared.reader.ValueRow.{ValueRow}

@@ -1,6 +1,5 @@
 -- The deadline of a certificate that is read has a text.
-use Rattle.std.proofs.Common.{arith}
-use Rattle.lower_proof.proofs.Common.{◌≡◌, ℕ, ◌≤◌, List, Option, Some, Ok, subst, ap, sym, ◌∙◌, nat_le, last_printable, header, require-ok, Query, NetworkModel, NameLists, field, whole_at, number_of}
+use Rattle.lower_proof.proofs.Common.{◌≡◌, ℕ, ◌≤◌, List, Option, Some, Ok, subst, ap, sym, ◌∙◌, nat_le, last_printable, header, require-ok, Query, NetworkModel, NameLists, field, whole_at, number_of, arith}
 use Rattle.lower_proof.proofs.Common.{is_query, if-value, BoundsRow, bounds_numbers, is_bounds, bounds_row_in, bounds_in, IsProofReported}
 use Rattle.clock_text.specs.Times.{moment_at}
 use Rattle.clock_text.proofs.OneText.{if_cases, some_cases}

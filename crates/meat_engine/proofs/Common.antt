@@ -16,7 +16,7 @@ pub use Rattle.journey_model.specs.Known.{parts_of}
 pub use Rattle.journey_model.specs.Sites.{HasSite, NamedParts}
 pub use Rattle.journey_model.specs.Faults.{OrNoMemory}
 pub use Rattle.journey_model.specs.declared.faults.Fault.{Fault}
-pub use Rattle.journey_model.specs.declared.faults.Fault.TheVariants.{Limit, Missing, NoMemory, NoSafe, Read, Words, Write}
+pub use Rattle.journey_model.specs.declared.faults.Fault.TheVariants.{NoMemory, NoSafe, Read, Write}
 pub use Rattle.journey_model.specs.declared.faults.Input.{Input}
 pub use Rattle.journey_model.specs.declared.problem.Problem.{Problem}
 pub use Rattle.journey_problem.proofs.NoFaults.{no_fault, none_unread}
@@ -30,4 +30,4 @@ pub use Rattle.journey_problem.specs.Paths.{no_path}
 pub use Rattle.meat_engine.specs.Ends.{EndsByCertificateFile, EndsByGraphFile, EndsBySafety, EndsByScore}
 pub use Rattle.meat_engine.specs.Received.{AnswersJob, FailsJob, HasAnswer, IsExplained, IsLineWritten, IsRefused, IsRefusedWith, IsWritten, Outcome, path_in}
 pub use Rattle.meat_engine.specs.Refusals.{IsRefusalBy, known_of}
-pub use Rattle.meat_engine.specs.Samples.{AnswersSampled, FailsSample, sample_alpha, sample_journey}
+pub use Rattle.meat_engine.specs.Samples.{FailsSample, sample_alpha, sample_journey}

@@ -1,5 +1,5 @@
 -- A question about a problem ends as the problem says.
-use Rattle.meat_engine.proofs.Common.{arith, ◌≡◌, ℕ, refl, ap, subst, inl, inr, List, Option, Some, ◌⊎◌, FileMap, Limits, JourneyModel, AskModel, Safe, Expand, Plan, Replays, Certify, CheckProof}
+use Rattle.meat_engine.proofs.Common.{arith, ◌≡◌, ℕ, ap, subst, inl, inr, List, Option, Some, ◌⊎◌, FileMap, Limits, JourneyModel, AskModel, Safe, Expand, Plan, Replays, Certify, CheckProof}
 use Rattle.meat_engine.proofs.Common.{CheckGraph, Punctual, Departures, Latest, Reach, Input, Fault, Read, status_of, NamedParts, Problem, IsProblem, IsProblemFault, none_unread, IsQueryOf, IsNoSafe}
 use Rattle.meat_engine.proofs.Common.{AnswersAsk, FailsAsk, EndsAsk, FailsJourney, FailsCheck, FailsReplay, FailsScore, EndsBySafety, EndsByGraphFile, EndsByCertificateFile, EndsByScore, Findings}
 use Rattle.plan_model.specs.declared.model.Query.{Query}

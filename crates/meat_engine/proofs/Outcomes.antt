@@ -1,6 +1,6 @@
 -- What a run comes to.
-use Rattle.meat_engine.proofs.Common.{arith, ◌≡◌, ℕ, List, Option, Some, None, Ok, inl, inr, sym, subst, ⊎_elim, ◌∙◌, ◌≢◌, ◌⊎◌, Keeps, FileMap, Limits, AskModel, JobModel, job_of, Input, Fault}
-use Rattle.meat_engine.proofs.Common.{Missing, Limit, Read, Write, NoMemory, line_of, IsFormatted, NamedParts, Problem, Report, FailsAsk, Findings, findings_of, no_findings, AnswersJob, Appends}
+use Rattle.meat_engine.proofs.Common.{arith, ◌≡◌, ℕ, List, Option, Some, None, Ok, inl, inr, sym, subst, ⊎_elim, ◌≢◌, ◌⊎◌, Keeps, FileMap, Limits, AskModel, JobModel, job_of, Input, Fault}
+use Rattle.meat_engine.proofs.Common.{Read, Write, NoMemory, line_of, IsFormatted, NamedParts, Problem, Report, FailsAsk, Findings, findings_of, no_findings, AnswersJob, Appends}
 use Rattle.meat_engine.proofs.Common.{AppendsFront, HasAnswer, FailsJob, IsExplained, IsRefused, IsRefusedWith, IsWritten, IsLineWritten, Outcome}
 use Rattle.std.proofs.lemmas.Option.{same_Some}
 

@@ -1,6 +1,5 @@
 -- What an outcome says, where no file failed to be read and the answer was written.
-use Rattle.std.proofs.Common.{arith}
-use Rattle.meat_engine.proofs.Common.{◌≡◌, ℕ, refl, List, Option, Some, None, Ok, ◌≢◌, FileMap, Limits, JobModel, job_of, Report, Fault, Write, NoMemory, NamedParts, findings_of, AnswersJob, FailsJob}
+use Rattle.meat_engine.proofs.Common.{◌≡◌, ℕ, refl, List, Option, Some, None, Ok, ◌≢◌, FileMap, Limits, JobModel, job_of, Report, Fault, Write, NoMemory, NamedParts, findings_of, AnswersJob, FailsJob, arith}
 use Rattle.meat_engine.proofs.Common.{IsExplained, Outcome}
 
 pub one_job : (words : List (List ℕ)) (a b : JobModel) → job_of words ≡ Ok a → job_of words ≡ Ok b → a ≡ b

@@ -1,11 +1,11 @@
 -- The names that most proofs of this crate cite, passed on from one place. Declares nothing.
-pub use Rattle.std.proofs.Common.{All, AllPairs, Bool, IsTrue, List, MatchOption, None, Option, Some, [], ap, append-nil, append_assoc, arith, cond, count_by, drop, eq-eqb, false, find, get_or}
+pub use Rattle.std.proofs.Common.{All, AllPairs, Bool, IsTrue, List, MatchOption, None, Option, Some, [], ap, append-nil, append_assoc, arith, cond, count_by, drop, eq-eqb, find, get_or}
 pub use Rattle.std.proofs.Common.{get_or-set_other, get_or-set_same, get_or-take, inl, inr, is_some, length, length-set, length-take-le, map, nat_le, ne_eqb, option_map, refl, replicate, set}
-pub use Rattle.std.proofs.Common.{slice_get, subst, suc, sym, take, true, zero, ℕ, ◌&&◌, ◌++◌, ◌+◌, ◌-◌, ◌<◌, ◌==◌, ◌∙◌, ◌∷◌, ◌≡◌, ◌≢◌, ◌≤◌, ◌⊎◌}
+pub use Rattle.std.proofs.Common.{slice_get, subst, suc, sym, take, true, zero, ℕ, ◌++◌, ◌+◌, ◌-◌, ◌<◌, ◌==◌, ◌∙◌, ◌∷◌, ◌≡◌, ◌≢◌, ◌≤◌, ◌⊎◌}
 pub use Rattle.std.proofs.lemmas.Bool.{cases_eq, cases_lt}
 pub use Rattle.std.proofs.lemmas.Bool.Decides.{nat_tests}
 pub use Rattle.std.proofs.lemmas.Grind.{common_steps}
-pub use Rattle.std.proofs.lemmas.List.{drop_more, length-replicate, length_push, take_more, take_more_set}
+pub use Rattle.std.proofs.lemmas.List.{length-replicate, length_push, take_more}
 pub use Rattle.std.proofs.lemmas.List.Elements.{All-cons, All-head, All-nil, All-tail}
 pub use Rattle.std.proofs.lemmas.List.Sums.{sum_by-append, sum_by-cons, sum_by_push}
 pub use Rattle.std.specs.Option.{option_or}
@@ -34,7 +34,7 @@ pub use Rattle.stop_profile.specs.declared.Row.{Row}
 pub use Rattle.trip_exit.specs.Offers.{Exit, exit_after_offer}
 pub use Rattle.value_laws.specs.ScoreLaws.{ScoreLaws, Scoring}
 pub use Rattle.meat_scan.specs.Rules.{FollowsRules, IsByRules, Kept, kept_after, kept_in, kept_leg, kept_next}
-pub use Rattle.meat_scan.specs.ScanResult.{ScanResult, chosen_at, chosen_by, found_in, found_rows, leg_choice}
+pub use Rattle.meat_scan.specs.ScanResult.{ScanResult, chosen_at, chosen_by, found_rows, leg_choice}
 pub use Rattle.meat_scan.specs.ScanTables.{FitsTables, FitsTablesBy, HasRoom, HasRoomFor, IsEmpty, ShownTables, boardable, capacity_at, exit_at, has_way, is_boardable_by, no_profile, rows_of_profile}
 pub use Rattle.meat_scan.specs.ScanTables.{spare_at}
 pub use Rattle.meat_scan.specs.Solves.{HasAnswers, IsSafeAt, IsStartAnswer, SolvesEach, SolvesStart}

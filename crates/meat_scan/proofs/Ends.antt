@@ -1,5 +1,5 @@
 -- When all connections are scanned.
-use Rattle.meat_scan.proofs.Common.{◌≡◌, ◌≢◌, ℕ, zero, suc, ◌+◌, ◌-◌, ◌<◌, ◌≤◌, List, [], ◌∷◌, Option, Some, None, MatchOption, arith, sym, subst, refl, inl, inr, ◌∙◌, ap, option_map, common_steps}
+use Rattle.meat_scan.proofs.Common.{◌≡◌, ◌≢◌, ℕ, zero, suc, ◌+◌, ◌-◌, ◌<◌, ◌≤◌, List, [], ◌∷◌, Option, Some, None, MatchOption, arith, sym, refl, inl, inr, ◌∙◌, ap, option_map, common_steps}
 use Rattle.meat_scan.proofs.Common.{cases_lt, nat_tests, Leg, Outcome, Query, NetworkModel, count, to_of, arr_of, outcomes, Tree, Kids, Done, Ride, Stuck, Nil, Kid, height, height_of, IsSafe}
 use Rattle.meat_scan.proofs.Common.{AreSafe, IsSafeFor, end_of, kids_after, ride_of, ride_or_stuck, unfold_after, unfold_from, by_place, Scoring, Row, row_in_time, Exit, ScanResult, found_rows}
 use Rattle.meat_scan.proofs.Common.{leg_choice, chosen_at, chosen_by, IsSafeAt, HasAnswers, SolvesEach, IsStartAnswer, SolvesStart, picked_in_time}

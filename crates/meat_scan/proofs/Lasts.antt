@@ -1,5 +1,5 @@
 -- The last row of a place is for the latest arrivals.
-use Rattle.meat_scan.proofs.Common.{◌≡◌, ℕ, zero, suc, ◌<◌, List, [], ◌∷◌, Some, None, length, get_or, arith, ◌∙◌, Row, RowsRise, row_in_time, picked_holds}
+use Rattle.meat_scan.proofs.Common.{◌≡◌, ℕ, zero, suc, ◌<◌, List, [], ◌∷◌, Some, None, length, get_or, arith, Row, RowsRise, row_in_time, picked_holds}
 use Rattle.stop_profile.proofs.Looks.{picked_here, picked_later}
 
 abbrev pub IsLastRow : {V : Type 0} → List (Row V) → Row V → Type 0

@@ -1,6 +1,5 @@
 -- The strategy of a scan's start is the one that the rules keep.
-use Rattle.std.proofs.Common.{arith}
-use Rattle.meat_scan.proofs.Common.{◌≡◌, ℕ, List, Option, Some, None, sym, refl, ap, ◌∙◌, ConnectionId, Leg, Query, NetworkModel, IsScanOrder, unfolding_of, by_place, Scoring, Row, row_in_time}
+use Rattle.meat_scan.proofs.Common.{◌≡◌, ℕ, List, Option, Some, sym, ap, ◌∙◌, ConnectionId, Leg, Query, NetworkModel, IsScanOrder, unfolding_of, by_place, Scoring, Row, row_in_time, arith}
 use Rattle.meat_scan.proofs.Common.{FollowsRules, IsByRules, kept_after, kept_leg, ScanResult, chosen_by, leg_choice, found_rows}
 use Rattle.std.specs.Option.{option_map}
 

@@ -1,5 +1,5 @@
 -- What holds while the scan runs.
-use Rattle.meat_scan.proofs.Common.{◌≡◌, ◌≢◌, ℕ, zero, suc, get_or, map, ◌+◌, ◌<◌, ◌≤◌, List, [], ◌∷◌, ◌++◌, length, Option, None, arith, sym, refl, ◌∙◌, ap, append_assoc, cond, Bool, true, false}
+use Rattle.meat_scan.proofs.Common.{◌≡◌, ◌≢◌, ℕ, zero, suc, get_or, map, ◌+◌, ◌<◌, ◌≤◌, List, [], ◌∷◌, ◌++◌, length, Option, None, arith, sym, refl, ◌∙◌, ap, append_assoc, cond, Bool}
 use Rattle.meat_scan.proofs.Common.{All, append-nil, nat_tests, common_steps, sum_by_push, ConnectionId, Leg, Outcome, Query, NetworkModel, count, from_of, run_of, IsValid, connection, dep_of}
 use Rattle.meat_scan.proofs.Common.{IsScanOrder, IsPrefixUpTo, has_each_id, Known, Never, whole_order, next_of, all_known, Scoring, ScoreLaws, Row, ShownProfile, Exit, exits_next, rows_next}
 use Rattle.meat_scan.proofs.Common.{start_next, alighted_by, boarding_exit, exits_with, rows_with, start_with, Kept, kept_in, kept_next, kept_after, FollowsRules, rows_of_profile, spare_at, exit_at}

@@ -1,9 +1,8 @@
 -- The rides of the legs that were reached.
-use Rattle.plan_graph.proofs.Common.{arith, ◌≡◌, ◌≢◌, ℕ, List, map, Option, Some, Contains, All, AllPairs, sym, subst, refl, ◌∙◌, ap, zero, suc, ◌+◌, [], ◌∷◌, None, inl, inr, slice_index_or, ne_eqb}
+use Rattle.plan_graph.proofs.Common.{arith, ◌≡◌, ◌≢◌, ℕ, List, map, Option, Some, Contains, All, AllPairs, sym, subst, refl, ◌∙◌, ap, zero, suc, ◌+◌, [], ◌∷◌, None, inl, inr, slice_index_or, ne_eqb, eq-eqb}
 use Rattle.plan_graph.proofs.Common.{All-map, All-contains, Less-from_sorted, Leg, Outcome, Query, NetworkModel, IsValid, Tree, end_of, arrival_of, outcomes_of, unfolding_of, kids_after}
 use Rattle.plan_graph.proofs.Common.{ride_or_stuck, unfold_after, unfold_from, GraphRow, Ride, pick_row, pick_after, Precedes, IsLegOf, Stands, StandsIn, row_by, table_after, ride_of_leg, leg_cmp}
 use Rattle.plan_graph.proofs.Common.{IsReached, IsWalked, IsTaken, HasRideOf, Contains-map, AllPairs-map, All-from_contains, cases_eq}
-use Rattle.std.proofs.Common.{eq-eqb}
 use Rattle.plan_graph.proofs.Orders.{leg_cmp-Less}
 use Rattle.plan_graph.proofs.Places.{IsPlacedNext, next_after}
 use Rattle.plan_graph.proofs.Tables.{first_pick, first_there, Sooner, first_in_table, one_found, picked_there}

@@ -27,7 +27,7 @@ pub use Rattle.plan_model.specs.Search.{Rises, StandsBefore, connection_at}
 pub use Rattle.plan_model.specs.Strategy.{AreSafe, IsBoardable, IsBoardableAtStart, IsInTime, IsLeast, IsLeastWorst, IsLeg, IsSafe, IsSafeFromStart, Reaches}
 pub use Rattle.plan_model.specs.Tree.{Done, Kid, Kids, Nil, Ride, Stuck, Tree, height, height_of, worst, worst_of}
 pub use Rattle.plan_model.specs.Unfold.{arrival_of, end_of, kids_after, outcomes_of, ride_of, ride_or_stuck, unfold_after, unfold_from}
-pub use Rattle.plan_model.specs.Gates.{HasGates, IsGate, extended_by, links_with_gates, places_with, source_at, way_from, way_if_to, ways_from_gates}
+pub use Rattle.plan_model.specs.Gates.{HasGates, IsGate, extended_by, links_with_gates, source_at, way_from, way_if_to, ways_from_gates}
 pub use Rattle.plan_model.specs.View.{IsSeen, IsView, SafeAlike, all_later_by, deadline_later_by, later_by}
 pub use Rattle.plan_model.specs.Ways.{earlier_by, limit_of, own_way, way_in, way_of, ways_into}
 pub use Rattle.plan_model.specs.declared.departure.Departure.{Departure}

@@ -1,6 +1,6 @@
 -- What is safe from a gate is safe from its source a second later.
-use Rattle.plan_model.proofs.Common.{◌≡◌, ◌≢◌, ℕ, ◌+◌, ◌<◌, arith, Option, Some, length, sym, ap, ◌∙◌, subst, NetworkModel, IsValid, from_of, way_of, nat_tests, Tree, Done, Ride, Stuck, IsLeg, IsGate}
-use Rattle.plan_model.proofs.Common.{common_steps, IsBoardable, IsSafe, IsSafeFromStart, deadline_later_by}
+use Rattle.plan_model.proofs.Common.{◌≡◌, ◌≢◌, ℕ, ◌+◌, ◌<◌, arith, Option, Some, length, ap, ◌∙◌, NetworkModel, IsValid, from_of, way_of, nat_tests, Tree, Done, Ride, Stuck, IsLeg, IsGate}
+use Rattle.plan_model.proofs.Common.{common_steps, IsSafe, IsSafeFromStart, deadline_later_by}
 use Rattle.plan_model.proofs.Later.{later_by-none, deadline-none}
 use Rattle.plan_model.proofs.Views.{leg_there, start_there, start_back}
 

@@ -1,5 +1,5 @@
 -- Trees with all moments greater by a shift.
-use Rattle.plan_model.proofs.Common.{◌≡◌, ℕ, ◌+◌, ◌-◌, ◌*◌, ◌^◌, ◌<◌, ◌≤◌, arith, Option, Some, None, List, [], ◌∷◌, length, refl, sym, ap, ◌∙◌, sum_by, mul_assoc, mul_comm, mul-add, add-mul}
+use Rattle.plan_model.proofs.Common.{◌≡◌, ℕ, ◌+◌, ◌-◌, ◌*◌, ◌^◌, ◌<◌, ◌≤◌, arith, Option, List, [], ◌∷◌, length, refl, sym, ap, ◌∙◌, sum_by, mul_assoc, mul_comm, mul-add, add-mul}
 use Rattle.plan_model.proofs.Common.{nat_tests, sum_by-cons, Outcome, NetworkModel, IsValid, to_of, arr_of, outcomes, Tree, Done, Ride, Stuck, Kids, Nil, Kid, worst, worst_of, height, height_of}
 use Rattle.plan_model.proofs.Common.{IsSafe, AreSafe, weighted_by, weighted_kids, arrival, num, BelowBy, CoversBy, later_by, all_later_by, deadline_later_by}
 use Rattle.plan_model.specs.Expected.{late}

@@ -1,5 +1,5 @@
 -- What choices unfold to in a network, and what the same choices unfold to in a view of it.
-use Rattle.plan_model.proofs.Common.{◌≡◌, ℕ, zero, suc, ◌+◌, Bool, true, false, Option, Some, None, List, [], ◌∷◌, refl, arith, if◌then◌else◌, Outcome, Leg, NetworkModel, IsValid, arr_of, Tree, Done}
+use Rattle.plan_model.proofs.Common.{◌≡◌, ℕ, zero, suc, ◌+◌, Bool, Option, Some, List, [], ◌∷◌, refl, arith, if◌then◌else◌, Outcome, Leg, NetworkModel, IsValid, arr_of, Tree, Done}
 use Rattle.plan_model.proofs.Common.{IsLeg, end_of, outcomes_of, kids_after, ride_of, ride_or_stuck, unfold_after, unfold_from, later_by, all_later_by, IsView}
 use Rattle.plan_model.proofs.Views.{leg_there, arrives, seen, same_outcomes}
 

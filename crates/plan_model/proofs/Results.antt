@@ -1,6 +1,5 @@
 -- What is known of a chain of results is known of its parts.
-use Rattle.std.proofs.Common.{arith}
-use Rattle.plan_model.proofs.Common.{◌≡◌, Option, Some, None, Result, Ok, Err, ap, refl}
+use Rattle.plan_model.proofs.Common.{◌≡◌, Option, Some, None, Result, Ok, Err, ap, arith}
 use Rattle.std.specs.Result.{result_err}
 use Rattle.plan_model.specs.Results.{and_then, require}
 

@@ -1,6 +1,6 @@
 -- The names that most proofs of this crate cite, passed on from one place. Declares nothing.
-pub use Rattle.std.proofs.Common.{All, Bool, Contains, Err, Global, IfNone, IfOk, IfSome, IsUtf8, List, None, Ok, Option, Result, Some, Vec, [], ap, append_assoc, arith, bytes_eq, decimal, drop}
-pub use Rattle.std.proofs.Common.{false, if◌then◌else◌, inl, inr, le-leb, length, length-append, map, nat_lt, option_map, refl, slice_get, slice_index_or, subst, suc, sym, true, zero, ℕ, ◌%◌}
+pub use Rattle.std.proofs.Common.{All, Bool, Err, IfNone, IfSome, IsUtf8, List, None, Ok, Option, Result, Some, [], ap, append_assoc, arith, bytes_eq, decimal, drop}
+pub use Rattle.std.proofs.Common.{false, if◌then◌else◌, inl, inr, le-leb, length, length-append, map, nat_lt, option_map, refl, slice_get, slice_index_or, suc, sym, true, zero, ℕ, ◌%◌}
 pub use Rattle.std.proofs.Common.{◌&&◌, ◌*◌, ◌++◌, ◌+◌, ◌-◌, ◌/◌, ◌<◌, ◌==◌, ◌^◌, ◌∙◌, ◌∷◌, ◌≡◌, ◌≤◌}
 pub use Rattle.std.proofs.lemmas.Bool.{and_parts, cases_Bool, false≢true}
 pub use Rattle.std.proofs.lemmas.Bool.Decides.{nat_tests}

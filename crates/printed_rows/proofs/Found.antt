@@ -1,6 +1,6 @@
 -- Where connections are found.
-use Rattle.printed_rows.proofs.Common.{◌≡◌, ℕ, zero, suc, ◌+◌, ◌<◌, Bool, true, false, List, [], ◌∷◌, length, Contains, IsUtf8, Option, Some, None, arith, sym, refl, inl, inr, ◌∙◌, ap, ◌==◌, ◌&&◌}
-use Rattle.printed_rows.proofs.Common.{slice_get, slice_index_or, IfSome, IfNone, if◌then◌else◌, option_map, bytes_eq, position_from, cases_Bool, nat_tests, Connection, NetworkModel, IsValid}
+use Rattle.printed_rows.proofs.Common.{◌≡◌, ℕ, suc, ◌+◌, ◌<◌, Bool, true, List, [], ◌∷◌, length, Option, Some, None, arith, sym, refl, inl, inr, ◌∙◌, ap, ◌==◌, ◌&&◌}
+use Rattle.printed_rows.proofs.Common.{slice_index_or, IfSome, IfNone, option_map, position_from, cases_Bool, nat_tests, Connection, NetworkModel, IsValid}
 use Rattle.printed_rows.proofs.Common.{count, no_connection, run_of, step_of, position_found, position_none, false_if, connection_of}
 use Rattle.plan_model.specs.declared.model.ConnectionId.{ConnectionId}
 use Rattle.plan_model.specs.Search.{connection_at}

@@ -1,7 +1,7 @@
 -- What is asked about a problem has an answer or one first fault.
-use Rattle.run_laws.proofs.Common.{◌≡◌, ◌≢◌, ℕ, ◌<◌, ◌⊎◌, List, Option, Some, Result, Ok, Err, inl, inr, sym, subst, ap, ◌∙◌, arith, cases_eq, cases_order, FileMap, file_at, table_of, Limits, Query}
+use Rattle.run_laws.proofs.Common.{◌≡◌, ◌≢◌, ℕ, ◌<◌, ◌⊎◌, List, Option, Some, Result, Ok, Err, inl, inr, sym, subst, ◌∙◌, arith, cases_eq, cases_order, FileMap, file_at, table_of, Limits, Query}
 use Rattle.run_laws.proofs.Common.{NetworkModel, IsValid, count, dep_of, IsEarlier, PlanGraph, Head, LowerBounds, ProofFault, IsLastFault, read_once, never_memory, AskModel, Safe, Expand, Plan}
-use Rattle.run_laws.proofs.Common.{Replays, Certify, CheckProof, CheckGraph, Punctual, Departures, Latest, Reach, Input, Fault, ProofFile, Problem, Findings, none_unread, bytes_of, AnswersReplay}
+use Rattle.run_laws.proofs.Common.{Replays, Certify, CheckProof, CheckGraph, Punctual, Departures, Latest, Reach, Input, Fault, Problem, Findings, none_unread, bytes_of, AnswersReplay}
 use Rattle.run_laws.proofs.Common.{IsTripFault, trip_by, IsEnclosed, IsUnsafeGraph, IsHeld, IsBroken, graph_in, InGraphFile, FailsGraph, FailsText, FailsFile, FailsCertificate, InCertificateFile}
 use Rattle.run_laws.proofs.Common.{IsNoSafe, AnswersAsk, FailsAsk, FailsCheck, FailsReplay, FailsScore}
 use Rattle.lower_proof.specs.declared.reader.ProofFault.TheVariants.{NoMemory as NoRoom}

@@ -1,7 +1,6 @@
 -- What is asked by safe strategies has one status, one query and one least worst arrival.
-use Rattle.std.proofs.Common.{arith}
-use Rattle.run_laws.proofs.Common.{◌≡◌, ℕ, subst, inl, inr, List, Some, FileMap, Limits, Moment, Query, IsQueryOf, reaches_from_safe, AskModel, Safe, Expand, Plan, Certify, CheckProof, CheckGraph}
-use Rattle.run_laws.proofs.Common.{Punctual, Departures, Latest, Reach, Replays, Problem, Findings, AnswersAsk, EndsAsk, HasNoSafe, query_until, EndsByLatest}
+use Rattle.run_laws.proofs.Common.{◌≡◌, ℕ, subst, inl, inr, List, Some, FileMap, Limits, Moment, Query, IsQueryOf, reaches_from_safe, AskModel, Safe, Expand, Plan, Certify, arith}
+use Rattle.run_laws.proofs.Common.{Punctual, Problem, Findings, AnswersAsk, EndsAsk, HasNoSafe, query_until, EndsByLatest}
 use Rattle.meat_engine.specs.Ends.{EndsBySafety}
 use Rattle.run_laws.specs.Pairs.{IsBySafety}
 use Rattle.run_laws.proofs.Departing.{later_is_now}

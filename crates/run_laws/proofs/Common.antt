@@ -1,14 +1,13 @@
 -- The names that most proofs of this crate cite, passed on from one place. Declares nothing.
-pub use Rattle.std.proofs.Common.{All, AllPairs, Contains, Err, IsOk, IsTrue, List, MatchOption, None, Ok, Option, Result, Some, [], ap, ap₂, arith, ext_get_or, false, inl, inr, length, map, nat_lt}
-pub use Rattle.std.proofs.Common.{refl, subst, suc, sym, zero, ℕ, ◌++◌, ◌+◌, ◌-◌, ◌<◌, ◌↔◌, ◌∙◌, ◌∷◌, ◌≡◌, ◌≢◌, ◌≤◌, ◌⊎◌}
+pub use Rattle.std.proofs.Common.{All, AllPairs, Contains, Err, IsTrue, List, MatchOption, None, Ok, Option, Result, Some, [], ap, ap₂, arith, ext_get_or, false, inl, inr, length, map, nat_lt}
+pub use Rattle.std.proofs.Common.{refl, subst, suc, sym, zero, ℕ, ◌++◌, ◌+◌, ◌<◌, ◌↔◌, ◌∙◌, ◌∷◌, ◌≡◌, ◌≢◌, ◌≤◌, ◌⊎◌}
 pub use Rattle.std.proofs.lemmas.Bool.{both_ways, cases_Bool, cases_eq, cases_lt, cases_order, eq-eqb, ne_eqb}
 pub use Rattle.std.proofs.lemmas.Bool.Decides.{nat_tests}
 pub use Rattle.std.proofs.lemmas.List.Elements.{All-contains, All-head, All-nil}
 pub use Rattle.std.specs.Io.KnownBytes.{Appends, Keeps}
-pub use Rattle.change_times.specs.Changes.{transfers_from, transfers_in}
 pub use Rattle.command_line.specs.Jobs.{Ask, AskModel, Certify, CheckGraph, CheckProof, CutFile, Departures, Expand, FeedFolder, JobModel, JourneyModel, Latest, Plan, Punctual, Reach, Replay as Replays}
 pub use Rattle.command_line.specs.Jobs.{Safe, Sample, SourceModel, job_of}
-pub use Rattle.csv_rows.specs.FeedTables.{path_of, unread_table}
+pub use Rattle.csv_rows.specs.FeedTables.{unread_table}
 pub use Rattle.csv_rows.specs.Tables.{table_of}
 pub use Rattle.csv_rows.specs.declared.feed_tables.FeedFault.{FeedFault}
 pub use Rattle.csv_rows.specs.declared.feed_tables.Table.{Table}
@@ -20,7 +19,6 @@ pub use Rattle.file_ports.specs.Ports.{FileMap, file_at}
 pub use Rattle.graph_text.specs.GraphTexts.{plan_text}
 pub use Rattle.graph_text.specs.Reading.{IsReadAs, graph_of}
 pub use Rattle.graph_text.specs.declared.Head.{Head}
-pub use Rattle.gtfs_tables.specs.Feeds.{FeedParts, IsFeedOf, tables_from}
 unfoldable pub use Rattle.gtfs_tables.specs.Feeds.{tables_in}
 pub use Rattle.interval_fixed.specs.Interval.{Interval}
 pub use Rattle.journey_answers.specs.Answers.{AnswersExpand, AnswersPlan, AnswersSafe, HasNoSafe, InQuery, IsNoSafe, IsQueryOf, head_of}
@@ -32,22 +30,20 @@ pub use Rattle.journey_answers.specs.Trips.{AnswersReplay, IsTripFault, trip_by}
 pub use Rattle.journey_model.specs.Faults.{status_of, unread_input}
 pub use Rattle.journey_model.specs.Sites.{NamedParts}
 pub use Rattle.journey_model.specs.declared.faults.Fault.{Fault}
-pub use Rattle.journey_model.specs.declared.faults.Fault.TheVariants.{NoMemory, ProofFile, Read, Write}
+pub use Rattle.journey_model.specs.declared.faults.Fault.TheVariants.{NoMemory, Read, Write}
 pub use Rattle.journey_model.specs.declared.faults.Input.{Input}
 pub use Rattle.journey_model.specs.declared.problem.Problem.{Problem}
 pub use Rattle.journey_problem.proofs.NoFaults.{no_fault, no_folder_fault, none_unread, not_feed, table_read}
 pub use Rattle.journey_problem.proofs.SameFiles.{agree_all, agree_sym, own_problem, own_fault}
 pub use Rattle.journey_problem.specs.CertificateFiles.{FailsCertificate, FailsFile, FailsText, InCertificateFile, IsCertificateText}
-pub use Rattle.journey_problem.specs.FeedProblems.{GtfsFolder, IsFaultAfterFolder, IsFeedProblemFault, IsFolderFault, IsLaterTableFault, IsWindowFault}
+pub use Rattle.journey_problem.specs.FeedProblems.{GtfsFolder, IsFaultAfterFolder, IsFeedProblemFault, IsFolderFault, IsWindowFault}
 pub use Rattle.journey_problem.specs.Files.{AgreeAt, bytes_of, path_of as file_path}
-pub use Rattle.journey_problem.specs.Paths.{AgreeFor, no_path}
+pub use Rattle.journey_problem.specs.Paths.{AgreeFor}
 pub use Rattle.journey_problem.specs.GraphFiles.{FailsGraph, InGraphFile, graph_as, graph_in}
-pub use Rattle.journey_problem.specs.InputTables.{delay_fault}
 pub use Rattle.journey_problem.specs.OneProblem.{HasOneProblem}
 pub use Rattle.journey_problem.specs.Problems.{IsProblem, IsProblemFault, IsProblemFaultOver}
 pub use Rattle.journey_report.specs.AnswerTexts.{punctual_row}
 pub use Rattle.journey_report.specs.Findings.{Findings, findings_of, no_findings, plan_findings, punctual_findings}
-pub use Rattle.journey_report.specs.declared.report.Report.{Report}
 pub use Rattle.lower_proof.proofs.ReadOnce.{never_memory, read_once}
 pub use Rattle.lower_proof.proofs.Vias.{IsLeast-unique}
 pub use Rattle.lower_proof.specs.Certificates.{AreLeast, IsAccepted, IsLastFault, IsLeastAt, IsLeastAtStart, IsTight, IsVia, Offers, bound_of}
@@ -83,6 +79,6 @@ pub use Rattle.plan_model.specs.declared.model.Query.{Query}
 pub use Rattle.trip_replay.specs.declared.ReplayFault.{ReplayFault}
 pub use Rattle.value_laws.specs.Means.{from_span, mean_scoring}
 pub use Rattle.run_laws.specs.OneRun.{IsOneAnswer}
-pub use Rattle.run_laws.specs.OneRun.{EndAlike, EndsWell, HasOneEnd, HasOneRun, IsOneEnd}
-pub use Rattle.run_laws.specs.Runs.{AgreeOn, IsRunWithin, IsUntroubled, ReceiveAlike, RunModel}
+pub use Rattle.run_laws.specs.OneRun.{EndAlike, HasOneRun, IsOneEnd}
+pub use Rattle.run_laws.specs.Runs.{AgreeOn, IsRunWithin, IsUntroubled, RunModel}
 pub use Rattle.run_laws.specs.Wholes.{HasEveryRow, IsOneStrategy}

@@ -1,6 +1,6 @@
 -- Two runs that nothing disturbs end in one way.
 use Rattle.run_laws.proofs.Common.{arith, ◌≡◌, ◌≢◌, ℕ, ◌⊎◌, List, [], Option, None, Some, Ok, Err, inl, inr, refl, sym, subst, ap, ◌∙◌, Appends, Keeps, FileMap, file_at, Limits, JobModel, Ask, Sample}
-use Rattle.run_laws.proofs.Common.{JourneyModel, AskModel, Plan, job_of, Fault, Write, NoMemory, Problem, status_of, NamedParts, HasOneProblem, no_fault, agree_all, IsNoSafe, Findings, findings_of}
+use Rattle.run_laws.proofs.Common.{JourneyModel, AskModel, Plan, job_of, Fault, Write, NoMemory, Problem, status_of, NamedParts, HasOneProblem, no_fault, agree_all, Findings, findings_of}
 use Rattle.run_laws.proofs.Common.{no_findings, FailsJourney, AnswersJob, AnswersWords, FailsJob, IsExplained, IsRefused, WritesLine, sample_journey, sample_alpha, RunModel, IsRunWithin, IsUntroubled}
 use Rattle.run_laws.proofs.Common.{IsOneEnd, EndAlike}
 use Rattle.std.proofs.Common.{append-nil}

@@ -1,6 +1,6 @@
 -- The files of a journey have one first fault.
-use Rattle.run_laws.proofs.Common.{arith, ◌≡◌, ◌≢◌, ℕ, List, Option, None, Some, Result, Err, IsOk, inl, inr, subst, ◌∙◌, FileMap, Limits, Table, FeedFault, unread_table, FeedParts, tables_in}
-use Rattle.run_laws.proofs.Common.{SourceModel, CutFile, FeedFolder, JourneyModel, Input, Fault, Read, NoMemory, unread_input, GtfsFolder, IsFolderFault, IsLaterTableFault, IsWindowFault}
+use Rattle.run_laws.proofs.Common.{arith, ◌≡◌, ◌≢◌, ℕ, List, Option, None, Some, Result, Err, inl, inr, subst, ◌∙◌, FileMap, Limits, Table, FeedFault, unread_table, tables_in}
+use Rattle.run_laws.proofs.Common.{SourceModel, CutFile, FeedFolder, JourneyModel, Input, Fault, Read, NoMemory, unread_input, GtfsFolder, IsFolderFault, IsWindowFault}
 use Rattle.run_laws.proofs.Common.{IsFaultAfterFolder, IsFeedProblemFault, IsProblemFault, IsProblemFaultOver, none_unread, table_read, not_feed, no_folder_fault}
 use Rattle.journey_problem.proofs.OneFeed.{one_feed_of}
 use Rattle.journey_problem.proofs.OneFeedProblem.{SameGtfsFolder, one_folder, one_window_fault}
@@ -17,17 +17,12 @@ not_both o a none some = absurd (cc)
 one_err : {A E : Type 0} (r : Result A E) (e f : E) → r ≡ Err e → r ≡ Err f → e ≡ f
 one_err r e f one two = cc
 
-not_ok : {A E : Type 0} (r : Result A E) (e : E) → IsOk r → r ≡ Err e → ⊥
-not_ok r e ok is = grind arith
-
 module _ (limits : Limits) (files : FileMap) where
   -- where no file is unread
   quiet : (first : Option Input → Option Fault) (fault : Fault) → NotRead fault → first (unread_input fault) ≡ Some fault → first None ≡ Some fault
   quiet first fault never is = subst (λ (u : Option Input). first u ≡ Some fault) (none_unread fault never) is
 
   module _ (folder : List ℕ) where
-    one_later : (f : FeedParts) (a b : FeedFault) → unread_table a ≡ None → unread_table b ≡ None → IsLaterTableFault limits files folder f a → IsLaterTableFault limits files folder f b → a ≡ b
-    one_later f a b u v h1 h = grind (arith, one_err, not_ok)
 
     of_tables : (fault : FeedFault) → unread_table fault ≡ None → tables_in files folder limits (unread_table fault) ≡ Err fault → tables_in files folder limits None ≡ Err fault
     of_tables fault u is = subst (λ (t : Option Table). tables_in files folder limits t ≡ Err fault) u is

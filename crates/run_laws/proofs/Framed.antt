@@ -1,13 +1,12 @@
 -- What is answered, and why it is not, depends on the records of the files at the paths that the words name, and on no others.
-use Rattle.run_laws.proofs.Common.{arith, ◌≡◌, ◌⊎◌, ℕ, ◌≤◌, List, length, nat_lt, nat_tests, false, Option, None, Some, Result, Ok, Err, inl, inr, sym, subst, ◌∙◌, FileMap, file_at, table_of, Limits}
-use Rattle.run_laws.proofs.Common.{JobModel, Ask, Sample, job_of, JourneyModel, AskModel, Safe, Expand, Plan, Replays, Certify, CheckProof, CheckGraph, Punctual, Departures, Latest, Reach, Query}
-use Rattle.run_laws.proofs.Common.{PlanGraph, Head, LowerBounds, Fault, Read, Input, unread_input, NamedParts, Problem, Findings, bytes_of, AgreeAt, AgreeFor, agree_sym, own_problem, own_fault}
+use Rattle.run_laws.proofs.Common.{arith, ◌≡◌, ◌⊎◌, ℕ, List, Option, None, Some, Result, Ok, Err, inl, inr, sym, subst, ◌∙◌, FileMap, file_at, table_of, Limits}
+use Rattle.run_laws.proofs.Common.{JobModel, Ask, Sample, job_of, JourneyModel, AskModel, Replays, CheckProof, CheckGraph, Query}
+use Rattle.run_laws.proofs.Common.{PlanGraph, Head, LowerBounds, Fault, Input, unread_input, NamedParts, Problem, Findings, bytes_of, AgreeAt, AgreeFor, agree_sym, own_problem, own_fault}
 use Rattle.run_laws.proofs.Common.{file_path, own_paths, path_in, graph_in, graph_as, graph_of, InGraphFile, FailsGraph, FailsFile, FailsCertificate, InCertificateFile, IsProblem, IsProblemFault}
 use Rattle.run_laws.proofs.Common.{AnswersAsk, FailsAsk, FailsJourney, AnswersJob, AnswersWords, FailsJob, IsExplained, AgreeOn}
-use Rattle.std.proofs.Common.{Bool, if◌then◌else◌, IfSome}
+use Rattle.std.proofs.Common.{IfSome}
 use Rattle.plan_model.specs.Results.{and_then}
 use Rattle.lower_proof.specs.Reading.{IsProofReported}
-use Rattle.journey_model.specs.Faults.{is_unread_input}
 use Rattle.journey_model.specs.declared.faults.Input.TheVariants as input
 use Rattle.journey_problem.proofs.SameFiles.{alike_sym, problem_of_records, fault_of_records}
 use Rattle.journey_problem.specs.Files.{OwnPaths, Records, ReadAlikeAt, HaveSameRecords, bytes_present}
@@ -36,9 +35,6 @@ SameBytes (Err e) (Err f) = e ≡ f
 
 bytes_same : (r : Result (List ℕ) Fault) → SameBytes r r
 bytes_same r = grind arith
-
-few : (most : ℕ) (file : List ℕ) → length file ≤ most → nat_lt most (length file) ≡ false
-few most file small = grind (arith, nat_tests)
 
 present_alike : (most : ℕ) (kind : Input) (file other : Option (List ℕ)) → HaveSameRecords most file other → SameBytes (bytes_present most kind file) (bytes_present most kind other)
 present_alike most kind file other same = grind arith

@@ -1,6 +1,5 @@
 -- Over one network the first row of `departures` by a moment has the upper bound of the plan of who sets out then.
-use Rattle.std.proofs.Common.{arith}
-use Rattle.run_laws.proofs.Common.{◌≡◌, ◌≢◌, ℕ, refl, sym, ap, subst, ◌∙◌, List, [], Option, Some, MatchOption, Limits, NetworkModel, Query, Departures, Plan, Problem, HasOneProblem, Findings}
+use Rattle.run_laws.proofs.Common.{◌≡◌, ◌≢◌, ℕ, refl, sym, ap, subst, ◌∙◌, List, [], Option, Some, MatchOption, Limits, NetworkModel, Query, Departures, Plan, Problem, HasOneProblem, Findings, arith}
 use Rattle.run_laws.proofs.Common.{findings_of, FileMap, JourneyModel, SourceModel, own_problem, AnswersAsk, query_until, unfold_plan, Interval, RunModel, IsRunWithin}
 use Rattle.decision_graph.specs.GraphValues.{IsBest}
 use Rattle.departure_table.specs.Departures.{IsBestFrom, IsNoneSafeFrom, SafeFrom, first_row_by}

@@ -1,5 +1,5 @@
 -- The graphs and the bounds of a query follow from the network and the query.
-use Rattle.run_laws.proofs.Common.{arith, ◌≡◌, ◌≢◌, Option, Some, None, MatchOption, Interval, Leg, Query, NetworkModel, ExpandedGraph, PlanGraph, unfold_expanded, unfold_plan, IsPlanned, HasEveryRow}
+use Rattle.run_laws.proofs.Common.{arith, ◌≡◌, ◌≢◌, Option, MatchOption, Interval, Leg, Query, NetworkModel, ExpandedGraph, PlanGraph, unfold_expanded, unfold_plan, IsPlanned, HasEveryRow}
 use Rattle.run_laws.proofs.Common.{IsOneStrategy}
 use Rattle.decision_graph.specs.Planned.{IsExpanded}
 use Rattle.run_laws.proofs.Agree.{start_same}

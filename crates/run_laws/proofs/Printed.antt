@@ -1,5 +1,5 @@
 -- What `plan` prints, and what `punctual` prints after its row, is a graph file that is read, and whose graph is safe.
-use Rattle.run_laws.proofs.Common.{◌≡◌, ℕ, ◌≤◌, false, refl, ap, sym, ◌∙◌, subst, arith, inl, inr, List, [], ◌++◌, None, Some, Result, Ok, Err, length, nat_lt, nat_tests, FileMap, file_at, Limits}
+use Rattle.run_laws.proofs.Common.{◌≡◌, ℕ, ◌≤◌, ap, sym, ◌∙◌, subst, arith, inl, inr, List, [], ◌++◌, None, Some, Result, Ok, Err, length, nat_lt, nat_tests, FileMap, file_at, Limits}
 use Rattle.run_laws.proofs.Common.{Interval, Query, IsSafeFor, PlanGraph, unfold_plan, Head, IsReadAs, Fault, Problem, Findings, graph_in, InGraphFile, IsEnclosed, InQuery, AnswersPlan, head_of}
 use Rattle.run_laws.proofs.Common.{EndsByScore, EndsByGraphFile, trip_by, ReplayFault, plan_text, punctual_row}
 use Rattle.graph_text.proofs.Accepted.{text_read}

@@ -1,6 +1,5 @@
 -- A list in which each is before the next follows from what it contains.
-use Rattle.std.proofs.Common.{arith}
-use Rattle.run_laws.proofs.Common.{◌≡◌, List, [], ◌∷◌, AllPairs, Contains, refl, sym, ap₂, Contains-nil, Contains-head, Contains-tail, Contains-cons_cases, AllPairs-head, AllPairs-tail}
+use Rattle.run_laws.proofs.Common.{◌≡◌, List, [], ◌∷◌, AllPairs, Contains, refl, sym, ap₂, Contains-nil, Contains-head, Contains-tail, Contains-cons_cases, AllPairs-head, AllPairs-tail, arith}
 
 -- what the one list has the other has too
 abbrev pub HasAll : {X : Type 0} → List X → List X → Type 0

@@ -1,5 +1,5 @@
 -- The upper bound of a row of departures is that of a plan from then.
-use Rattle.run_laws.proofs.Common.{ℕ, ◌≡◌, NetworkModel, Query, Tree, Interval, IsSafeFor, arith}
+use Rattle.run_laws.proofs.Common.{ℕ, ◌≡◌, NetworkModel, Query, Tree, Interval, arith}
 use Rattle.decision_graph.specs.GraphValues.{IsBest}
 use Rattle.departure_table.specs.Departures.{IsBestFrom, SafeFrom}
 use Rattle.departure_table.specs.declared.DepartureRow.{DepartureRow}

@@ -1,6 +1,5 @@
 -- `sample` ends as `plan` does over the made files.
-use Rattle.std.proofs.Common.{arith}
-use Rattle.run_laws.proofs.Common.{◌≡◌, ◌⊎◌, ℕ, refl, sym, ap, ap₂, subst, ◌∙◌, inl, inr, List, [], Option, Some, Ok, Appends, FileMap, file_at, Limits, PlanGraph, Interval, Ask, Sample, count, Plan}
+use Rattle.run_laws.proofs.Common.{◌≡◌, ◌⊎◌, ℕ, refl, sym, ap, ap₂, subst, ◌∙◌, inl, inr, List, [], Option, Some, Ok, Appends, FileMap, file_at, Limits, PlanGraph, Interval, Ask, Sample, count, Plan, arith}
 use Rattle.run_laws.proofs.Common.{job_of, JobModel, Fault, Problem, status_of, NamedParts, HasOneProblem, AgreeFor, own_problem, none_unread, Findings, findings_of, FailsJourney, AnswersJob}
 use Rattle.run_laws.proofs.Common.{FailsJob, AnswersWords, IsExplained, AnswersPlan, InQuery, sample_journey, sample_alpha, RunModel, IsRunWithin, agree_sym}
 use Rattle.std.proofs.Common.{IfSome}

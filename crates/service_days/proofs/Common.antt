@@ -1,6 +1,6 @@
 -- The names that most proofs of this crate cite, passed on from one place. Declares nothing.
-pub use Rattle.std.proofs.Common.{All, Bool, Err, IfSome, IsOkAnd, List, None, Ok, Option, Result, Some, [], add-one, ap, append-nil, ap₂, arith, bytes_eq, false, filter, if◌then◌else◌, int_eq}
-pub use Rattle.std.proofs.Common.{length, length-append, ne_eqb, not, pos, refl, subst, sym, true, w32, ℕ, ℤ, ◌&&◌, ◌++◌, ◌+ℤ◌, ◌+◌, ◌-◌, ◌<◌, ◌^◌, ◌||◌, ◌∙◌, ◌∷◌, ◌≡◌, ◌≢◌, ◌≤◌}
+pub use Rattle.std.proofs.Common.{All, Bool, Err, IsOkAnd, List, None, Ok, Option, Result, Some, [], add-one, ap, append-nil, ap₂, arith, bytes_eq, false, filter, if◌then◌else◌, int_eq}
+pub use Rattle.std.proofs.Common.{length, length-append, ne_eqb, pos, refl, subst, sym, true, w32, ℕ, ℤ, ◌&&◌, ◌++◌, ◌+ℤ◌, ◌+◌, ◌-◌, ◌<◌, ◌||◌, ◌∙◌, ◌∷◌, ◌≡◌, ◌≤◌}
 pub use Rattle.std.proofs.lemmas.Bool.{and_from, and_left, and_right, cases_Bool, false_from_ne_true, or_from}
 pub use Rattle.std.proofs.lemmas.Int.{to_z-of_z}
 pub use Rattle.std.proofs.lemmas.List.Elements.{All-push, filter-append}
@@ -32,5 +32,5 @@ pub use Rattle.service_days.specs.Exceptions.{has, has_at, same}
 pub use Rattle.service_days.specs.Calendars.{AddsDate, AreNumbered}
 pub use Rattle.service_days.specs.Periods.{bad_period, period_columns, period_in, period_of, period_or_none, periods_of, runs_in_period, runs_in_row, service_ids}
 unfoldable pub use Rattle.service_days.specs.Periods.{period_at}
-pub use Rattle.service_days.specs.Services.{ServiceParts, period_runs, runs, runs_at, runs_of_service, runs_within}
+pub use Rattle.service_days.specs.Services.{ServiceParts, period_runs, runs, runs_of_service, runs_within}
 pub use Rattle.service_days.specs.declared.exceptions.Exception.{Exception}

@@ -1,11 +1,9 @@
 -- The rows of exceptions.
-use Rattle.std.proofs.Common.{arith}
-use Rattle.service_days.proofs.Common.{◌≡◌, ℕ, ◌+◌, List, ap, sym, ◌∙◌, subst, Ok, name_in, field_at, name_text, IsTrimmed, ServiceDate, date_from, date_columns, date_in, date_at_row, require-ok}
+use Rattle.service_days.proofs.Common.{◌≡◌, ℕ, ◌+◌, List, ap, sym, subst, Ok, name_in, field_at, name_text, IsTrimmed, ServiceDate, date_from, date_columns, date_in, date_at_row, require-ok, arith}
 use Rattle.clock_text.specs.Times.{date_at}
 use Rattle.csv_rows.specs.Spaces.{AreTrimmed}
 use Rattle.csv_rows.proofs.SpaceLemmas.{IsTrimmed-field}
 use Rattle.service_days.specs.declared.dates.DateColumns.{DateColumns}
-use Rattle.service_days.specs.CalendarForms.{adds_in}
 
 -- the row by the indexes of the columns
 pub date_is : (t : List (List (List ℕ))) (c : DateColumns) (i : ℕ) → c ≡ date_columns t → date_at_row t i ≡ date_in t c i

@@ -1,9 +1,5 @@
 -- The best strategies of a network and of one that offers no less.
-use Rattle.service_laws.proofs.Common.{ℕ, ◌≡◌, ◌≤◌, arith, mul-le-mul_left, NetworkModel, Tree, Done, Ride, Kids, Nil, Kid, EmbedsNoLater, Rises}
-use Rattle.std.proofs.Common.{Some}
-use Rattle.plan_model.specs.Bounds.{nanos_per_second}
-use Rattle.plan_model.specs.Expected.{arrival}
-use Rattle.plan_model.specs.Strategy.{IsSafeFor}
+use Rattle.service_laws.proofs.Common.{ℕ, ◌≡◌, ◌≤◌, arith, mul-le-mul_left, NetworkModel, Tree, Done, Ride, Kids, Nil, Kid, EmbedsNoLater, Rises, Some}
 use Rattle.plan_model.specs.declared.model.Query.{Query}
 use Rattle.plan_model.proofs.Laws.{reaches_from_safe, safe_from_reaches}
 use Rattle.interval_fixed.specs.Interval.{Interval}

@@ -1,7 +1,7 @@
 -- The names that most proofs of this crate cite, passed on from one place. Declares nothing.
-pub use Rattle.std.proofs.Common.{All, AllPairs, Bool, Bor, Contains, Err, IfErr, IfOk, IfSome, IsUtf8, List, None, Ok, OnOk, Option, Result, Some, [], ap, ap₂, arith, cond, drop, eq-eqb, eqb-true}
+pub use Rattle.std.proofs.Common.{All, AllPairs, Bool, Bor, Contains, Err, IfSome, IsUtf8, List, None, Ok, Option, Result, Some, [], ap, ap₂, arith, cond, drop, eq-eqb, eqb-true}
 pub use Rattle.std.proofs.Common.{false, filter, get_or, get_or-drop, get_or-take, if◌then◌else◌, inl, inr, is_some, length, length-drop, length-take-le, ltb-false, ltb-true, map, nat_eq, nat_le}
-pub use Rattle.std.proofs.Common.{nat_lt, option_map, refl, rules, slice_get, slice_index, slice_index_or, slice_range, subst, suc, sym, take, true, zero, ℕ, ⊎_elim, ◌&&◌, ◌++◌, ◌+◌, ◌-◌, ◌<◌, ◌==◌}
+pub use Rattle.std.proofs.Common.{nat_lt, option_map, refl, rules, slice_get, slice_index, slice_index_or, slice_range, subst, suc, sym, true, zero, ℕ, ⊎_elim, ◌&&◌, ◌++◌, ◌+◌, ◌-◌, ◌<◌, ◌==◌}
 pub use Rattle.std.proofs.Common.{◌||◌, ◌∙◌, ◌∷◌, ◌≡◌, ◌≢◌, ◌≤◌}
 pub use Rattle.std.proofs.lemmas.Bool.{and_from, and_parts, cases_Bool, cases_lt, not_from_false, or_parts}
 pub use Rattle.std.proofs.lemmas.Bool.Decides.{nat_tests}
@@ -10,7 +10,6 @@ pub use Rattle.std.proofs.lemmas.List.{get_or_append_left, get_or_default, get_o
 pub use Rattle.std.specs.Result.{result_err}
 pub use Rattle.csv.specs.Reading.{ReadRecord, default_config, reader_state, records_next, took_first}
 unfoldable pub use Rattle.csv.specs.Reading.{Reached, records_from}
-pub use Rattle.csv.specs.Records.{fields_of}
 unfoldable pub use Rattle.csv.specs.Records.{field_at}
 pub use Rattle.csv_rows.proofs.FirstLemmas.{any-false, any-true, first-at, first-is, first-next, first-none, first-reported, first-zero, none-both, none-each}
 pub use Rattle.csv_rows.proofs.KeyLemmas.{AreApart, asked_before, before_inside, less_group, no_twins, rises}
@@ -40,6 +39,6 @@ pub use Rattle.stop_times.specs.StopTimes.{IsKnownIn, IsStopOf, TripsAndStops, b
 pub use Rattle.stop_times.specs.StopTimes.{order_fault, row_at, sequence_of, stop_arrival, stop_number_in, time_columns, timed_from, timed_in, timed_of, timed_rows, times_in, times_of, trip_of, visit_of}
 unfoldable pub use Rattle.stop_times.specs.StopTimes.{backward_time, repeated_time, stop_times_fault, timed_at}
 pub use Rattle.stop_times.specs.Timetables.{AreVisits, stop_times_from}
-pub use Rattle.stop_times.specs.Visits.{AreStopTimes, IsSpanOf, IsVisit, no_visit, visit_at, visit_or_none}
+pub use Rattle.stop_times.specs.Visits.{AreStopTimes, IsSpanOf, no_visit, visit_at, visit_or_none}
 pub use Rattle.stop_times.specs.declared.rows.StopRow.{StopRow}
 pub use Rattle.stop_times.specs.declared.rows.TimedRow.{TimedRow}

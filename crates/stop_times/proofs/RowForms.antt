@@ -1,10 +1,8 @@
 -- What follows from the form of a row of stop times.
-use Rattle.stop_times.proofs.Common.{rules, ◌≡◌, ℕ, ◌+◌, ◌<◌, ◌≤◌, ◌-◌, ◌==◌, nat_eq, nat_le, ◌&&◌, Bool, List, [], length, take, drop, slice_index, slice_index_or, Option, Some, None, IfSome, refl}
-use Rattle.stop_times.proofs.Common.{subst, arith, Result, Ok, Err, common_steps, nat_tests, and_parts, result_err, value_or, TripId, StopId, StopSequence, ArrivalTime, DepartureTime, PickupType}
+use Rattle.stop_times.proofs.Common.{rules, ◌≡◌, ℕ, ◌+◌, ◌<◌, ◌≤◌, ◌-◌, ◌==◌, nat_eq, nat_le, ◌&&◌, Bool, List, [], length, slice_index, slice_index_or, Option, Some, None, IfSome}
+use Rattle.stop_times.proofs.Common.{subst, arith, Result, Ok, common_steps, nat_tests, and_parts, result_err, value_or, TripId, StopId, StopSequence, ArrivalTime, DepartureTime, PickupType}
 use Rattle.stop_times.proofs.Common.{DropOffType, StopTimes, FeedFault, BadField, UnknownKey, number_in, StopRow, TimedRow, TripsAndStops, time_columns, stop_number_in, times_of, visit_of, timed_from, timed_at}
 use Rattle.stop_times.proofs.Common.{no_row, optional-each, number_inside, end_of_times}
-use Rattle.std.specs.List.{list_all}
-use Rattle.std.specs.Char.{is_ascii_digit}
 use Rattle.clock_text.specs.Digits.{whole_of}
 use Rattle.clock_text.specs.Times.{time_at, time_of, seconds_of_time}
 use Rattle.clock_text.proofs.OneText.{if_cases, some_cases}

@@ -1,5 +1,5 @@
 -- A folder with more trips has all that is in the one without.
-use Rattle.std.proofs.Common.{arith, ◌≤◌, ◌≡◌, ℕ, ◌<◌, List, length, Option, Some, None, Result, Ok, IsOkAnd, refl, sym, ap, ap₂, ◌∙◌, subst}
+use Rattle.std.proofs.Common.{arith, ◌≤◌, ◌≡◌, ℕ, ◌<◌, List, length, Option, None, Result, Ok, IsOkAnd, refl, sym, ap, ap₂, ◌∙◌, subst}
 use Rattle.plan_model.specs.Results.{and_then, unless}
 use Rattle.file_ports.specs.Ports.{FileMap}
 use Rattle.csv_rows.specs.declared.limits.Limits.{Limits}

@@ -28,7 +28,7 @@ use Rattle.csv_rows.proofs.ListLemmas.{length-list_below, get-list_below}
 use Rattle.plan_model.specs.declared.model.Way.{Way}
 use Rattle.plan_model.specs.Network.{IsValid}
 unfoldable use Rattle.plan_model.specs.Network.{connection, change_of, row_of}
-use Rattle.std.proofs.Common.{slice_index, slice_index_or}
+use Rattle.std.proofs.Common.{slice_index_or}
 use Rattle.service_laws.proofs.Found.{safe_as_good, safe_no_worse, least_no_later}
 use Rattle.window_laws.specs.MoreTrips.{HasTrips, HasLinks, IsTripOf, Timetable, IsPartOf, IsNetworkOf}
 use Rattle.window_laws.proofs.Lists.{Has}

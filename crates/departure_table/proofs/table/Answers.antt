@@ -2,7 +2,7 @@ use Rattle.departure_table.proofs.Common.{◌≡◌, ◌-◌, ◌++◌, List, []
 use Rattle.departure_table.proofs.Common.{Connection, Leg, Moment, MeanSpan, DepartureRow, row_of_choice, row_found, AreLooked}
 use Rattle.std.specs.Option.{option_map}
 use Rattle.departure_table.proofs.Growth.{grown, ends_after, ends_with_none}
-use Rattle.departure_table.proofs.Looks.{enters, none_ahead, looks_ahead}
+use Rattle.departure_table.proofs.Looks.{none_ahead, looks_ahead}
 use Rattle.departure_table.proofs.table.Goals as goal
 
 pub returns-in_default-clause-table : goal.returns-in_default-clause-table

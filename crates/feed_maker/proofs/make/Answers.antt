@@ -1,5 +1,4 @@
-use Rattle.std.proofs.Common.{arith}
-use Rattle.feed_maker.proofs.Common.{◌∙◌, codes, folder_of, stop_times_text, other_files}
+use Rattle.feed_maker.proofs.Common.{arith}
 use Rattle.feed_maker.proofs.FolderLemmas.{folder_more, stop_times_first}
 use Rattle.feed_maker.proofs.make.Goals as goal
 

@@ -1,6 +1,4 @@
-use Rattle.std.proofs.Common.{arith}
-use Rattle.std.proofs.lemmas.Grind.{common_steps}
-use Rattle.graph_compact.proofs.Common.{◌∙◌, length-map, lists_of}
+use Rattle.graph_compact.proofs.Common.{◌∙◌, length-map, lists_of, arith, common_steps}
 use Rattle.graph_compact.proofs.Trees.{unfolds, tidy}
 use Rattle.graph_compact.proofs.compact.Goals as goal
 

@@ -1,5 +1,4 @@
-use Rattle.std.proofs.Common.{arith}
-use Rattle.graph_score.proofs.Common.{subst, sym, IsOutlook}
+use Rattle.graph_score.proofs.Common.{arith}
 use Rattle.graph_score.proofs.GraphLegs.{start_fits, start_exits}
 use Rattle.graph_score.proofs.Trees.{unfold-start}
 use Rattle.graph_score.proofs.outlook_by_legs.Goals as goal

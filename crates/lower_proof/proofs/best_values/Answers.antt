@@ -1,4 +1,4 @@
-use Rattle.lower_proof.proofs.Common.{◌≡◌, ◌∙◌, ℕ, List, Option, length, arith, sym, ap, take_at, length-set, Connection, connection}
+use Rattle.lower_proof.proofs.Common.{◌≡◌, ℕ, List, Option, length, arith, sym, ap, take_at, length-set, Connection, connection}
 use Rattle.lower_proof.proofs.Written.{given, written_first, written_there, written_next, written_last}
 use Rattle.lower_proof.proofs.best_values.Goals as goal
 use Rattle.lower_proof.proofs.best_values.Goals.{then-get, else-get}

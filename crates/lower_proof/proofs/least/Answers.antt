@@ -1,5 +1,5 @@
-use Rattle.lower_proof.proofs.Common.{◌≡◌, ◌≢◌, ℕ, ◌∙◌, subst, sym, ap, arith, rules, both_ways, Connection, count, connection, IsBoardableAtStart, IsLeastOf, Offers}
-use Rattle.lower_proof.proofs.Leasts.{Below, with_offer, below_same, all_offers}
+use Rattle.lower_proof.proofs.Common.{◌≡◌, sym, ap, arith, Connection, count, connection, IsBoardableAtStart}
+use Rattle.lower_proof.proofs.Leasts.{with_offer, below_same, all_offers}
 use Rattle.lower_proof.proofs.least.Goals as goal
 use Rattle.lower_proof.proofs.least.Goals.{then-connection+then-starts, else-connection, else-connection-via-then-connection+else-starts, else-connection-via-else-connection}
 

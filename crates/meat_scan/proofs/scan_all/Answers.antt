@@ -1,5 +1,4 @@
-use Rattle.std.proofs.lemmas.Grind.{common_steps}
-use Rattle.meat_scan.proofs.Common.{◌∙◌, sym, subst, arith, refl, written_back, FitsTablesBy}
+use Rattle.meat_scan.proofs.Common.{◌∙◌, sym, subst, arith, refl, written_back, FitsTablesBy, common_steps}
 use Rattle.meat_scan.proofs.States.{next_state, last_state, rules_end, id_there, room_for_run, room_for_rows, room_next, found_rows-profiles, skipped_state}
 use Rattle.meat_scan.proofs.scan_all.Goals as goal
 

@@ -1,5 +1,4 @@
-use Rattle.std.proofs.Common.{arith}
-use Rattle.meat_scan.proofs.Common.{◌∙◌, found_in}
+use Rattle.meat_scan.proofs.Common.{◌∙◌, arith}
 use Rattle.meat_scan.proofs.Ends.{value_solved}
 use Rattle.meat_scan.proofs.Reserves.{fits_again, fits_any}
 use Rattle.meat_scan.proofs.start_value.Goals as goal

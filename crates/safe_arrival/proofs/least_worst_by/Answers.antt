@@ -1,7 +1,4 @@
 use Rattle.std.proofs.Common.{arith}
-use Rattle.std.proofs.Common.{subst}
-use Rattle.value_laws.specs.Worsts.{worst_scoring}
-use Rattle.meat_scan.specs.Solves.{SolvesStart}
 use Rattle.safe_arrival.proofs.Least.{least_from_value}
 use Rattle.safe_arrival.proofs.least_worst_by.Goals as goal
 

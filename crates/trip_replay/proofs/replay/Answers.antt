@@ -1,5 +1,4 @@
-use Rattle.std.proofs.Common.{arith}
-use Rattle.trip_replay.proofs.Common.{unfold_plan}
+use Rattle.trip_replay.proofs.Common.{arith}
 use Rattle.trip_replay.proofs.Walks.{safe_answer}
 use Rattle.trip_replay.proofs.replay.Goals as goal
 

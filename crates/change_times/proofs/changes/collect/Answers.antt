@@ -1,5 +1,5 @@
-use Rattle.change_times.proofs.Common.{◌≡◌, ◌+◌, None, refl, is_none, nat_eq, sym, ap, ◌∙◌, subst, arith, match_raised, fault-at, row_count, bad_transfer, transfer_reported_by, seconds_between}
-use Rattle.change_times.proofs.Common.{link_between, walks_of, most_to, greatest_link, AreCollected}
+use Rattle.change_times.proofs.Common.{◌≡◌, ◌+◌, None, refl, is_none, nat_eq, sym, ap, ◌∙◌, arith, match_raised, fault-at, bad_transfer, transfer_reported_by, seconds_between}
+use Rattle.change_times.proofs.Common.{link_between, walks_of, most_to, greatest_link}
 use Rattle.std.specs.HashMap.{get}
 use Rattle.std.specs.Result.{result_err}
 use Rattle.plan_model.specs.Results.{value_or}

@@ -1,5 +1,4 @@
-use Rattle.std.proofs.Common.{arith}
-use Rattle.change_times.proofs.Common.{◌<◌, List, All, refl, sym, subst, All-nil, Way, ways_at}
+use Rattle.change_times.proofs.Common.{refl, All-nil, arith}
 use Rattle.change_times.proofs.ChangeLemmas.{no_rows}
 use Rattle.change_times.proofs.changes.no_changes.Goals as goal
 

@@ -1,5 +1,4 @@
 use Rattle.change_times.proofs.Common.{◌≡◌, ◌<◌, ℕ, List, length, ap, ◌∙◌, arith, Way, Records, FeedParts, row_count, TransfersSoFar, Walk, ways_at, ways_below, AreCollected, walks_of, most_to}
-use Rattle.change_times.proofs.Common.{change_seconds}
 use Rattle.change_times.proofs.LinkLemmas.{ways-same}
 use Rattle.change_times.proofs.SoundLemmas.{reported_sound, reported_from}
 use Rattle.change_times.proofs.changes.read_rows.Goals as goal

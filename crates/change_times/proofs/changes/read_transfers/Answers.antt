@@ -1,5 +1,4 @@
-use Rattle.std.proofs.Common.{arith}
-use Rattle.change_times.proofs.Common.{match_raised, fault-first, reports-then, transfers_fault}
+use Rattle.change_times.proofs.Common.{match_raised, fault-first, reports-then, transfers_fault, arith}
 use Rattle.change_times.proofs.changes.read_transfers.Goals as goal
 
 pub returns-in_err-check_columns-clause-reports : goal.returns-in_err-check_columns-clause-reports

@@ -1,4 +1,4 @@
-use Rattle.std.proofs.Common.{arith}
+use Rattle.change_times.proofs.Common.{arith}
 use Rattle.change_times.proofs.LinkLemmas.{add-walk, by_ok}
 use Rattle.change_times.proofs.links.add_walk.Goals as goal
 

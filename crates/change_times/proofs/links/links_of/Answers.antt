@@ -1,4 +1,4 @@
-use Rattle.change_times.proofs.Common.{◌<◌, ◌++◌, [], ℕ, length, sym, ap, ◌∙◌, arith, get_or_default, link_from, ways_below, walks_of, most_to}
+use Rattle.change_times.proofs.Common.{arith, get_or_default}
 use Rattle.change_times.proofs.LinkLemmas.{ways-zero, ways-next, ways_before}
 use Rattle.change_times.proofs.links.links_of.Goals as goal
 

@@ -1,5 +1,4 @@
-use Rattle.std.proofs.Common.{arith}
-use Rattle.clock_text.proofs.Common.{◌∙◌}
+use Rattle.clock_text.proofs.Common.{arith}
 use Rattle.clock_text.proofs.NanosLemmas.{no_fraction, no_moment_reported, moment_reported}
 use Rattle.clock_text.proofs.moments.read_nanos.Goals as goal
 

@@ -1,5 +1,4 @@
-use Rattle.std.proofs.Common.{arith}
-use Rattle.command_line.proofs.Common.{◌≡◌, ℕ, List, sym, ◌∙◌, true, false, Bor, is_some}
+use Rattle.command_line.proofs.Common.{ℕ, List, sym, ◌∙◌, Bor, arith}
 use Rattle.command_line.proofs.Pairs.{IsPair, are_settings-short, are_settings-unknown, are_settings-known}
 use Rattle.command_line.proofs.settings.+are_settings.Goals as goal
 

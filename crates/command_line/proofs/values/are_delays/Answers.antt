@@ -1,4 +1,4 @@
-use Rattle.command_line.proofs.Common.{◌≡◌, ℕ, ◌≤◌, ◌<◌, length, List, Bool, true, false, refl, arith, rules, tests, lit<, nat_le, list_all, count_from_yields_List, YieldsList-from_str_split}
+use Rattle.command_line.proofs.Common.{◌≡◌, ℕ, ◌≤◌, ◌<◌, length, List, Bool, true, false, arith, rules, tests, lit<, nat_le, list_all, count_from_yields_List, YieldsList-from_str_split}
 use Rattle.command_line.proofs.Common.{is_delay, are_delays, pieces}
 use Rattle.std.proofs.lemmas.Bool.Decides.{nat_tests}
 use Rattle.std.proofs.lemmas.Iterator.Search.{all_from_yields_List}

@@ -1,4 +1,4 @@
-use Rattle.connections.proofs.Common.{length, ap, arith, inl, inr, cases_eq, links_of}
+use Rattle.connections.proofs.Common.{arith, cases_eq}
 use Rattle.connections.proofs.counts.most_ways.Goals as goal
 
 pub loop-place-preserved : goal.loop-place-preserved

@@ -1,4 +1,4 @@
-use Rattle.connections.proofs.Common.{arith, each_of}
+use Rattle.connections.proofs.Common.{arith}
 use Rattle.connections.proofs.SumLemmas.{day_sum-none}
 use Rattle.connections.proofs.counts.sum_day.Goals as goal
 

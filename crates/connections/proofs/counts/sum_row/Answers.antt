@@ -1,4 +1,4 @@
-use Rattle.connections.proofs.Common.{◌≡◌, ◌-◌, ◌*◌, ℕ, length, ap, ap₂, arith, sum_below, each_of, leaving_sum}
+use Rattle.connections.proofs.Common.{◌-◌, arith}
 use Rattle.connections.proofs.CountLemmas.{sum-next}
 use Rattle.connections.proofs.LeavingLemmas.{leaving_sum-is}
 use Rattle.connections.proofs.SumLemmas.{row_sum-leaving}

@@ -1,4 +1,4 @@
-use Rattle.connections.proofs.Common.{◌≡◌, ◌-◌, ℕ, length, arith, kept_at, each_of}
+use Rattle.connections.proofs.Common.{◌-◌, arith}
 use Rattle.connections.proofs.SumLemmas.{steps-sum}
 use Rattle.connections.proofs.counts.sum_steps.Goals as goal
 

@@ -1,5 +1,4 @@
-use Rattle.std.proofs.lemmas.Grind.{common_steps}
-use Rattle.connections.proofs.Common.{◌≡◌, ℕ, ◌<◌, ◌≤◌, ◌+◌, arith, sym, ◌∙◌, subst, ⊎_elim, cases_lt, Run, run_at, IsSmallRepeat, IsRunName, List}
+use Rattle.connections.proofs.Common.{ℕ, ◌<◌, ◌+◌, arith, sym, subst, cases_lt, Run, run_at, IsSmallRepeat, IsRunName, List, common_steps}
 use Rattle.connections.proofs.NameLemmas.{run_new, run_pushes}
 use Rattle.connections.proofs.names.names_of.Goals as goal
 

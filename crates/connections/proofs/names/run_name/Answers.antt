@@ -1,5 +1,4 @@
-use Rattle.std.proofs.Common.{arith}
-use Rattle.connections.proofs.Common.{◌++◌, ◌∷◌, [], ℤ, w32, SFits, Some, sym, ap, ◌∙◌, subst, rules, append_assoc, to_z-of_z, HasDate, get_or_from_slice_get, start_text}
+use Rattle.connections.proofs.Common.{[], ℤ, w32, SFits, Some, sym, ap, ◌∙◌, subst, rules, append_assoc, to_z-of_z, HasDate, get_or_from_slice_get, arith}
 use Rattle.std.proofs.lemmas.Str.{IsUtf8-from_ascii}
 use Rattle.connections.proofs.DateLemmas.{has_date, date_is_ascii}
 use Rattle.connections.proofs.names.run_name.Goals as goal

@@ -1,4 +1,4 @@
-use Rattle.connections.proofs.Common.{ℕ, ◌<◌, ◌≤◌, List, length, sym, subst, ◌∙◌, arith, nat_tests, nil_from_length, StopRow, rows_of, kept_at, DepartOnDay}
+use Rattle.connections.proofs.Common.{◌<◌, length, sym, subst, arith, nat_tests, nil_from_length, rows_of, DepartOnDay}
 use Rattle.connections.proofs.ReachLemmas.{departures_are, over-next}
 use Rattle.connections.proofs.reach.latest_of.Goals as goal
 

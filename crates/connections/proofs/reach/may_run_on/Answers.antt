@@ -1,5 +1,4 @@
-use Rattle.std.proofs.lemmas.Grind.{common_steps}
-use Rattle.connections.proofs.Common.{◌<ℤ◌, pos, length, subst, arith, IfSome, ints, origin_of_day, moment_of, AreOverBy}
+use Rattle.connections.proofs.Common.{arith, common_steps}
 use Rattle.connections.proofs.ReachLemmas.{none_run_early, none_run_late}
 use Rattle.connections.proofs.reach.may_run_on.Goals as goal
 

@@ -1,5 +1,4 @@
-use Rattle.std.proofs.Common.{arith}
-use Rattle.connections.proofs.Common.{List, ◌++◌, append-nil, sym, ap, ◌∙◌, Run}
+use Rattle.connections.proofs.Common.{append-nil, arith}
 use Rattle.connections.proofs.ReachLemmas.{day_runs-none}
 use Rattle.connections.proofs.runs.add_day.Goals as goal
 

@@ -1,4 +1,4 @@
-use Rattle.connections.proofs.Common.{◌<◌, ◌∙◌, List, All, All-get_or, length, sym, subst, arith, Repeat, end_of_times}
+use Rattle.connections.proofs.Common.{All-get_or, arith}
 use Rattle.connections.proofs.RepeatLemmas.{repeats_early, repeats_some}
 use Rattle.connections.proofs.runs.add_repeats.Goals as goal
 

@@ -1,4 +1,4 @@
-use Rattle.connections.proofs.Common.{sym, ap, ◌∙◌, arith, steps_below}
+use Rattle.connections.proofs.Common.{sym, ◌∙◌, arith}
 use Rattle.connections.proofs.ReachLemmas.{has_connection_true, has_connection_false}
 use Rattle.connections.proofs.runs.has_connection.Goals as goal
 

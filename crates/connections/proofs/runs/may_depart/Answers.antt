@@ -1,4 +1,4 @@
-use Rattle.connections.proofs.Common.{◌-◌, ◌≡◌, length, arith, ints}
+use Rattle.connections.proofs.Common.{◌-◌, arith}
 use Rattle.connections.proofs.ReachLemmas.{none_at_all, none_late, none_early}
 use Rattle.connections.proofs.runs.may_depart.Goals as goal
 use Rattle.connections.proofs.runs.may_depart.Goals.{then-connections-eq0-via-then-connections-eq0, then-connections-eq0-via-else-connections-eq0+then-ends_before}

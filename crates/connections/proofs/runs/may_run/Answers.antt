@@ -1,4 +1,4 @@
-use Rattle.connections.proofs.Common.{◌≡◌, ◌<ℤ◌, pos, length, arith, nat_tests, nil_from_length, ints, origin_of_day, moment_of, first_start}
+use Rattle.connections.proofs.Common.{arith, nat_tests, nil_from_length}
 use Rattle.connections.proofs.ReachLemmas.{none_early_all}
 use Rattle.connections.proofs.runs.may_run.Goals as goal
 

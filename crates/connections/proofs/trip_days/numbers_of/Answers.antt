@@ -1,5 +1,4 @@
-use Rattle.std.proofs.Common.{arith}
-use Rattle.connections.proofs.Common.{List, ℕ, [], slice_index_or, sym, ap, ◌∙◌, get_or_from_slice_get, number_in, list_below-next}
+use Rattle.connections.proofs.Common.{slice_index_or, get_or_from_slice_get, list_below-next, arith}
 use Rattle.connections.proofs.trip_days.numbers_of.Goals as goal
 
 pub loop-trip-preserved : goal.loop-trip-preserved

@@ -1,5 +1,4 @@
-use Rattle.std.proofs.Common.{arith}
-use Rattle.connections.proofs.Common.{Option, IfSome, sym, ap, ◌∙◌, subst, class_of_trip, connection_from, IsClassOfHour}
+use Rattle.connections.proofs.Common.{Option, IfSome, sym, ap, ◌∙◌, subst, class_of_trip, connection_from, IsClassOfHour, arith}
 use Rattle.connections.specs.declared.window_connections.HourClass.{HourClass}
 use Rattle.connections.proofs.MapLemmas.{map-kept, map-dropped}
 use Rattle.connections.proofs.window_connections.add_connections.Goals as goal

@@ -1,5 +1,4 @@
-use Rattle.std.proofs.Common.{arith}
-use Rattle.connections.proofs.Common.{Some, slice_index, sym, ◌∙◌, route_of}
+use Rattle.connections.proofs.Common.{arith}
 use Rattle.delay_table.proofs.RouteFacts.{same-hour}
 use Rattle.connections.proofs.window_connections.class_in_hour.Goals as goal
 

@@ -1,5 +1,4 @@
-use Rattle.std.proofs.Common.{arith}
-use Rattle.connections.proofs.Common.{Some, ℕ, ap, ◌∙◌, class_for, routes_of, route_of}
+use Rattle.connections.proofs.Common.{routes_of, route_of, arith}
 use Rattle.connections.proofs.RouteLemmas.{route_inside, class_is}
 use Rattle.connections.proofs.window_connections.class_of.Goals as goal
 

@@ -1,5 +1,5 @@
-use Rattle.connections.proofs.Common.{ℕ, List, [], ◌++◌, Option, length, map, slice_index_or, sym, ap, ◌∙◌, arith, length-list_below, get-list_below, route_number, StopRow, Connection}
-use Rattle.connections.proofs.Common.{connections_below, run_connections, rows_of, run_at, steps_of, connection_from, class_of_trip}
+use Rattle.connections.proofs.Common.{slice_index_or, arith, length-list_below, get-list_below}
+use Rattle.connections.proofs.Common.{connections_below, run_connections}
 use Rattle.connections.proofs.JoinLemmas.{join-next}
 use Rattle.connections.proofs.window_connections.connections_of.Goals as goal
 

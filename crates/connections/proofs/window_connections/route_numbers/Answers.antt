@@ -1,5 +1,4 @@
-use Rattle.std.proofs.Common.{arith}
-use Rattle.connections.proofs.Common.{List, ℕ, [], slice_index_or, sym, ap, ◌∙◌, get_or_from_slice_get, number_in, list_below-next, route_number}
+use Rattle.connections.proofs.Common.{slice_index_or, get_or_from_slice_get, list_below-next, arith}
 use Rattle.connections.proofs.window_connections.route_numbers.Goals as goal
 
 pub loop-route-preserved : goal.loop-route-preserved

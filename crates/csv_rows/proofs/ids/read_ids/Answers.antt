@@ -1,4 +1,4 @@
-use Rattle.csv_rows.proofs.Common.{Bor, ◌≡◌, ◌++◌, ◌∷◌, [], List, ℕ, Contains, false, None, Some, refl, sym, ap, ◌∙◌, arith, length, subst, true, DuplicateKey, row_count, field, field_at}
+use Rattle.csv_rows.proofs.Common.{Bor, ◌≡◌, List, ℕ, Contains, false, Some, refl, sym, ap, ◌∙◌, arith, subst, true, DuplicateKey, row_count, field, field_at}
 use Rattle.csv_rows.proofs.Common.{repeated_id}
 use Rattle.std.proofs.lemmas.Bool.{not-true, not-false}
 use Rattle.csv_rows.proofs.FirstLemmas.{first-zero, first-next, first-at}

@@ -1,4 +1,4 @@
-use Rattle.cut_file.proofs.Common.{◌∙◌, ap, sym, arith, Some, None, TooManyRows}
+use Rattle.cut_file.proofs.Common.{◌∙◌, arith, Some, None}
 use Rattle.csv_rows.proofs.FaultLemmas.{if_raised}
 use Rattle.cut_file.proofs.CheckedFacts.{column_first, count_first, rows_first, field_first, runs_here, read_here}
 use Rattle.cut_file.proofs.checked.read_checked.Goals as goal

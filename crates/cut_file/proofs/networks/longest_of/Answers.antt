@@ -1,4 +1,4 @@
-use Rattle.cut_file.proofs.Common.{◌∙◌, sym, ap, ap₂, arith, max, get_or, length-set, get_or_default, get_or-replicate, cut_row}
+use Rattle.cut_file.proofs.Common.{arith, length-set, get_or_default, get_or-replicate}
 use Rattle.cut_file.proofs.ChangeFacts.{longest-zero, longest_next}
 use Rattle.cut_file.proofs.networks.longest_of.Goals as goal
 

@@ -1,5 +1,4 @@
-use Rattle.std.proofs.Common.{arith}
-use Rattle.cut_file.proofs.Common.{ap, sym, ◌∙◌, Some, bytes_eq-Decides}
+use Rattle.cut_file.proofs.Common.{bytes_eq-Decides, arith}
 use Rattle.std.proofs.lemmas.Result.{on_ok_weaker}
 use Rattle.cut_file.proofs.NumberFacts.{add_new-from_adds, add_new_there}
 use Rattle.cut_file.proofs.numbers.number_of.Goals as goal

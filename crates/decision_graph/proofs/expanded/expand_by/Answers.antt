@@ -1,5 +1,4 @@
-use Rattle.std.proofs.Common.{arith}
-use Rattle.decision_graph.proofs.Common.{◌≡◌, None, MatchOption-at_some}
+use Rattle.decision_graph.proofs.Common.{◌≡◌, None, MatchOption-at_some, arith}
 use Rattle.decision_graph.proofs.AtOnce.{in_time, expanded_at_once, steady_at_once}
 use Rattle.decision_graph.proofs.BestStrategies.{IsOfStart, expanded, steady_choice}
 use Rattle.decision_graph.proofs.expanded.expand_by.Goals as goal

@@ -1,5 +1,4 @@
-use Rattle.std.proofs.Common.{arith}
-use Rattle.decision_graph.proofs.Common.{ap}
+use Rattle.decision_graph.proofs.Common.{ap, arith}
 use Rattle.value_laws.specs.Means.{mean_scoring, mean_laws, from_span}
 use Rattle.decision_graph.proofs.AtOnce.{in_time, expanded_at_once, steady_at_once}
 use Rattle.decision_graph.proofs.expanded.expand_means.Goals as goal

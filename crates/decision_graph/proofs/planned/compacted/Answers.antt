@@ -1,5 +1,4 @@
-use Rattle.std.proofs.Common.{arith}
-use Rattle.decision_graph.proofs.Tables.{planned}
+use Rattle.decision_graph.proofs.Common.{arith}
 use Rattle.decision_graph.proofs.planned.compacted.Goals as goal
 
 pub compact-requires-clause-coherent : goal.compact-requires-clause-coherent

@@ -1,5 +1,4 @@
-use Rattle.std.proofs.Common.{arith}
-use Rattle.delay_table.proofs.Common.{◌∙◌, Class, Delay, Weight, RouteId, Hour, index_of}
+use Rattle.delay_table.proofs.Common.{arith}
 use Rattle.delay_table.proofs.LineFacts.{line_here, field_is, line_is_formed}
 use Rattle.delay_table.proofs.lines.line_at.Goals as goal
 

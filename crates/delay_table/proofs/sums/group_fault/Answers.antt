@@ -1,5 +1,5 @@
-use Rattle.delay_table.proofs.Common.{◌≡◌, ◌∙◌, ap, sym, refl, arith, false, true, None, Some, length, first-zero, first-next, first-at}
-use Rattle.delay_table.proofs.Common.{GroupSum, group_in, group_sum_at, is_plain, line_at, other_sum, read_outcomes}
+use Rattle.delay_table.proofs.Common.{arith, first-zero, first-next, first-at}
+use Rattle.delay_table.proofs.Common.{group_sum_at, line_at, read_outcomes}
 use Rattle.delay_table.proofs.sums.group_fault.Goals as goal
 
 pub loop-index-init : goal.loop-index-init

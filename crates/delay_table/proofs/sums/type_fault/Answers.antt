@@ -1,4 +1,4 @@
-use Rattle.delay_table.proofs.Common.{sym, arith, None, length, first-zero, first-next, first-at, type_sum_at, read_outcomes}
+use Rattle.delay_table.proofs.Common.{arith, first-zero, first-next, first-at, type_sum_at, read_outcomes}
 use Rattle.delay_table.proofs.sums.type_fault.Goals as goal
 
 pub loop-index-init : goal.loop-index-init

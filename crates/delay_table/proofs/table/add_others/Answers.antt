@@ -1,5 +1,4 @@
-use Rattle.std.proofs.Common.{arith}
-use Rattle.delay_table.proofs.Common.{◌≡◌, ◌++◌, ◌∷◌, [], ◌∙◌, ap, sym, append-nil, false, true, List, Outcome, map, group_in, if_other, is_plain, read_outcomes}
+use Rattle.delay_table.proofs.Common.{append-nil, arith}
 use Rattle.delay_table.proofs.Others.{others-zero, other-rows-next}
 use Rattle.delay_table.proofs.table.add_others.Goals as goal
 

@@ -1,5 +1,4 @@
-use Rattle.std.proofs.Common.{arith}
-use Rattle.delay_table.proofs.Common.{◌≡◌, ◌++◌, ◌∷◌, ◌∙◌, Some, sym, ap, subst, length, map, List, None, ℕ, Outcome, plain_types, class_rows, others, type_rows, line_at, read_outcomes, AreDelays}
+use Rattle.delay_table.proofs.Common.{◌≡◌, sym, ap, subst, length, ℕ, plain_types, AreDelays, arith}
 use Rattle.delay_table.proofs.Counted.{reported-count}
 use Rattle.delay_table.proofs.Sound.{made-is, delays_valid, classes-are}
 use Rattle.delay_table.proofs.table.table_of.Goals as goal

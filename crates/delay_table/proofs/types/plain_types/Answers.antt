@@ -1,5 +1,4 @@
-use Rattle.std.proofs.Common.{arith}
-use Rattle.delay_table.proofs.Common.{◌≡◌, ◌++◌, ◌∙◌, ap, ap₂, sym, append-nil, Option, ℕ, List, Some, None, group_in, listed, plain_type}
+use Rattle.delay_table.proofs.Common.{◌++◌, ◌∙◌, append-nil, Option, ℕ, List, listed, arith}
 use Rattle.delay_table.proofs.PlainTypes.{plain-none, plain-next}
 use Rattle.delay_table.proofs.types.plain_types.Goals as goal
 

@@ -1,6 +1,6 @@
 use Rattle.std.proofs.lemmas.Grind.{common_steps}
-use Rattle.departure_table.proofs.Common.{ℕ, ◌+◌, ◌<◌, ◌++◌, ◌∷◌, ◌∙◌, [], ap, sym, subst, arith, append-nil, length, List, range_with_len, map, slice_index_or}
-use Rattle.departure_table.proofs.Common.{NetworkModel, Way, HasGates, extended_by, links_into, source_at, way_from}
+use Rattle.departure_table.proofs.Common.{◌∙◌, arith, append-nil, slice_index_or}
+use Rattle.departure_table.proofs.Common.{extended_by}
 use Rattle.std.proofs.lemmas.List.{length-set, get_or_default}
 use Rattle.std.proofs.lemmas.List.FromFn.{length-map-range_with_len}
 use Rattle.plan_model.proofs.SameParts.{same_parts}

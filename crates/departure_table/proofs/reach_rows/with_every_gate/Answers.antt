@@ -1,5 +1,4 @@
-use Rattle.departure_table.proofs.Common.{◌≡◌, ◌<◌, ◌++◌, ◌∷◌, [], ◌∙◌, List, All, PlaceId, length, ap, sym, subst, arith}
-use Rattle.departure_table.specs.Reach.{places_of, places_up_to}
+use Rattle.departure_table.proofs.Common.{arith}
 use Rattle.departure_table.proofs.ReachGrowth.{count_up_to, places_more, are_below}
 use Rattle.departure_table.proofs.reach_rows.with_every_gate.Goals as goal
 

@@ -1,4 +1,4 @@
-use Rattle.feed_lists.proofs.Common.{None, ◌∙◌, arith, match_raised, fault-at, first-zero, first-next, list_below-zero, list_below-next, unknown_parent, place_from, stop_ids, parent_of}
+use Rattle.feed_lists.proofs.Common.{◌∙◌, arith, match_raised, fault-at, first-zero, first-next, list_below-zero, list_below-next}
 use Rattle.feed_lists.proofs.StopLemmas.{listed, unknown_is, place_is_from}
 use Rattle.feed_lists.proofs.stops.read_places.Goals as goal
 

@@ -1,4 +1,4 @@
-use Rattle.feed_maker.proofs.Common.{◌/◌, ◌%◌, arith, refl, time_text}
+use Rattle.feed_maker.proofs.Common.{arith, time_text}
 use Rattle.feed_maker.proofs.DigitLemmas.{two_digits-bytes}
 use Rattle.feed_maker.proofs.names.clock.Goals as goal
 

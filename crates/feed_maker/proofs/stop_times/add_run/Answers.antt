@@ -1,6 +1,5 @@
-use Rattle.feed_maker.proofs.Common.{◌≡◌, ◌<◌, length, arith, ap, sym, subst, ◌∙◌, Some, IfSome, slice_get, place_piece}
+use Rattle.feed_maker.proofs.Common.{arith}
 use Rattle.std.proofs.lemmas.Option.{slice_get-get_or}
-use Rattle.arrayvec.specs.ArrayString.{ArrayString}
 use Rattle.feed_maker.proofs.stop_times.add_run.Goals as goal
 
 pub add_stop_time-requires-clause-end : goal.add_stop_time-requires-clause-end

@@ -1,5 +1,4 @@
-use Rattle.std.proofs.Common.{arith}
-use Rattle.graph_score.proofs.Common.{rules, both_ways}
+use Rattle.graph_score.proofs.Common.{arith}
 use Rattle.graph_score.proofs.GraphLegs.{first_wrong_is}
 use Rattle.graph_score.proofs.legs.first_wrong.Goals as goal
 

@@ -1,5 +1,4 @@
-use Rattle.std.proofs.Common.{arith}
-use Rattle.graph_text.proofs.Common.{◌∙◌, Ok, Result, sym, ap, and_then, PlanGraph, TextFault}
+use Rattle.graph_text.proofs.Common.{arith}
 use Rattle.graph_text.proofs.Tables.{reported_by}
 use Rattle.graph_text.proofs.reader.read_records.Goals as goal
 

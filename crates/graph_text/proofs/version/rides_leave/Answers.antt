@@ -1,8 +1,5 @@
-use Rattle.std.proofs.Common.{arith}
+use Rattle.graph_text.proofs.Common.{arith}
 use Rattle.std.proofs.lemmas.Grind.{common_steps}
-use Rattle.graph_text.proofs.Common.{sym, refl, rows_leave, rides_leave}
-use Rattle.plan_model.specs.Unfold.{end_of}
-use Rattle.graph_text.proofs.Leaving.{fails_at, passes_at}
 use Rattle.graph_text.proofs.version.rides_leave.Goals as goal
 
 pub returns-then-not-rows_leave : goal.returns-then-not-rows_leave

@@ -1,7 +1,5 @@
-use Rattle.std.proofs.Common.{arith}
 use Rattle.std.proofs.lemmas.Grind.{common_steps}
-use Rattle.graph_text.proofs.Common.{sym, ap, refl, ◌==◌, Connection, from_of, rows_leave, ne_eqb, eq-eqb}
-use Rattle.graph_text.proofs.Leaving.{fails_at, passes_at}
+use Rattle.graph_text.proofs.Common.{ne_eqb, eq-eqb, arith}
 use Rattle.graph_text.proofs.version.rows_leave.Goals as goal
 
 pub returns-then-get-place : goal.returns-then-get-place

@@ -1,7 +1,5 @@
-use Rattle.std.proofs.Common.{arith}
+use Rattle.graph_text.proofs.Common.{arith}
 use Rattle.std.proofs.lemmas.Grind.{common_steps}
-use Rattle.graph_text.proofs.Common.{sym, refl, rows_leave, tables_leave}
-use Rattle.graph_text.proofs.Leaving.{fails_at, passes_at}
 use Rattle.graph_text.proofs.version.tables_leave.Goals as goal
 
 pub returns-then-not-rows_leave : goal.returns-then-not-rows_leave

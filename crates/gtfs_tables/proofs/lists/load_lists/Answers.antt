@@ -1,5 +1,4 @@
-use Rattle.std.proofs.Common.{arith}
-use Rattle.gtfs_tables.proofs.Common.{IsFeedTable, own-of, Stops, Routes, Trips, reads-raised, reads-value, reads-fault, reads-both, reads-after}
+use Rattle.gtfs_tables.proofs.Common.{own-of, reads-raised, reads-value, reads-fault, reads-both, reads-after, arith}
 use Rattle.gtfs_tables.proofs.FeedLemmas.{fault_at_stops, fault_at_routes, fault_at_trips}
 use Rattle.gtfs_tables.proofs.lists.load_lists.Goals as goal
 

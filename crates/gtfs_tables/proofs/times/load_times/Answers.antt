@@ -1,5 +1,4 @@
-use Rattle.std.proofs.Common.{arith}
-use Rattle.gtfs_tables.proofs.Common.{IsFeedTable, own-of, StopTimes, Frequencies, reads-raised, reads-value, reads-fault, reads-both, reads-after}
+use Rattle.gtfs_tables.proofs.Common.{IsFeedTable, own-of, Frequencies, reads-raised, reads-value, reads-fault, reads-both, reads-after, arith}
 use Rattle.gtfs_tables.proofs.FeedLemmas.{fault_at_times, fault_at_repeats}
 use Rattle.gtfs_tables.proofs.times.load_times.Goals as goal
 

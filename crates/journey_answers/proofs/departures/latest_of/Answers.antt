@@ -1,4 +1,4 @@
-use Rattle.std.proofs.Common.{arith}
+use Rattle.journey_answers.proofs.Common.{arith}
 use Rattle.journey_answers.proofs.Departing.{latest_at_once, same_greatest}
 use Rattle.journey_answers.proofs.departures.latest_of.Goals as goal
 

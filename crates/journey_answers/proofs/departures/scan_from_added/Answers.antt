@@ -1,5 +1,4 @@
-use Rattle.journey_answers.proofs.Common.{◌≡◌, ℕ, ◌+◌, arith, length, subst}
-use Rattle.plan_model.specs.Gates.{IsGate}
+use Rattle.journey_answers.proofs.Common.{◌≡◌, ◌+◌, arith, length}
 use Rattle.journey_answers.proofs.departures.scan_from_added.Goals as goal
 
 pub returns-clause-extended : goal.returns-clause-extended

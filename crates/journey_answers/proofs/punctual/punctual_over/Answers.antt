@@ -1,5 +1,4 @@
-use Rattle.std.proofs.Common.{arith}
-use Rattle.journey_answers.proofs.Common.{MatchOption-at_some, IsNoneSafe, findings_of}
+use Rattle.journey_answers.proofs.Common.{MatchOption-at_some, findings_of, arith}
 use Rattle.journey_answers.specs.Punctual.{AnswersPunctual}
 use Rattle.journey_answers.proofs.Sought.{in_query, none_is_safe, match_none}
 use Rattle.journey_answers.proofs.punctual.punctual_over.Goals as goal

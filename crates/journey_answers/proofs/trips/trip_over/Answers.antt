@@ -1,7 +1,5 @@
-use Rattle.journey_answers.proofs.Common.{◌≡◌, ℕ, List, Some, None, Err, ◌≤◌, ◌∙◌, sym, subst, arith, ◌≢◌, IsAnswer, NoMemory, unread_input, last_printable, HasSite, parts_of, replay_as, trip_by}
-use Rattle.journey_answers.proofs.Common.{IsTripFault, arrivals}
-use Rattle.journey_model.specs.declared.faults.Fault.{Fault}
-use Rattle.command_line.specs.Jobs.{late_in}
+use Rattle.journey_answers.proofs.Common.{arith}
+use Rattle.journey_answers.proofs.Common.{arrivals}
 use Rattle.journey_answers.proofs.TripFaults.{stuck_has_site, trip_fault, replay_unread}
 use Rattle.journey_answers.proofs.trips.trip_over.Goals as goal
 

@@ -1,5 +1,4 @@
-use Rattle.std.proofs.Common.{arith}
-use Rattle.journey_problem.proofs.Common.{◌∙◌, ap, inl, inr, IfOk-weaker, IfErr-weaker, FeedFolder, journey_shown, feed_as, path_by, gtfs_folder_of, IfSome_then}
+use Rattle.journey_problem.proofs.Common.{inr, IfOk-weaker, IfErr-weaker, FeedFolder, journey_shown, path_by, gtfs_folder_of, arith}
 use Rattle.journey_model.specs.declared.faults.Input.TheVariants as input
 use Rattle.journey_problem.proofs.Loads.{if_some_any}
 use Rattle.journey_problem.proofs.Causes.{causes-then}

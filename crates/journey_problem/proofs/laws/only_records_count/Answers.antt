@@ -1,4 +1,4 @@
-use Rattle.std.proofs.Common.{arith}
+use Rattle.journey_problem.proofs.Common.{arith}
 use Rattle.journey_problem.proofs.SameFiles.{alike_sym, problem_of_records, fault_of_records}
 use Rattle.journey_problem.specs.Files.{path_of}
 use Rattle.journey_problem.specs.Paths.{no_path}

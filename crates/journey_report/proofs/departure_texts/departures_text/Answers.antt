@@ -1,6 +1,5 @@
-use Rattle.std.proofs.Common.{arith}
+use Rattle.journey_report.proofs.Common.{arith}
 use Rattle.std.proofs.lemmas.Grind.{common_steps}
-use Rattle.journey_report.proofs.Common.{ℕ, List, ◌++◌, ap, ◌∙◌, departure_text, departures_text, rows_text}
 use Rattle.journey_report.proofs.DepartureLines.{rows_step, rows_end}
 use Rattle.journey_report.proofs.departure_texts.departures_text.Goals as goal
 

@@ -1,6 +1,5 @@
-use Rattle.std.proofs.Common.{arith}
 use Rattle.std.proofs.lemmas.Grind.{common_steps}
-use Rattle.journey_report.proofs.Common.{ℕ, List, ◌++◌, ap, ◌∙◌, from_text, froms_text, reach_text}
+use Rattle.journey_report.proofs.Common.{ℕ, List, ◌++◌, ap, froms_text, arith}
 use Rattle.journey_report.proofs.ReachLines.{froms_step, froms_end}
 use Rattle.journey_report.proofs.reach_texts.reach_text.Goals as goal
 

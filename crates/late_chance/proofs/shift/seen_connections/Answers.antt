@@ -1,5 +1,5 @@
 use Rattle.std.proofs.lemmas.Grind.{common_steps}
-use Rattle.late_chance.proofs.Common.{◌<◌, length, ap, ◌∙◌, arith, map_more, connection, no_connection, shifted_connection}
+use Rattle.late_chance.proofs.Common.{arith, map_more, connection}
 use Rattle.late_chance.proofs.shift.seen_connections.Goals as goal
 
 pub loop-id-preserved : goal.loop-id-preserved

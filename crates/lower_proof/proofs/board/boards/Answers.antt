@@ -1,4 +1,4 @@
-use Rattle.lower_proof.proofs.Common.{◌≡◌, ap, length, List, ShownBoard, arith, take_at, count, HaveEntries}
+use Rattle.lower_proof.proofs.Common.{◌≡◌, arith, take_at, count, HaveEntries}
 use Rattle.lower_proof.proofs.board.boards.Goals as goal
 
 pub loop-i-preserved : goal.loop-i-preserved

@@ -1,4 +1,4 @@
-use Rattle.lower_proof.proofs.Common.{◌≡◌, ◌<◌, ◌∙◌, length, Some, arith, length-set, IsLeastOf, bound_of, lesser, entry_at, FrontValue}
+use Rattle.lower_proof.proofs.Common.{◌<◌, length, arith, length-set, IsLeastOf, FrontValue}
 use Rattle.lower_proof.proofs.Leasts.{none_below}
 use Rattle.lower_proof.proofs.Minima.{before_is, minima_more}
 use Rattle.lower_proof.proofs.board.extend.Goals as goal

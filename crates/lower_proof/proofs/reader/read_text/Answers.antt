@@ -1,5 +1,4 @@
-use Rattle.std.proofs.Common.{arith}
-use Rattle.lower_proof.proofs.Common.{rules, subst, NameLists, IsProofRead}
+use Rattle.lower_proof.proofs.Common.{arith}
 use Rattle.lower_proof.proofs.reader.read_text.Goals as goal
 
 -- what is read by the index is read by the names

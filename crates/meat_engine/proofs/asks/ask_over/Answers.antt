@@ -1,4 +1,4 @@
-use Rattle.std.proofs.Common.{arith}
+use Rattle.meat_engine.proofs.Common.{arith}
 use Rattle.journey_problem.proofs.Causes.{causes-none}
 use Rattle.meat_engine.proofs.Asked.{alone-asked, answered-asked, causes-asked}
 use Rattle.meat_engine.proofs.asks.ask_over.Goals as goal

@@ -1,5 +1,4 @@
-use Rattle.std.proofs.Common.{arith}
-use Rattle.meat_engine.proofs.Common.{ℕ, ap, subst, JourneyModel, IsQueryOf, findings_of, sample_alpha, AnswersSampled}
+use Rattle.meat_engine.proofs.Common.{arith}
 use Rattle.journey_answers.proofs.Sought.{in_query}
 use Rattle.meat_engine.proofs.samples.sample_in.Goals as goal
 

@@ -1,4 +1,4 @@
-use Rattle.meat_engine.proofs.Common.{◌≡◌, ◌∙◌, inl, inr, map, string_bytes, sym, subst, arith, JobModel, wanted_job, Input, Fault, Words, Read, Write, NoMemory, HasSite, findings_of, FailsJob}
+use Rattle.meat_engine.proofs.Common.{◌≡◌, ◌∙◌, map, string_bytes, sym, subst, arith, wanted_job, Fault, Write, NoMemory, HasSite, findings_of, FailsJob}
 use Rattle.meat_engine.proofs.Common.{known_of}
 use Rattle.meat_engine.proofs.Outcomes.{job_cause, write_fails}
 use Rattle.meat_engine.proofs.Runs.{refused_run, answered_run, path_of_job}

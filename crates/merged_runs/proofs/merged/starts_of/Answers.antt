@@ -1,4 +1,4 @@
-use Rattle.merged_runs.proofs.Common.{◌≡◌, arith, ap, Connection}
+use Rattle.merged_runs.proofs.Common.{arith}
 use Rattle.merged_runs.proofs.StartLemmas.{AreStartsBelow-start, AreStartsBelow-within, AreStarts-from_below}
 use Rattle.merged_runs.proofs.merged.starts_of.Goals as goal
 use Rattle.merged_runs.proofs.merged.starts_of.Goals.{then-get-len+in_ok-push, else-get-len}

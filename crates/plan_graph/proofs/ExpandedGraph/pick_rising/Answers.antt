@@ -1,4 +1,4 @@
-use Rattle.plan_graph.proofs.Common.{rules, arith, sym, ap, ◌∙◌, List, IsPartitionPoint-from_clause, Ride, GraphRow, leg_lt, pick_row, get_or_default}
+use Rattle.plan_graph.proofs.Common.{rules, arith, sym, ap, ◌∙◌, IsPartitionPoint-from_clause, Ride, leg_lt, get_or_default}
 use Rattle.plan_graph.proofs.Searches.{rides_parted, pick_after-at, pick_after-none, leg_same, leg_other}
 use Rattle.plan_graph.proofs.ExpandedGraph.pick_rising.Goals as goal
 

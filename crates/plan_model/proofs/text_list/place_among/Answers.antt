@@ -1,4 +1,4 @@
-use Rattle.plan_model.proofs.Common.{◌≡◌, ◌∙◌, ◌<◌, ◌≤◌, List, [], length, get_or, arith, ap, ⊎_elim, String, Global, cases_lt, false≢true, length-map, texts}
+use Rattle.plan_model.proofs.Common.{arith, cases_lt, length-map}
 use Rattle.std.proofs.lemmas.Slice.Eq.{bytes_eq-Decides}
 use Rattle.plan_model.proofs.Texts.{texts-at}
 use Rattle.plan_model.proofs.text_list.place_among.Goals as goal

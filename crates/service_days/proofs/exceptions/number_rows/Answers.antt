@@ -1,5 +1,4 @@
-use Rattle.std.proofs.Common.{arith}
-use Rattle.service_days.proofs.Common.{◌<◌, ◌-◌, ◌^◌, ◌+◌, All, List, ℕ, length, sym, subst, ◌∙◌, IsTrimmed, row_count, AreNumbered}
+use Rattle.service_days.proofs.Common.{◌-◌, All, sym, subst, ◌∙◌, IsTrimmed, arith}
 use Rattle.service_days.proofs.exceptions.number_rows.Goals as goal
 
 pub read_rows-requires-clause-few : goal.read_rows-requires-clause-few

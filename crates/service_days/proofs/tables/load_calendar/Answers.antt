@@ -1,4 +1,4 @@
-use Rattle.std.proofs.Common.{arith}
+use Rattle.service_days.proofs.Common.{arith}
 use Rattle.service_days.proofs.ReadLemmas.{of_calendar}
 use Rattle.service_days.proofs.tables.load_calendar.Goals as goal
 

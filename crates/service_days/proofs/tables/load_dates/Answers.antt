@@ -1,4 +1,4 @@
-use Rattle.std.proofs.Common.{arith}
+use Rattle.service_days.proofs.Common.{arith}
 use Rattle.service_days.proofs.ReadLemmas.{of_dates}
 use Rattle.service_days.proofs.tables.load_dates.Goals as goal
 

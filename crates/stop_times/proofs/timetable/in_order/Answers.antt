@@ -1,5 +1,4 @@
-use Rattle.stop_times.proofs.Common.{◌∙◌, ap, sym, subst, refl, arith, StopTimes, or_then}
-use Rattle.csv_rows.specs.FeedTables.{unread_table, IsFaultOf}
+use Rattle.stop_times.proofs.Common.{◌∙◌, arith, or_then}
 use Rattle.csv_rows.proofs.FaultLemmas.{match_raised, fault-first}
 use Rattle.stop_times.proofs.BackLemmas.{backward_is}
 use Rattle.stop_times.proofs.timetable.in_order.Goals as goal

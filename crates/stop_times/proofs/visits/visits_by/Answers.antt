@@ -1,5 +1,4 @@
-use Rattle.std.proofs.Common.{arith}
-use Rattle.stop_times.proofs.Common.{sym, ◌∙◌, list_below-zero, list_below-next, visit_at}
+use Rattle.stop_times.proofs.Common.{sym, ◌∙◌, list_below-zero, list_below-next, visit_at, arith}
 use Rattle.stop_times.proofs.visits.visits_by.Goals as goal
 
 pub loop-k-init : goal.loop-k-init

@@ -1,5 +1,4 @@
-use Rattle.std.proofs.Common.{arith}
-use Rattle.trip_frequencies.proofs.Common.{rules, answers_always, IsNonDecreasingBy-from_sort_by_key, TripFrequency}
+use Rattle.trip_frequencies.proofs.Common.{rules, answers_always, IsNonDecreasingBy-from_sort_by_key, TripFrequency, arith}
 use Rattle.trip_frequencies.proofs.RepeatLemmas.{repeats_of-stable}
 use Rattle.trip_frequencies.proofs.repeats.by_trip.Goals as goal
 

@@ -1,11 +1,7 @@
-use Rattle.trip_frequencies.proofs.Common.{arith, List, sym, subst, Result, Ok, Err, IfOk, IsNonDecreasing, IsNonDecreasingBy, TripFrequency}
+use Rattle.trip_frequencies.proofs.Common.{arith, List, sym, subst, IsNonDecreasing, IsNonDecreasingBy, TripFrequency}
 use Rattle.std.proofs.lemmas.Result.{IfOk-weaker}
 use Rattle.trip_frequencies.proofs.RepeatLemmas.{ordered-parted, all_repeats-parted}
 use Rattle.trip_frequencies.proofs.repeats.repeats_by.Goals as goal
-
-both : {T E : Type 0} (r : Result T E) (P Q R : T → Type 0) → ((x : T) → P x → Q x → R x) → IfOk r P → IfOk r Q → IfOk r R
-both (Ok x) P Q R f p q = f x p q
-both (Err e) P Q R f p q = tt
 
 pub returns-clause-ordered : goal.returns-clause-ordered
 returns-clause-ordered c =

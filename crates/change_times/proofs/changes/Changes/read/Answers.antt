@@ -1,5 +1,4 @@
-use Rattle.std.proofs.Common.{arith}
-use Rattle.change_times.proofs.Common.{Result, Ok, Err, IfOk, Loaded, loaded_rows, FeedParts, ChangeParts, AreCollectedChanges, AreReportedBySome, fault_of_transfers}
+use Rattle.change_times.proofs.Common.{Result, Ok, Err, IfOk, Loaded, loaded_rows, FeedParts, ChangeParts, AreCollectedChanges, AreReportedBySome, fault_of_transfers, arith}
 use Rattle.csv_rows.specs.declared.feed_tables.FeedFault.{FeedFault}
 use Rattle.csv_rows.specs.declared.feed_tables.Table.TheVariants.{Transfers}
 use Rattle.csv_rows.specs.RowFaults.{ReportsFirst}

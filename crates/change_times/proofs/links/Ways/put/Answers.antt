@@ -1,4 +1,4 @@
-use Rattle.change_times.proofs.Common.{◌≡◌, ◌<◌, ◌-◌, length, sym, ap, ◌∙◌, arith, get_or_default, Way}
+use Rattle.change_times.proofs.Common.{◌-◌, arith, get_or_default}
 use Rattle.change_times.proofs.LinkLemmas.{put-raised}
 use Rattle.change_times.proofs.links.Ways.put.Goals as goal
 

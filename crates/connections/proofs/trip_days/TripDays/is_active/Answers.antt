@@ -1,5 +1,4 @@
-use Rattle.connections.proofs.Common.{◌<◌, ℕ, ℤ, List, [], Option, length, slice_index_or, w32, SFits, rules, ap, ◌∙◌, arith, to_z-of_z, number_in, length-list_below, get-list_below, runs_at}
-use Rattle.connections.proofs.Common.{is_active_trip}
+use Rattle.connections.proofs.Common.{◌<◌, length, slice_index_or, w32, SFits, rules, ap, arith, to_z-of_z, length-list_below, get-list_below}
 use Rattle.connections.specs.TripDays.{FeedDays}
 use Rattle.connections.proofs.trip_days.TripDays.is_active.Goals as goal
 

@@ -1,6 +1,4 @@
-use Rattle.std.proofs.Common.{arith}
-use Rattle.std.proofs.lemmas.Grind.{common_steps}
-use Rattle.csv_rows.proofs.Common.{◌≡◌, ◌++◌, ◌∷◌, [], ℕ, List, Result, Ok, Err, All, All-push, IsTrimmed, subst, sym}
+use Rattle.csv_rows.proofs.Common.{◌≡◌, ◌++◌, ◌∷◌, [], ℕ, List, Result, Ok, Err, All-push, IsTrimmed, subst, sym, arith, common_steps}
 use Rattle.std.specs.Prelude.{OnOk, OnErr}
 use Rattle.plan_model.specs.NameLists.{AreTexts}
 use Rattle.csv_rows.specs.Ids.{AreIds}

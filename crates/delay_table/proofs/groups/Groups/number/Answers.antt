@@ -1,5 +1,4 @@
-use Rattle.std.proofs.Common.{arith}
-use Rattle.delay_table.proofs.Common.{◌∙◌, sym, ap, group_index, with_group, line_group}
+use Rattle.delay_table.proofs.Common.{arith}
 use Rattle.delay_table.proofs.LineGroups.{reported-new, reported-there, lines-next}
 use Rattle.delay_table.proofs.groups.Groups.number.Goals as goal
 

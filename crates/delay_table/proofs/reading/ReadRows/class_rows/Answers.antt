@@ -1,5 +1,4 @@
-use Rattle.std.proofs.Common.{arith}
-use Rattle.delay_table.proofs.Common.{◌∙◌, ap, sym, of_class, read_outcomes}
+use Rattle.delay_table.proofs.Common.{sym, of_class, arith}
 use Rattle.delay_table.proofs.GroupFacts.{group-here}
 use Rattle.delay_table.proofs.ReadFacts.{rows-new}
 use Rattle.delay_table.proofs.reading.ReadRows.class_rows.Goals as goal

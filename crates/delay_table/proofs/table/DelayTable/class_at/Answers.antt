@@ -1,5 +1,4 @@
-use Rattle.std.proofs.Common.{arith}
-use Rattle.delay_table.proofs.Common.{◌∙◌, class_at, class_for, class_type, numbered_route, routes_of}
+use Rattle.delay_table.proofs.Common.{class_for, arith}
 use Rattle.delay_table.proofs.RouteFacts.{unnumbered-class}
 use Rattle.delay_table.proofs.table.DelayTable.class_at.Goals as goal
 

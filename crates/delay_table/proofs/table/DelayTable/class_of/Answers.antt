@@ -1,5 +1,4 @@
-use Rattle.std.proofs.Common.{arith}
-use Rattle.delay_table.proofs.Common.{ap, sym, ℕ, subst, Err, nat_cmp, List, Contains, searched, DelayLists}
+use Rattle.delay_table.proofs.Common.{ℕ, subst, Err, nat_cmp, List, searched, arith}
 use Rattle.std.specs.List.Sorted.{IsBinarySearchResult}
 use Rattle.delay_table.proofs.TypeFacts.{absent_type, never_falls}
 use Rattle.delay_table.proofs.table.DelayTable.class_of.Goals as goal

@@ -1,5 +1,4 @@
-use Rattle.std.proofs.Common.{arith}
-use Rattle.delay_table.proofs.Common.{◌≤◌, ◌-◌, sym, subst, All, List, [], length, slice_index_or, Outcome}
+use Rattle.delay_table.proofs.Common.{◌-◌, slice_index_or, arith}
 use Rattle.delay_table.proofs.TypeFacts.{greatest_last}
 use Rattle.delay_table.proofs.table.DelayTable.greatest.Goals as goal
 

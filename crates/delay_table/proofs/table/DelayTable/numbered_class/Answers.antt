@@ -1,5 +1,4 @@
-use Rattle.std.proofs.Common.{arith}
-use Rattle.delay_table.proofs.Common.{◌∙◌, refl, numbered_route, routes_of}
+use Rattle.delay_table.proofs.Common.{arith}
 use Rattle.delay_table.proofs.TypeFacts.{class-is}
 use Rattle.delay_table.proofs.table.DelayTable.numbered_class.Goals as goal
 

@@ -1,5 +1,4 @@
-use Rattle.std.proofs.Common.{arith}
-use Rattle.delay_table.proofs.Common.{◌≡◌, ◌≢◌, ◌<◌, ◌∙◌, ap, sym, subst, length, ℕ, Some, None, rules, IfOk, OnOk, IfErr, if_raised, NoMemory, TooManyClasses, MOST_GROUPS, DelayLists, delays_of}
+use Rattle.delay_table.proofs.Common.{◌∙◌, ap, sym, Some, if_raised, arith}
 use Rattle.delay_table.proofs.Counted.{column-other, lines-other}
 use Rattle.delay_table.proofs.Sound.{column-first, line-first, fault-same, delays-same, groups-count}
 use Rattle.delay_table.proofs.table.DelayTable.read.Goals as goal

@@ -1,5 +1,4 @@
-use Rattle.std.proofs.Common.{arith}
-use Rattle.delay_table.proofs.Common.{◌∙◌, ap, sym, type_class}
+use Rattle.delay_table.proofs.Common.{arith}
 use Rattle.delay_table.proofs.TypeFacts.{class-none, class-some}
 use Rattle.delay_table.proofs.table.DelayTable.type_class.Goals as goal
 

@@ -1,5 +1,4 @@
-use Rattle.std.proofs.Common.{arith}
-use Rattle.feed_maker.proofs.Common.{◌∙◌, ap, codes, others_on, lines_of, stop_times_text, other_files}
+use Rattle.feed_maker.proofs.Common.{others_on, arith}
 use Rattle.feed_maker.proofs.FolderLemmas.{folder_front, stop_times_first}
 use Rattle.feed_maker.proofs.files.MadeFiles.new.Goals as goal
 

@@ -1,4 +1,4 @@
-use Rattle.feed_maker.proofs.Common.{ℕ, List, ◌++◌, ap, ◌∙◌, arith, line_rows}
+use Rattle.feed_maker.proofs.Common.{arith}
 use Rattle.feed_maker.proofs.StopTimeLemmas.{remaining_next}
 use Rattle.feed_maker.proofs.stop_times.StopTimes.fill.Goals as goal
 

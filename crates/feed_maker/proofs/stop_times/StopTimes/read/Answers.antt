@@ -1,5 +1,4 @@
-use Rattle.std.proofs.Common.{arith}
-use Rattle.feed_maker.proofs.Common.{◌-◌, sym, ◌∙◌, rows_from}
+use Rattle.feed_maker.proofs.Common.{◌-◌, arith}
 use Rattle.feed_maker.proofs.StopTimeLemmas.{remaining_after}
 use Rattle.feed_maker.proofs.stop_times.StopTimes.read.Goals as goal
 

@@ -1,5 +1,4 @@
-use Rattle.std.proofs.Common.{arith}
-use Rattle.graph_text.proofs.Common.{◌∙◌, [], ap, decimal, name_is}
+use Rattle.graph_text.proofs.Common.{name_is, arith}
 use Rattle.graph_text.proofs.Fields.{take_nine}
 use Rattle.graph_text.proofs.printer.Printer.put_place.Goals as goal
 

@@ -1,4 +1,4 @@
-use Rattle.graph_text.proofs.Common.{◌≡◌, ◌∙◌, ℕ, ◌+◌, drop, Err, Result, List, arith, sym, subst, PlaceTable, TextFault, IsUnlessNoMemory, place_tables_from}
+use Rattle.graph_text.proofs.Common.{◌≡◌, ◌+◌, arith}
 use Rattle.graph_text.proofs.Tables.{read_raised, tables_after, tables_fail}
 use Rattle.graph_text.proofs.reader.Reader.read_tables.Goals as goal
 

@@ -1,5 +1,4 @@
-use Rattle.std.proofs.Common.{arith}
-use Rattle.gtfs_tables.proofs.Common.{reads-raised, reads-value, reads-fault, reads-both, reads-after}
+use Rattle.gtfs_tables.proofs.Common.{reads-raised, reads-value, reads-fault, reads-both, reads-after, arith}
 use Rattle.gtfs_tables.proofs.FeedLemmas.{feed_of_tables, sound_feed}
 use Rattle.gtfs_tables.proofs.feed.Feed.read.Goals as goal
 

@@ -1,5 +1,4 @@
-use Rattle.std.proofs.Common.{arith}
-use Rattle.late_chance.proofs.Common.{◌≤◌, List, sym, subst, certainty, Interval, mean_of}
+use Rattle.late_chance.proofs.Common.{arith}
 use Rattle.late_chance.proofs.Within.{mean_within}
 use Rattle.late_chance.proofs.chance.LateChanceScore.blend.Goals as goal
 

@@ -1,5 +1,5 @@
 use Rattle.std.proofs.lemmas.Grind.{common_steps}
-use Rattle.lower_proof.proofs.Common.{◌≡◌, ◌≤◌, length, max, arith, subst, sym, length-take, take_at, cases_lt, get_or_read, IsBoard, AreMinima}
+use Rattle.lower_proof.proofs.Common.{arith, length-take, take_at, cases_lt, get_or_read}
 use Rattle.lower_proof.proofs.Leasts.{none_below}
 use Rattle.lower_proof.proofs.Minima.{before_is, front_in_time, board_shown}
 use Rattle.lower_proof.proofs.board.Board.look.Goals as goal

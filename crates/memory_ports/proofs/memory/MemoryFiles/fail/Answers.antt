@@ -1,5 +1,4 @@
-use Rattle.std.proofs.Common.{arith}
-use Rattle.memory_ports.proofs.Common.{refl, ◌∙◌, ap, ◌||◌, ◌&&◌, bytes_eq, nat_eq, entry_at}
+use Rattle.memory_ports.proofs.Common.{refl, ◌∙◌, nat_eq, entry_at, arith}
 use Rattle.memory_ports.proofs.FailingLemmas.{recalled_count, recalled_more, recalled_same, on_any_err}
 use Rattle.memory_ports.proofs.memory.MemoryFiles.fail.Goals as goal
 

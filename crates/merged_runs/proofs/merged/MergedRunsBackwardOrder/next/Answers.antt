@@ -1,4 +1,4 @@
-use Rattle.merged_runs.proofs.Common.{◌≡◌, ℕ, List, ◌-◌, ◌<◌, ◌%◌, ◌++◌, ◌∷◌, [], length, get_or, set, arith, refl, ap, sym, ◌∙◌, eqb-true, eqb-false, get_or_read, length_push, most_connections}
+use Rattle.merged_runs.proofs.Common.{◌≡◌, ℕ, List, ◌-◌, ◌<◌, ◌%◌, ◌++◌, ◌∷◌, [], length, get_or, set, arith, ap, sym, ◌∙◌, eqb-true, eqb-false, get_or_read, length_push, most_connections}
 use Rattle.merged_runs.proofs.Common.{Connection, connection, rest_of}
 use Rattle.merged_runs.proofs.StretchLemmas.{rest_of-none}
 use Rattle.merged_runs.proofs.TournamentLemmas.{HasWon, won, rest_of-exhausted, rest_of-given}

@@ -1,4 +1,4 @@
-use Rattle.std.proofs.Common.{arith}
+use Rattle.merged_runs.proofs.Common.{arith}
 use Rattle.merged_runs.proofs.StretchLemmas.{IsWhole, IsWhole-copied, AreStretches-whole, rest_of-all}
 use Rattle.merged_runs.proofs.merged.MergedRunsBackwardOrder.rewind.Goals as goal
 use Rattle.merged_runs.proofs.merged.MergedRunsBackwardOrder.rewind.Goals.{After-copy_from_slice}

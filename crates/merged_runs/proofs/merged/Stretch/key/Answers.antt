@@ -1,4 +1,4 @@
-use Rattle.merged_runs.proofs.Common.{◌≡◌, ◌+◌, ◌-◌, arith, ap, sym, cond-true, cond-false, le-ltb, lt-ltb, ltb, rank, key_between, Connection}
+use Rattle.merged_runs.proofs.Common.{◌-◌, arith, cond-true, cond-false, le-ltb, lt-ltb}
 use Rattle.merged_runs.proofs.merged.Stretch.key.Goals as goal
 
 pub returns-then-self : goal.returns-then-self

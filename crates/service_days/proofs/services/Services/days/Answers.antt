@@ -1,5 +1,4 @@
-use Rattle.std.proofs.Common.{arith}
-use Rattle.service_days.proofs.Common.{sym, ap, ◌∙◌, filter, w32, ◌++◌, ◌∷◌, [], to_z-of_z, number_in, ServiceParts, runs, runs_at}
+use Rattle.service_days.proofs.Common.{sym, ap, ◌∙◌, filter, w32, to_z-of_z, runs, arith}
 use Rattle.service_days.proofs.DayLemmas.{days_from-zero, filter-kept, filter-dropped}
 use Rattle.service_days.proofs.services.Services.days.Goals as goal
 use Rattle.service_days.proofs.services.Services.days.Goals.{then-runs_at+in_ok-push, else-runs_at}

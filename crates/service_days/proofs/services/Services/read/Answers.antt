@@ -1,6 +1,5 @@
-use Rattle.std.proofs.Common.{arith}
-use Rattle.service_days.proofs.Common.{refl, and_from, and_left, and_right}
-use Rattle.csv_rows.specs.declared.feed_tables.Table.TheVariants.{Calendar, CalendarDates}
+use Rattle.service_days.proofs.Common.{refl, and_from, and_left, and_right, arith}
+use Rattle.csv_rows.specs.declared.feed_tables.Table.TheVariants.{CalendarDates}
 use Rattle.table_files.proofs.ReadingLemmas.{own-of, reads-raised, reads-value, reads-fault, reads-both, reads-after, reads-refused}
 use Rattle.service_days.proofs.ReadLemmas.{calendar_first, dates_first, none_there, services_here, runs_by_some}
 use Rattle.service_days.specs.Calendars.{IsCalendarTable}

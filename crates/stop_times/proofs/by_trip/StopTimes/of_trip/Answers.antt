@@ -1,4 +1,4 @@
-use Rattle.stop_times.proofs.Common.{◌∙◌, List, length, slice_range, ap, arith, StopRow}
+use Rattle.stop_times.proofs.Common.{length, ap, arith}
 use Rattle.stop_times.proofs.BoundLemmas.{next, within, of_bounds}
 use Rattle.stop_times.proofs.by_trip.StopTimes.of_trip.Goals as goal
 

@@ -1,5 +1,4 @@
-use Rattle.std.proofs.Common.{arith}
-use Rattle.stop_times.proofs.Common.{◌∙◌, sym, ap, slice_index_or, [], List, ℕ, fields_of}
+use Rattle.stop_times.proofs.Common.{slice_index_or, arith}
 use Rattle.stop_times.proofs.RecordLemmas.{field-some, field-none}
 use Rattle.stop_times.proofs.records.Record.field.Goals as goal
 

@@ -1,5 +1,4 @@
-use Rattle.std.proofs.Common.{arith}
-use Rattle.stop_times.proofs.Common.{◌≡◌, ◌∙◌, refl, sym, ap, if◌then◌else◌, [], ◌∷◌, List, ℕ, Bool, true, false, map, reader_state, fields_of, trimmed_text, records_after, source}
+use Rattle.stop_times.proofs.Common.{◌≡◌, refl, if◌then◌else◌, [], List, ℕ, Bool, true, false, records_after, arith}
 use Rattle.stop_times.proofs.RecordLemmas.{took_first-read, took-none}
 use Rattle.stop_times.proofs.records.Records.next.Goals as goal
 use Rattle.stop_times.proofs.records.Records.next.Goals.{in-Ok-true, in-Ok-false, in-Err}

@@ -1,5 +1,4 @@
-use Rattle.std.proofs.Common.{arith}
-use Rattle.text_index.proofs.Common.{◌-◌, ◌^◌, ◌<◌, ℕ, List, Some, length, sym, subst, Adds, IsNameList-adds, number_is, key_adds, key_texts}
+use Rattle.text_index.proofs.Common.{◌-◌, ℕ, List, Some, sym, subst, Adds, IsNameList-adds, number_is, key_adds, key_texts, arith}
 use Rattle.text_index.proofs.KeyLemmas.{text_of_stored}
 use Rattle.text_index.proofs.index.TextIndex.add.Goals as goal
 

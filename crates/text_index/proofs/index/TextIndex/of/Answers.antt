@@ -1,5 +1,4 @@
-use Rattle.std.proofs.Common.{arith}
-use Rattle.text_index.proofs.Common.{sym, ap, [], take-adds, got, key_adds, key_texts}
+use Rattle.text_index.proofs.Common.{ap, [], take-adds, got, key_adds, key_texts, arith}
 use Rattle.text_index.proofs.index.TextIndex.of.Goals as goal
 
 pub loop-i-init : goal.loop-i-init
