@@ -1,5 +1,4 @@
 mod Common
 mod GreatestLemmas
 mod LinkLemmas
-mod SoundLemmas
 mod ChangeLemmas

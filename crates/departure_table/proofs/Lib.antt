@@ -4,7 +4,6 @@ pub mod Growth
 pub mod GateLists
 pub mod Sources
 pub mod Latest
-pub mod Reached
 pub mod ReachGrowth
 pub mod EachRow
 pub mod SameGates

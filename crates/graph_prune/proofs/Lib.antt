@@ -2,4 +2,3 @@ mod Common
 pub mod Limits
 pub mod Sources
 pub mod Pruned
-pub mod Coherence

@@ -2,7 +2,5 @@ mod Common
 mod GraphLegs
 mod Failures
 mod Trees
-mod Means
 mod ExitLemmas
 mod Looks
-mod Scored

@@ -2,4 +2,3 @@ mod Common
 pub mod FeedLemmas
 pub mod FeedFacts
 pub mod RepeatFacts
-pub mod SmallFacts

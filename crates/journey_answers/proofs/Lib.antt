@@ -4,6 +4,5 @@ pub mod Bounds
 pub mod Departing
 pub mod Ruled
 pub mod SameReach
-pub mod TripFaults
 pub mod Unsafe
 pub mod GraphFiles

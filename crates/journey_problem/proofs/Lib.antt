@@ -2,9 +2,6 @@ mod Common
 pub mod Causes
 pub mod Loads
 pub mod TableSteps
-pub mod GraphFiles
-pub mod CertificateFiles
-pub mod StopNames
 pub mod FeedSteps
 pub mod OneOrder
 pub mod OneCutNetwork

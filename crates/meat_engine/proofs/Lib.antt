@@ -1,7 +1,5 @@
 mod Common
 pub mod Asking
-pub mod Asked
-pub mod Written
 pub mod Outcomes
 pub mod Undisturbed
 pub mod Ended

@@ -1,9 +1,15 @@
-use Rattle.std.proofs.Common.{◌∙◌, codes}
+-- Pieces of a line, one behind another.
+use Rattle.std.proofs.Common.{◌∙◌, codes, arith, ◌≡◌, ℕ, List, ◌++◌, append_assoc}
 use Rattle.clock_text.specs.Civil.{moment_text}
 use Rattle.printed_rows.specs.Records.{place_name}
 use Rattle.printed_rows.proofs.Lines.{name_is}
-use Rattle.journey_model.proofs.Pieces.{placed}
 use Rattle.journey_model.proofs.lines.with_arrival.Goals as goal
+
+-- a line, two words, and what is behind each
+pub placed : (line a b c d word other place moment place' moment' : List ℕ) → a ≡ line ++ word → b ≡ a ++ place → c ≡ b ++ other → d ≡ c ++ moment
+    → place ≡ place' → moment ≡ moment' → d ≡ line ++ (word ++ (place' ++ (other ++ moment')))
+placed line a b c d word other place moment place' moment' one two three four same_place same_moment =
+    grind (arith, append_assoc)
 
 pub returns : goal.returns
 returns c =

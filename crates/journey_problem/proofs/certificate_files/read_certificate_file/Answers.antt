@@ -1,9 +1,33 @@
-use Rattle.journey_problem.proofs.Common.{arith, if_raised}
-use Rattle.journey_model.specs.declared.faults.Input.TheVariants as input
+-- The steps of a check, put together.
+use Rattle.journey_problem.proofs.Common.{arith, if_raised, ◌≡◌, ℕ, List, Option, None, Result, Ok, Err, refl, sym, subst, ◌≢◌, IfErr, IfOk, IfSome, FileMap, file_at, Limits, Fault, NoMemory, unread_input, IsOfInput, Problem, bytes_of}
 use Rattle.journey_problem.proofs.Causes.{causes-quiet}
 use Rattle.journey_problem.proofs.FeedSteps.{none_unread_of}
-use Rattle.journey_problem.proofs.CertificateFiles.{unloaded, read, unread}
+use Rattle.plan_model.specs.declared.model.Query.{Query}
+use Rattle.lower_proof.specs.declared.LowerBounds.{LowerBounds}
+use Rattle.journey_problem.specs.CertificateFiles.{IsCertificateText, FailsText, FailsFile, IsCertificateFile, FailsCertificate}
+use Rattle.journey_model.specs.declared.faults.Input.TheVariants as input
 use Rattle.journey_problem.proofs.certificate_files.read_certificate_file.Goals as goal
+
+module _ (limits : Limits) (p : Problem) (start : ℕ) (file : Option (List ℕ)) where
+  -- a file that cannot be loaded
+  load_fails : (fault : Fault) → bytes_of limits.bytes input.Proof (unread_input fault) file ≡ Err fault
+      → FailsFile p start (bytes_of limits.bytes input.Proof (unread_input fault) file) fault
+  load_fails fault is = subst (λ (bytes : Result (List ℕ) Fault). FailsFile p start bytes fault) (sym is) refl
+
+module _ (contents : Option FileMap) (limits : Limits) (start : ℕ) (path : List ℕ) (p : Problem) where
+  pub unloaded : (fault : Fault) → (fault ≢ NoMemory → IsOfInput input.Proof fault)
+      → IfSome contents (λ files. fault ≢ NoMemory → bytes_of limits.bytes input.Proof (unread_input fault) (file_at files path) ≡ Err fault)
+      → fault ≢ NoMemory → FailsCertificate contents limits start path p fault
+  unloaded fault of fails other = grind (arith, load_fails)
+
+  module _ (text same : List ℕ) (is : same ≡ text) (there : IfSome contents (λ files. bytes_of limits.bytes input.Proof None (file_at files path) ≡ Ok text)) where
+    pub read : (r : Result (Query × LowerBounds) Fault) → IfOk r (λ f. IsCertificateText p start same f.0 f.1) → IfOk r (λ f. IsCertificateFile contents limits start path p f.0 f.1)
+    read r reports = grind arith
+
+    pub unread : (r : Result (Query × LowerBounds) Fault) → IfErr r (λ fault. fault ≢ NoMemory → FailsText p start same fault)
+        → IfErr r (λ fault. fault ≢ NoMemory → IsOfInput input.Proof fault) → IfErr r (λ fault. unread_input fault ≡ None)
+        → IfErr r (λ fault. fault ≢ NoMemory → FailsCertificate contents limits start path p fault)
+    unread r fails of none = grind arith
 
 pub returns-in_err-bytes-clause-fault : goal.returns-in_err-bytes-clause-fault
 returns-in_err-bytes-clause-fault g c = grind (arith, if_raised, unloaded)

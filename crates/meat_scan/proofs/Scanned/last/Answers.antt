@@ -1,7 +1,16 @@
-use Rattle.meat_scan.proofs.Common.{◌≡◌, suc, ◌-◌, [], length, get_or, arith, ap, sym, subst, ◌∙◌, Row, ScanResult, ShownProfile, option_map, found_rows, no_profile, nat_tests}
+-- The last row of a place is for the latest arrivals.
+use Rattle.meat_scan.proofs.Common.{◌≡◌, suc, ◌-◌, [], length, get_or, arith, ap, sym, subst, ◌∙◌, Row, ScanResult, ShownProfile, option_map, found_rows, no_profile, nat_tests, ℕ, zero, ◌<◌, List, ◌∷◌, Some, None, RowsRise, row_in_time, picked_holds}
 use Rattle.std.proofs.lemmas.List.{get_or-map}
-use Rattle.meat_scan.proofs.Lasts.{IsLastRow, last_picked}
+use Rattle.stop_profile.proofs.Looks.{picked_here, picked_later}
 use Rattle.meat_scan.proofs.Scanned.last.Goals as goal
+
+abbrev pub IsLastRow : {V : Type 0} → List (Row V) → Row V → Type 0
+IsLastRow rows row = (row_in_time row.by.0 rows ≡ Some row) × ((arrival : ℕ) → row.by.0 < arrival → row_in_time arrival rows ≡ None)
+
+pub last_picked : {V : Type 0} (rank : V → ℕ) (rows : List (Row V)) (k : ℕ) (d : Row V) → suc k ≡ length rows → RowsRise rank rows → IsLastRow rows (get_or rows k d)
+last_picked rank (r ∷ []) zero d many rise = (picked_here r.by.0 r [] (omega arith), λ arrival late. picked_later arrival r [] late)
+last_picked rank (r ∷ s ∷ rows) (suc k) d many rise = grind (arith, picked_holds, picked_later, last_picked rank (s ∷ rows) k d (omega (arith, many)) rise.1)
+last_picked rank _ k d many rise = absurd (omega (arith, many))
 
 pub returns : goal.returns
 returns g c =

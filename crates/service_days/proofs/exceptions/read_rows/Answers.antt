@@ -1,7 +1,28 @@
-use Rattle.service_days.proofs.Common.{None, sym, ap, subst, arith, ◌∙◌, result_err, match_raised, fault-at, first-zero, first-next, ServiceDate, bad_date, date_of, date_or_none, AddsDate}
-use Rattle.service_days.proofs.DateLemmas.{date_is, service_trimmed}
+-- The rows of exceptions.
+use Rattle.service_days.proofs.Common.{None, sym, ap, subst, arith, ◌∙◌, result_err, match_raised, fault-at, first-zero, first-next, ServiceDate, bad_date, date_of, date_or_none, AddsDate, ◌≡◌, ℕ, ◌+◌, List, Ok, name_in, field_at, name_text, IsTrimmed, date_from, date_columns, date_in, date_at_row, require-ok}
 use Rattle.service_days.proofs.NumberLemmas.{numbered_none, numbered_next, length-adds, trimmed-adds}
+use Rattle.clock_text.specs.Times.{date_at}
+use Rattle.csv_rows.specs.Spaces.{AreTrimmed}
+use Rattle.csv_rows.proofs.SpaceLemmas.{IsTrimmed-field}
+use Rattle.service_days.specs.declared.dates.DateColumns.{DateColumns}
 use Rattle.service_days.proofs.exceptions.read_rows.Goals as goal
+
+-- the row by the indexes of the columns
+pub date_is : (t : List (List (List ℕ))) (c : DateColumns) (i : ℕ) → c ≡ date_columns t → date_at_row t i ≡ date_in t c i
+unfolding date_at_row
+date_is t c i e = ap (λ k. date_in t k i) (sym e)
+
+-- the service of a row is its field
+service_is : (line : ℕ) (service date kind : List ℕ) (d : ServiceDate) → date_from line service date kind ≡ Ok d → d.service ≡ service
+service_is line service date kind d h =
+    let a = require-ok (name_in service) _ _ d h in
+    let b = require-ok (date_at date) _ _ d a.2 in
+    grind (arith, require-ok, name_text)
+
+-- and so it has no space at its ends
+pub service_trimmed : (t : List (List (List ℕ))) (c : DateColumns) (i : ℕ) (d : ServiceDate) → AreTrimmed t → date_in t c i ≡ Ok d → IsTrimmed d.service
+service_trimmed t c i d trimmed h =
+    subst IsTrimmed (sym (service_is (i + 2) (field_at t c.service i) (field_at t c.date i) (field_at t c.kind i) d h)) (IsTrimmed-field t c.service i trimmed)
 
 pub loop-i-init : goal.loop-i-init
 loop-i-init c = grind (arith, first-zero, numbered_none)
