@@ -1,14 +1,12 @@
 -- What rows say, one more at a time.
 use Rattle.change_times.proofs.Common.{◌≡◌, ℕ, ◌+◌, ◌≤◌, ◌&&◌, Bool, true, false, [], length, count_by, Option, Some, None, IfSome, ◌==◌, if◌then◌else◌, refl, sym, ap, arith, nat_tests, Records}
 use Rattle.change_times.proofs.Common.{FeedParts, Transfer, transfer_columns, transfer_in, transfer_at, TransfersSoFar, seconds_between, link_between, walks_of, AreCollected, ChangeParts}
-use Rattle.change_times.proofs.Common.{AreCollectedChanges}
+use Rattle.change_times.proofs.{Common.AreCollectedChanges, GreatestLemmas.{IsShort, greatest-zero}, LinkLemmas.ways-none}
+use Rattle.change_times.specs.declared.transfers.TransferColumns.{TransferColumns}
 use Rattle.std.specs.Map.{lookup}
 use Rattle.std.proofs.lemmas.List.Sums.{sum_by-append}
 use Rattle.csv_rows.specs.Lists.{list_below}
 use Rattle.csv_rows.proofs.ListLemmas.{list_below-zero, list_below-next}
-use Rattle.change_times.specs.declared.transfers.TransferColumns.{TransferColumns}
-use Rattle.change_times.proofs.GreatestLemmas.{IsShort, greatest-zero}
-use Rattle.change_times.proofs.LinkLemmas.{ways-none}
 
 -- the row by the indexes of the columns
 pub transfer_is : (feed : FeedParts) (t : Records) (c : TransferColumns) (i : ℕ) → c ≡ transfer_columns t → transfer_at feed t i ≡ transfer_in feed t c i

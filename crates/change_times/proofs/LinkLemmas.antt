@@ -1,9 +1,9 @@
 -- The links into places, built one place after the other.
-use Rattle.change_times.proofs.Common.{◌≡◌, ℕ, zero, suc, ◌+◌, ◌-◌, ◌<◌, max, List, [], ◌∷◌, ◌++◌, length, take, get_or, set, Option, Some, None, refl, sym, ap, ◌∙◌, subst, arith, add-one, append-nil}
-use Rattle.change_times.proofs.Common.{length-append, get_or-set_same, get_or-set_other, OnOk, Result, Ok, Err, cases_eq, nat_tests, get_or_default, get_or_push, take_more, All-append, All-get_or}
-use Rattle.change_times.proofs.Common.{All-nil, All-push, All-weaker, Way, Walk, Transfer, greater, link_from, ways_below, ComeBefore, walk_to, walks_of, most_to, link_between}
+use Rattle.change_times.proofs.Common.{◌≡◌, ℕ, zero, suc, ◌+◌, ◌-◌, ◌<◌, max, List, [], ◌∷◌, ◌++◌, length, take, get_or, set, Option, Some, None, refl, sym, ap, ◌∙◌, subst, arith, add-one}
+use Rattle.change_times.proofs.Common.{append-nil, length-append, get_or-set_same, get_or-set_other, OnOk, Result, Ok, Err, cases_eq, nat_tests, get_or_default, get_or_push, take_more}
+use Rattle.change_times.proofs.Common.{All-append, All-get_or, All-nil, All-push, All-weaker, Way, Walk, Transfer, greater, link_from, ways_below, ComeBefore, walk_to, walks_of, most_to}
+use Rattle.change_times.proofs.{Common.link_between, GreatestLemmas.{greater-none, greater-assoc}}
 use Rattle.std.proofs.Math.Seq.{set-append_seam}
-use Rattle.change_times.proofs.GreatestLemmas.{greater-none, greater-assoc}
 
 pub ways-zero : (f : ℕ → Option ℕ) → ways_below f 0 ≡ []
 unfolding ways_below

@@ -1,8 +1,6 @@
 -- Moments of a text are before the year 10000.
 use Rattle.clock_text.proofs.Common.{◌≡◌, ℕ, ◌+◌, ◌*◌, ◌<◌, ◌≤◌, List, arith, subst, ℤ, pos, negsuc, ◌≤ℤ◌, Some, unsigned_abs, days_from_civil, signed_arith, days_from_civil-day_count}
-use Rattle.clock_text.proofs.Common.{day_count_bounds, Parts, parts_at, seconds_of_parts, moment_at}
-use Rattle.clock_text.proofs.DateFacts.{after_epoch}
-use Rattle.clock_text.proofs.OneText.{Holds, parts_hold, if_cases}
+use Rattle.clock_text.proofs.{Common.{day_count_bounds, Parts, parts_at, seconds_of_parts, moment_at}, DateFacts.after_epoch, OneText.{Holds, parts_hold, if_cases}}
 
 day_small : (z : ℤ) → pos 0 ≤ℤ z → z ≤ℤ pos 2_932_896 → unsigned_abs z ≤ 2_932_896
 day_small (pos k) low high = omega (arith, signed_arith, high)

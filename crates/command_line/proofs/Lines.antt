@@ -2,14 +2,8 @@
 use Rattle.command_line.proofs.Common.{◌≡◌, ◌≢◌, ℕ, suc, List, [], ◌∷◌, arith, refl, ap, sym, ◌∙◌, Option, Some, None, Bool, true, false, IsTrue, slice_get, is_none, if◌then◌else◌, All, AllPairs}
 use Rattle.command_line.proofs.Common.{flat_map, find, bytes_eq, position_or_len, OptionName, Cut, Feed, Delays, From, To, At, Alpha, Horizon, Graph, Late, Size, Proof, By, Until, Last}
 use Rattle.command_line.proofs.Common.{option_name, option_named, all_options, Setting, spelled, value_of, value_in, is_new, are_settings}
-use Rattle.std.proofs.lemmas.Bool.{false≢true, and_parts, false_from_ne_true}
-use Rattle.std.proofs.lemmas.Option.{get_or_from_slice_get, slice_get_within}
-use Rattle.std.proofs.lemmas.List.Folds.{find_at}
-use Rattle.std.proofs.lemmas.List.Recursion.{found_nowhere}
-use Rattle.std.proofs.lemmas.List.Sums.{passes_at_first}
-use Rattle.std.proofs.lemmas.Slice.Eq.{bytes_eq-Decides}
-use Rattle.std.proofs.lemmas.List.Elements.{All-nil, All-cons}
-use Rattle.std.proofs.lemmas.List.Kept.{AllPairs-cons}
+use Rattle.std.proofs.lemmas.{Bool.{false≢true, and_parts, false_from_ne_true}, Option.{get_or_from_slice_get, slice_get_within}, List.{Folds.find_at, Recursion.found_nowhere}}
+use Rattle.std.proofs.lemmas.{List.{Sums.passes_at_first, Elements.{All-nil, All-cons}, Kept.AllPairs-cons}, Slice.Eq.bytes_eq-Decides}
 
 -- the word of an option names it
 named : (option : OptionName) → option_named (option_name option) ≡ Some option

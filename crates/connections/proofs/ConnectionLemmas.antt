@@ -1,17 +1,14 @@
 -- The connections of runs are in order, fit their places and classes, and each run has one.
 use Rattle.connections.proofs.Common.{common_steps, ◌≡◌, ℕ, suc, ◌+◌, ◌-◌, ◌<◌, ◌≤◌, ◌⊎◌, inl, ℤ, pos, negsuc, ◌≤ℤ◌, List, length, map, get_or, slice_index, Some, All, refl, sym, ap, ◌∙◌, subst}
-use Rattle.connections.proofs.Common.{arith, AllPairs, unsigned_abs, ints, get_or_default, length-map, All-weaker, All-get_or, All-map, Contains-get_or, AllPairs-map, end_of_arrivals, end_of_steps}
-use Rattle.connections.proofs.Common.{most_connections, Connection, NameLists, IsTrimmed, NamesFit, IsValid, connection, no_connection, change_of, row_of, NetworkModel, plain_network, DelayLists}
-use Rattle.connections.proofs.Common.{StopRow, FeedParts, AreIds, rows_of, AreTimed, IsTimed, Origin, Window, Run, join_below, IsWindow, steps_of, run_at, run_steps, AreRunsOf}
-use Rattle.connections.proofs.Common.{HaveConnections, AreChanges, AreRunNames, connection_from, run_connections, connections_below, class_of_trip, route_of}
+use Rattle.connections.proofs.Common.{arith, AllPairs, unsigned_abs, ints, get_or_default, length-map, All-weaker, All-get_or, All-map, Contains-get_or, AllPairs-map, end_of_arrivals}
+use Rattle.connections.proofs.Common.{end_of_steps, most_connections, Connection, NameLists, IsTrimmed, NamesFit, IsValid, connection, no_connection, change_of, row_of, NetworkModel}
+use Rattle.connections.proofs.Common.{plain_network, DelayLists, StopRow, FeedParts, AreIds, rows_of, AreTimed, IsTimed, Origin, Window, Run, join_below, IsWindow, steps_of, run_at, run_steps}
+use Rattle.connections.proofs.{Common.{AreRunsOf, HaveConnections, AreChanges, AreRunNames, connection_from, run_connections, connections_below, class_of_trip, route_of}, JoinLemmas.All-join}
+use Rattle.connections.proofs.{JoinLemmas.{AllPairs-join, Contains-join, join-many}, NameLemmas.names_trimmed, ReachLemmas.onward_to, StepLemmas.{IsStep, holds_parts, steps_are, steps_rise}}
 use Rattle.plan_model.proofs.Links.{AreLinks-none}
 use Rattle.plan_model.specs.declared.model.Outcome.{Outcome}
 use Rattle.delay_table.proofs.ClassBounds.{class_for-inside}
 use Rattle.delay_table.specs.Slots.{AreDelays}
-use Rattle.connections.proofs.JoinLemmas.{All-join, AllPairs-join, Contains-join, join-many}
-use Rattle.connections.proofs.NameLemmas.{names_trimmed}
-use Rattle.connections.proofs.ReachLemmas.{onward_to}
-use Rattle.connections.proofs.StepLemmas.{IsStep, holds_parts, steps_are, steps_rise}
 
 -- a moment that is not before 1970
 pub not_before : (z : ℤ) → pos 0 ≤ℤ z → pos (unsigned_abs z) ≡ z

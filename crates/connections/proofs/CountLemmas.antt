@@ -1,10 +1,9 @@
 -- How many connections runs have, and their connections, run by run.
-use Rattle.connections.proofs.Common.{◌≡◌, ℕ, zero, suc, ◌+◌, ◌≤◌, ◌&&◌, Bool, true, false, List, [], ◌∷◌, length, map, take, get_or, if◌then◌else◌, refl, sym, ap, ◌∙◌, arith, add-one, length-append, take_all}
-use Rattle.connections.proofs.Common.{sum_by, nat_lt, lt-ltb, fun_ext, length-map, sum_by-append, sum_by-cons, sum_by_more, DelayLists, FrequencyRow, FeedParts, repeat_at, rows_of, ServiceParts}
-use Rattle.connections.proofs.Common.{ServiceDay, Window, Repeat, Run, join_below, only_if, sum_below, origin_of_day, steps_of, origin_at, row_repeats, rows_repeats, in_order, own_run, repeat_run}
-use Rattle.connections.proofs.Common.{runs_of_trip, day_runs, runs_below, window_runs, run_at, no_run, run_steps, steps_sum, rows_sum, runs_sum, day_sum, days_sum, count_in, connection_from}
-use Rattle.connections.proofs.Common.{run_connections, connections_below, class_of_trip}
-use Rattle.connections.proofs.JoinLemmas.{join-zero, join-suc}
+use Rattle.connections.proofs.Common.{◌≡◌, ℕ, zero, suc, ◌+◌, ◌≤◌, ◌&&◌, Bool, true, false, List, [], ◌∷◌, length, map, take, get_or, if◌then◌else◌, refl, sym, ap, ◌∙◌, arith, add-one}
+use Rattle.connections.proofs.Common.{length-append, take_all, sum_by, nat_lt, lt-ltb, fun_ext, length-map, sum_by-append, sum_by-cons, sum_by_more, DelayLists, FrequencyRow, FeedParts}
+use Rattle.connections.proofs.Common.{repeat_at, rows_of, ServiceParts, ServiceDay, Window, Repeat, Run, join_below, only_if, sum_below, origin_of_day, steps_of, origin_at, row_repeats}
+use Rattle.connections.proofs.Common.{rows_repeats, in_order, own_run, repeat_run, runs_of_trip, day_runs, runs_below, window_runs, run_at, no_run, run_steps, steps_sum, rows_sum, runs_sum}
+use Rattle.connections.proofs.{Common.{day_sum, days_sum, count_in, connection_from, run_connections, connections_below, class_of_trip}, JoinLemmas.{join-zero, join-suc}}
 use Rattle.connections.proofs.OrderLemmas.{in_order_sum}
 
 pub sum-zero : (f : ℕ → ℕ) → sum_below f 0 ≡ 0

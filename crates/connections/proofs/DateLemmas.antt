@@ -4,8 +4,7 @@ use Rattle.connections.proofs.Common.{nat_tests, ints, and_parts, eqb-true, and_
 use Rattle.std.proofs.lemmas.List.Folds.{list_all-append}
 use Rattle.jiff_core.specs.Calendar.{days_from_civil, day_count, days_of_years, days_of_months}
 use Rattle.clock_text.specs.Civil.{parts_of_day}
-use Rattle.clock_text.proofs.OneText.{if_cases}
-use Rattle.clock_text.proofs.Walk.{found}
+use Rattle.clock_text.proofs.{OneText.if_cases, Walk.found}
 
 -- the days of 1969 are its last seven
 days_before : (k : ℕ) → k < 7 → HasDate (negsuc k)

@@ -1,14 +1,11 @@
 -- The names of runs: no two runs have one name, and none begins or ends with a space.
 use Rattle.connections.proofs.Common.{Contains, ◌≡◌, ◌≢◌, ℕ, zero, suc, ◌+◌, ◌-◌, ◌<◌, true, false, List, [], ◌∷◌, ◌++◌, length, take, drop, get_or, slice_index_or, Some, None, Option, ℤ, All}
 use Rattle.connections.proofs.Common.{decimal, append_assoc, ◌^◌, refl, sym, ap, ap₂, ◌∙◌, subst, arith, below_more, length-append, list_all, is_ascii_digit, and_parts, and_from, nat_tests}
-use Rattle.connections.proofs.Common.{get_or_append_left, get_or-append_right, get_or_default, get_or_push, take_at, drop_at, take_all, take_more, All-get_or, date_at, IsTrimmed, FeedParts, AreIds}
-use Rattle.connections.proofs.Common.{Repeat, Run, run_at, IsRunOfFeed, AreRunsOf, IsSmallRepeat, start_text, IsRunName, AreRunNames}
-use Rattle.std.specs.Str.Parse.{AllDigits}
-use Rattle.std.specs.Int.{IsInRange}
-use Rattle.std.proofs.lemmas.Fmt.{decimal_is_IsNumeral, decimal_injective}
-use Rattle.std.proofs.lemmas.Str.Parse.{digit_from_value}
+use Rattle.connections.proofs.Common.{get_or_append_left, get_or-append_right, get_or_default, get_or_push, take_at, drop_at, take_all, take_more, All-get_or, date_at, IsTrimmed, FeedParts}
+use Rattle.connections.proofs.{Common.{AreIds, Repeat, Run, run_at, IsRunOfFeed, AreRunsOf, IsSmallRepeat, start_text, IsRunName, AreRunNames}, DateLemmas.date_text}
+use Rattle.std.specs.{Str.Parse.AllDigits, Int.IsInRange}
+use Rattle.std.proofs.lemmas.{Fmt.{decimal_is_IsNumeral, decimal_injective}, Str.Parse.digit_from_value}
 use Rattle.delay_table.proofs.NumberedFacts.{one_index}
-use Rattle.connections.proofs.DateLemmas.{date_text}
 
 same_date : (d e : List ℕ) (a b : ℤ) → d ≡ e → date_at d ≡ Some a → date_at e ≡ Some b → a ≡ b
 same_date d e a b same h k = let o : Some a ≡ Some b = sym h ∙ ap date_at same ∙ k in cc

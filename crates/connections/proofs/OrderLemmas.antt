@@ -2,11 +2,9 @@
 use Rattle.connections.proofs.Common.{◌≡◌, ℕ, ◌+◌, ◌≤◌, Bool, false, List, [], ◌∷◌, get_or, All, refl, sym, ap, ap₂, ◌∙◌, arith, sum_by, if◌then◌else◌, AllPairs, Ordering, is_lt, nat_cmp}
 use Rattle.connections.proofs.Common.{IsSorted, IsPermutation, cond_both, nat_tests, All-cons, All-head, All-tail, All-weaker, sum_by-cons, sum_by-le, AllPairs-nil, AllPairs-one, AllPairs-first}
 use Rattle.connections.proofs.Common.{AllPairs-tail, Repeat, repeat_precedes, with_repeat, in_order}
-use Rattle.std.specs.Ordering.{ordering_then}
-use Rattle.std.specs.Cmp.{IsStrictWeakOrder}
-use Rattle.std.proofs.lemmas.List.Kept.{AllPairs-cons}
-use Rattle.std.proofs.lemmas.List.Sorted.{sorted_far, sum_by-IsPermutation, All-permutation, IsPermutation-refl, IsPermutation-cons, IsPermutation-trans, IsPermutation-append_left}
-use Rattle.std.proofs.lemmas.List.Sorted.{IsPermutation-append_comm}
+use Rattle.std.specs.{Ordering.ordering_then, Cmp.IsStrictWeakOrder}
+use Rattle.std.proofs.lemmas.List.{Kept.AllPairs-cons, Sorted.{sorted_far, sum_by-IsPermutation, All-permutation, IsPermutation-refl, IsPermutation-cons, IsPermutation-trans}}
+use Rattle.std.proofs.lemmas.List.Sorted.{IsPermutation-append_left, IsPermutation-append_comm}
 
 -- the order of the program is that of the definition
 abbrev pub repeat_cmp : Repeat → Repeat → Ordering

@@ -2,8 +2,7 @@
 use Rattle.connections.proofs.Common.{◌≡◌, ℕ, zero, suc, ◌+◌, ◌-◌, ◌<◌, ◌≤◌, Bool, true, false, List, [], length, arith, ap, refl, inl, inr, ℤ, pos, ◌<ℤ◌, nat_lt, if◌then◌else◌, cases_eq}
 use Rattle.connections.proofs.Common.{nat_tests, ints, end_of_times, StopRow, FrequencyRow, FeedParts, AreTimed, rows_of, kept_at, ServiceParts, Origin, Window, ServiceDay, moment_of}
 use Rattle.connections.proofs.Common.{origin_of_day, holds, DepartInOrder, DepartOnDay, departs, has_connection, steps_of, frequencies_of, runs_of_trip, day_runs, AreOverBy, NoneRuns}
-use Rattle.connections.proofs.JoinLemmas.{join-none}
-use Rattle.connections.proofs.StepLemmas.{some_step, steps_none}
+use Rattle.connections.proofs.{JoinLemmas.join-none, StepLemmas.{some_step, steps_none}}
 
 -- times do not go back over several rows
 pub onward_to : (rows : List StopRow) (places : ℕ) → AreTimed rows places → (p m : ℕ) → p + suc m < length rows → (kept_at rows (p + 1)).arrival ≤ (kept_at rows (p + suc m)).departure

@@ -1,13 +1,11 @@
 -- The runs of a row of frequencies that depart in a window, gathered from the last kept row to the first.
 use Rattle.connections.proofs.Common.{◌≡◌, ℕ, ℤ, pos, ◌+◌, ◌-◌, ◌*◌, ◌<◌, ◌≤◌, ◌<ℤ◌, ◌≤ℤ◌, max, nat_lt, nat_le, Bool, true, false, List, ◌++◌, length, All, refl, sym, ap, ◌∙◌, arith, ⊎_elim}
 use Rattle.connections.proofs.Common.{if◌then◌else◌, AllPairs, le-ltb, leb-true, ltb-true, le-leb, lt-ltb, le-mul_of_pos_right, mul-le-mul_right, suc-mul, cases_lt, false_from_ne_true, and_parts}
-use Rattle.connections.proofs.Common.{and_from, lt-leb, ints, by_lt_z, list_below, FrequencyRow, StopRow, end_of_times, IsFrequency, AreRepeats, repeat_at, AreBelow, IsRunOf, departure, ServiceDay}
-use Rattle.connections.proofs.Common.{Repeat, Window, join_below, only_if, holds, DepartOnDay, departs, has_connection, repeat_of, origin_at, is_repeat, row_repeats, rows_repeats, in_order}
+use Rattle.connections.proofs.Common.{and_from, lt-leb, ints, by_lt_z, list_below, FrequencyRow, StopRow, end_of_times, IsFrequency, AreRepeats, repeat_at, AreBelow, IsRunOf, departure}
+use Rattle.connections.proofs.Common.{ServiceDay, Repeat, Window, join_below, only_if, holds, DepartOnDay, departs, has_connection, repeat_of, origin_at, is_repeat, row_repeats, rows_repeats}
+use Rattle.connections.proofs.{Common.in_order, JoinLemmas.{join-same, join-rest, join-on, All-join, AllPairs-join, All-only_if, AllPairs-only_if}, OrderLemmas.{Differ, All-in_order}}
+use Rattle.connections.proofs.{ReachLemmas.has_connection_true, StepLemmas.{holds_parts, leaves_some}}
 use Rattle.trip_frequencies.specs.Frequencies.{no_frequency}
-use Rattle.connections.proofs.JoinLemmas.{join-same, join-rest, join-on, All-join, AllPairs-join, All-only_if, AllPairs-only_if}
-use Rattle.connections.proofs.OrderLemmas.{Differ, All-in_order}
-use Rattle.connections.proofs.ReachLemmas.{has_connection_true}
-use Rattle.connections.proofs.StepLemmas.{holds_parts, leaves_some}
 
 same_bool : (a b : Bool) → (a ≡ true → b ≡ true) → (b ≡ true → a ≡ true) → a ≡ b
 same_bool a b h k = grind arith

@@ -1,12 +1,10 @@
 -- The runs that depart in a window, by service day, position of the trip, and how they start.
-use Rattle.connections.proofs.Common.{◌≡◌, ℕ, ◌<ℤ◌, ◌<◌, ◌⊎◌, inl, inr, Bool, List, [], ◌∷◌, length, map, All, refl, sym, ◌∙◌, subst, arith, ⊎_elim, if◌then◌else◌, AllPairs, ltb-true}
-use Rattle.connections.proofs.Common.{ints, All-weaker, All-nil, All-get_or, All-map, same_Some, FrequencyRow, StopRow, FeedParts, AreRepeats, AreRepeating, rows_of, ServiceParts, ServiceDay, Repeat}
+use Rattle.connections.proofs.Common.{◌≡◌, ℕ, ◌<ℤ◌, ◌<◌, ◌⊎◌, inl, inr, Bool, List, [], ◌∷◌, length, map, All, refl, sym, ◌∙◌, subst, arith, ⊎_elim, if◌then◌else◌, AllPairs, ltb-true, ints}
+use Rattle.connections.proofs.Common.{All-weaker, All-nil, All-get_or, All-map, same_Some, FrequencyRow, StopRow, FeedParts, AreRepeats, AreRepeating, rows_of, ServiceParts, ServiceDay, Repeat}
 use Rattle.connections.proofs.Common.{Run, Window, join_below, only_if, origin_of_day, day_at, IsWindow, is_active_trip, has_connection, steps_of, rows_repeats, in_order, frequencies_of, own_run}
 use Rattle.connections.proofs.Common.{repeat_run, runs_of_trip, trip_runs, day_runs, runs_below, window_runs, no_run, run_steps, days, IsRunOfFeed, AreRunsOf, HaveConnections, AllPairs-map}
-use Rattle.connections.proofs.Common.{AllPairs-nil}
-use Rattle.connections.proofs.JoinLemmas.{All-join, AllPairs-join, All-only_if, AllPairs-only_if}
-use Rattle.connections.proofs.OrderLemmas.{All-in_order, pairs_in_order}
-use Rattle.connections.proofs.RepeatLemmas.{row_repeats_all, rows_repeats_all, rows_repeats_pairs}
+use Rattle.connections.proofs.{Common.AllPairs-nil, JoinLemmas.{All-join, AllPairs-join, All-only_if, AllPairs-only_if}, OrderLemmas.{All-in_order, pairs_in_order}, RepeatLemmas.row_repeats_all}
+use Rattle.connections.proofs.RepeatLemmas.{rows_repeats_all, rows_repeats_pairs}
 
 -- by day, then by trip, and of one trip and day apart by how they start
 abbrev pub Precedes : Run → Run → Type 0

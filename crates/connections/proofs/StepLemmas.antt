@@ -1,7 +1,7 @@
 -- The steps of a trip in a window.
 use Rattle.connections.proofs.Common.{◌≡◌, ℕ, ◌+◌, ◌<◌, ◌≤◌, ◌≤ℤ◌, ℤ, pos, true, false, List, [], ◌++◌, length, get_or, All, refl, ⊎_elim, append_assoc, append-nil, arith, AllPairs, int_le, ints}
-use Rattle.connections.proofs.Common.{map-append, nil_from_length, All-get_or, and_parts, cases_lt, StopRow, Origin, Window, only_if, holds, steps_below, departs}
-use Rattle.connections.proofs.JoinLemmas.{join-zero, join-next, All-join, AllPairs-join, Contains-join, All-only_if, AllPairs-only_if}
+use Rattle.connections.proofs.{Common.{map-append, nil_from_length, All-get_or, and_parts, cases_lt, StopRow, Origin, Window, only_if, holds, steps_below, departs}, JoinLemmas.join-zero}
+use Rattle.connections.proofs.JoinLemmas.{join-next, All-join, AllPairs-join, Contains-join, All-only_if, AllPairs-only_if}
 
 -- a moment in the window
 pub holds_parts : (w : Window) (moment : ℤ) → holds w moment ≡ true → (pos w.start ≤ℤ moment) × (moment ≤ℤ pos w.end)

@@ -1,13 +1,12 @@
 -- Sums over the steps, the trips and the days of a window.
-use Rattle.connections.proofs.Common.{common_steps, ◌≡◌, ℕ, zero, suc, ◌+◌, ◌-◌, ◌*◌, ◌^◌, ◌<◌, ◌≤◌, min, Bool, true, false, List, [], ◌∷◌, length, get_or, if◌then◌else◌, refl, sym, ap, ◌∙◌, arith}
-use Rattle.connections.proofs.Common.{⊎_elim, sum_by, nat_lt, ◌&&◌, pos, ◌≤ℤ◌, le-mul_of_pos_right, add-mul, zero-mul, fun_ext, cases_lt, cases_Bool, cond_both, and_parts, ints, get_or_past}
-use Rattle.connections.proofs.Common.{sum_by-cons, All-get_or, PlaceId, Way, ChangeParts, links_of, AreLinksInto, FrequencyRow, StopRow, FeedParts, end_of_times, IsFrequency, AreRepeats}
-use Rattle.connections.proofs.Common.{AreRepeating, IsSmall, repeat_at, rows_of, kept_at, IsTimed, departure, ServiceParts, ServiceDay, Origin, Repeat, Window, only_if, sum_below, origin_of_day}
-use Rattle.connections.proofs.Common.{holds, day_at, IsWindow, departs, is_active_trip, steps_below, steps_of, origin_at, repeat_of, is_repeat, row_repeats, frequencies_of, days, each_of, steps_sum}
-use Rattle.connections.proofs.Common.{row_sum, rows_sum, runs_sum, leaving_sum, trip_sum, day_sum, days_sum, window_sum, count_in, entries_in, HaveWays, NoneRuns}
+use Rattle.connections.proofs.Common.{common_steps, ◌≡◌, ℕ, zero, suc, ◌+◌, ◌-◌, ◌*◌, ◌^◌, ◌<◌, ◌≤◌, min, Bool, true, false, List, [], ◌∷◌, length, get_or, if◌then◌else◌, refl, sym, ap, ◌∙◌}
+use Rattle.connections.proofs.Common.{arith, ⊎_elim, sum_by, nat_lt, ◌&&◌, pos, ◌≤ℤ◌, le-mul_of_pos_right, add-mul, zero-mul, fun_ext, cases_lt, cases_Bool, cond_both, and_parts, ints}
+use Rattle.connections.proofs.Common.{get_or_past, sum_by-cons, All-get_or, PlaceId, Way, ChangeParts, links_of, AreLinksInto, FrequencyRow, StopRow, FeedParts, end_of_times, IsFrequency}
+use Rattle.connections.proofs.Common.{AreRepeats, AreRepeating, IsSmall, repeat_at, rows_of, kept_at, IsTimed, departure, ServiceParts, ServiceDay, Origin, Repeat, Window, only_if, sum_below}
+use Rattle.connections.proofs.Common.{origin_of_day, holds, day_at, IsWindow, departs, is_active_trip, steps_below, steps_of, origin_at, repeat_of, is_repeat, row_repeats, frequencies_of, days}
+use Rattle.connections.proofs.Common.{each_of, steps_sum, row_sum, rows_sum, runs_sum, leaving_sum, trip_sum, day_sum, days_sum, window_sum, count_in, entries_in, HaveWays, NoneRuns}
+use Rattle.connections.proofs.{CountLemmas.{sum-zero, sum-suc, sum_by-ones, sum_by-join, length-join, sum_by-at, sum-connections}, StepLemmas.holds_parts}
 use Rattle.connections.specs.declared.counts.Counted.TheVariants.{Entries}
-use Rattle.connections.proofs.CountLemmas.{sum-zero, sum-suc, sum_by-ones, sum_by-join, length-join, sum_by-at, sum-connections}
-use Rattle.connections.proofs.StepLemmas.{holds_parts}
 
 pub active-sum : (active : Bool) (n x : ℕ) → active ≡ true → x ≡ min n (2 ^ 64 - 1) → x ≡ min (if active then n else 0) (2 ^ 64 - 1)
 active-sum active n x is e = rw is e

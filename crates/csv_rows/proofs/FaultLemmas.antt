@@ -1,6 +1,5 @@
 -- In which table a fault is, and the first of several.
-use Rattle.csv_rows.proofs.Common.{◌≡◌, ℕ, ◌<◌, Option, None, Result, IfErr, ap, ◌∙◌, IsErr, IsErrAnd, ⊤, option_or, Table, FeedFault, first_below, IsFirstFault, MatchResult, arith}
-use Rattle.csv_rows.proofs.Common.{ReportsFirst}
+use Rattle.csv_rows.proofs.Common.{◌≡◌, ℕ, ◌<◌, Option, None, Result, IfErr, ap, ◌∙◌, IsErr, IsErrAnd, ⊤, option_or, Table, FeedFault, first_below, IsFirstFault, MatchResult, arith, ReportsFirst}
 use Rattle.csv_rows.proofs.FirstLemmas.{first-at}
 
 -- what a step that failed says of its error holds of what `?` passes on

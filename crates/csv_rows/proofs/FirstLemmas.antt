@@ -1,7 +1,7 @@
 -- The first fault below a number, step by step, and that it is the least of all that hold.
 use Rattle.csv_rows.proofs.Common.{◌≡◌, ℕ, zero, suc, ◌+◌, ◌<◌, Bool, true, false, ◌||◌, ◌&&◌, Option, Some, None, option_map, if◌then◌else◌, refl, sym, ap, ap₂, ◌∙◌, subst, arith, ⊎_elim}
-use Rattle.csv_rows.proofs.Common.{eq-or-lt_of_le, add-one, ◌⊎◌, Decides, cond_some, none-some, cases_Bool, and_from, and_parts, false_from_ne_true, Decides-below_or, option_or}
-use Rattle.csv_rows.proofs.Common.{first_below, any_below}
+use Rattle.csv_rows.proofs.Common.{eq-or-lt_of_le, add-one, ◌⊎◌, Decides, cond_some, none-some, cases_Bool, and_from, and_parts, false_from_ne_true, Decides-below_or, option_or, first_below}
+use Rattle.csv_rows.proofs.Common.{any_below}
 
 pub first-zero : {F : Type 0} (f : ℕ → Option F) → first_below f 0 ≡ None
 unfolding first_below

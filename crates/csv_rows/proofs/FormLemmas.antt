@@ -1,16 +1,12 @@
 -- Whatever the form in which records are written, they are read.
-use Rattle.csv_rows.proofs.Common.{◌≡◌, ◌≢◌, ◌⊎◌, ℕ, Bool, true, false, List, [], ◌∷◌, ◌++◌, Some, None, refl, sym, ap, subst, ◌∙◌, ◌==◌, ◌||◌, map, append_assoc, cases_Bool, arith}
-use Rattle.csv_rows.proofs.Common.{and_parts, eqb-true, false_from_ne_true, list_any, trimmed_text, table_of, Reached, default_config, strip_bom}
+use Rattle.csv_rows.proofs.Common.{◌≡◌, ◌≢◌, ◌⊎◌, ℕ, Bool, true, false, List, [], ◌∷◌, ◌++◌, Some, None, refl, sym, ap, subst, ◌∙◌, ◌==◌, ◌||◌, map, append_assoc, cases_Bool, arith, and_parts}
+use Rattle.csv_rows.proofs.{Common.{eqb-true, false_from_ne_true, list_any, trimmed_text, table_of, Reached, default_config, strip_bom}, ReachedRecords.all_records}
+use Rattle.csv_rows.specs.Forms.{is_line_end, IsFieldText, AreFieldTexts, IsRecordText, IsAtLineEnd, AreLines, IsTextOf}
 use Rattle.std.specs.List.{list_all}
-use Rattle.csv.specs.Machine.{Read, next_record, after_end}
-use Rattle.csv.specs.Reading.{AreRecords}
-use Rattle.csv.specs.Writing.{default_writer, escaped, needs_byte}
-use Rattle.csv.specs.declared.parser.State.{State}
+use Rattle.csv.specs.{Machine.{Read, next_record, after_end}, Reading.AreRecords, Writing.{default_writer, escaped, needs_byte}, declared.parser.State.State}
+use Rattle.csv.proofs.RoundTrip.{plain-run, quoted-run, after-quote-same, start-same, record-same}
 use Rattle.csv.specs.declared.parser.State.TheVariants as st
 use Rattle.csv.specs.declared.parser.Terminator.TheVariants as term
-use Rattle.csv.proofs.RoundTrip.{plain-run, quoted-run, after-quote-same, start-same, record-same}
-use Rattle.csv_rows.proofs.ReachedRecords.{all_records}
-use Rattle.csv_rows.specs.Forms.{is_line_end, IsFieldText, AreFieldTexts, IsRecordText, IsAtLineEnd, AreLines, IsTextOf}
 
 or_parts : (a b : Bool) → (a || b) ≡ false → (a ≡ false) × (b ≡ false)
 or_parts a b none = grind arith

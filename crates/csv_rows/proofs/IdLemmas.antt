@@ -1,11 +1,9 @@
 -- Ids by their numbers, and ids that come twice.
 use Rattle.csv_rows.proofs.Common.{◌≡◌, ℕ, ◌+◌, ◌<◌, ◌≤◌, ◌==◌, ◌&&◌, Bool, false, List, [], ◌∷◌, ◌++◌, length, slice_index_or, Option, Some, None, IfSome, IfNone, Contains, refl, sym, ap, ap₂}
-use Rattle.csv_rows.proofs.Common.{◌∙◌, arith, ⊎_elim, bytes_eq, if◌then◌else◌, add-one, length-append, slice_get, eq-eqb, ne_eqb, common_steps, both_ways, cases_lt, cases_Bool}
-use Rattle.csv_rows.proofs.Common.{get_or_default, get_or_append_left, get_or_push, slice_get_cases, none-some, bytes_eq-Decides, option_or, Table, FeedFault, DuplicateKey, first_below, any_below}
-use Rattle.csv_rows.proofs.Common.{number_in, AreDistinct, repeated_id, list_below}
-use Rattle.csv_rows.proofs.FirstLemmas.{any-true, any-false, any-one, any-none, first-suc, index_by-some, index_by-none, first-same, none-each}
-use Rattle.csv_rows.proofs.HeaderLemmas.{index_is}
-use Rattle.csv_rows.proofs.ListLemmas.{length-list_below, get-list_below}
+use Rattle.csv_rows.proofs.Common.{◌∙◌, arith, ⊎_elim, bytes_eq, if◌then◌else◌, add-one, length-append, slice_get, eq-eqb, ne_eqb, common_steps, both_ways, cases_lt, cases_Bool, get_or_default}
+use Rattle.csv_rows.proofs.Common.{get_or_append_left, get_or_push, slice_get_cases, none-some, bytes_eq-Decides, option_or, Table, FeedFault, DuplicateKey, first_below, any_below, number_in}
+use Rattle.csv_rows.proofs.{Common.{AreDistinct, repeated_id, list_below}, FirstLemmas.{any-true, any-false, any-one, any-none, first-suc, index_by-some, index_by-none, first-same, none-each}}
+use Rattle.csv_rows.proofs.{HeaderLemmas.index_is, ListLemmas.{length-list_below, get-list_below}}
 
 -- what is at an index where something is
 pub got : {A : Type 0} (xs : List A) (i : ℕ) (x d : A) → slice_get xs i ≡ Some x → (i < length xs) × (slice_index_or xs i d ≡ x)

@@ -1,8 +1,8 @@
 -- What the key before a key says of the rows before its row in its group.
-use Rattle.csv_rows.proofs.Common.{rules, ◌≡◌, ◌≢◌, ℕ, ◌-◌, ◌<◌, ◌≤◌, ◌==◌, nat_lt, ◌⊎◌, Bool, true, false, not, ◌&&◌, List, length, Option, Some, None, IfSome, if◌then◌else◌, refl, sym, ap, ◌∙◌, ltb-true}
-use Rattle.csv_rows.proofs.Common.{subst, arith, ⊎_elim, eq-or-lt_of_le, eqb-true, eq-eqb, lt-ltb, true≢false, common_steps, cases_lt, cases_Bool, and_from, and_parts, not_from_false, not-true}
-use Rattle.csv_rows.proofs.Common.{first_below, any_below, Key, key_at, IsAtMost, AreSorted, IsBefore, has_twin, twin_at, repeated, precedes, just_precedes}
-use Rattle.csv_rows.proofs.FirstLemmas.{any-true, any-false, any-one, any-none, none-each}
+use Rattle.csv_rows.proofs.Common.{rules, ◌≡◌, ◌≢◌, ℕ, ◌-◌, ◌<◌, ◌≤◌, ◌==◌, nat_lt, ◌⊎◌, Bool, true, false, not, ◌&&◌, List, length, Option, Some, None, IfSome, if◌then◌else◌, refl, sym, ap, ◌∙◌}
+use Rattle.csv_rows.proofs.Common.{ltb-true, subst, arith, ⊎_elim, eq-or-lt_of_le, eqb-true, eq-eqb, lt-ltb, true≢false, common_steps, cases_lt, cases_Bool, and_from, and_parts, not_from_false}
+use Rattle.csv_rows.proofs.{Common.{not-true, first_below, any_below, Key, key_at, IsAtMost, AreSorted, IsBefore, has_twin, twin_at, repeated, precedes, just_precedes}, FirstLemmas.any-true}
+use Rattle.csv_rows.proofs.FirstLemmas.{any-false, any-one, any-none, none-each}
 
 pub less_group : (a b : Key) → IsAtMost a b → a.group ≤ b.group
 less_group a b h = ⊎_elim (λ x. omega arith) (λ x. omega (arith, x.0)) h

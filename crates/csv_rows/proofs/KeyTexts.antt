@@ -1,9 +1,9 @@
 -- The keys of a set of borrowed texts.
-use Rattle.csv_rows.proofs.Common.{Bor, ◌≡◌, ℕ, ◌<◌, Bool, true, false, Some, List, [], ◌∷◌, ◌++◌, length, map, get_or, refl, sym, ap, ◌∙◌, arith, Contains, bytes_eq, slice_get, position, list_any}
-use Rattle.csv_rows.proofs.Common.{Adds, bytes_eq-Decides, get_or-map, length-map, map-append, position-Some, slice_get-get_or}
+use Rattle.csv_rows.proofs.Common.{Bor, ◌≡◌, ℕ, ◌<◌, Bool, true, false, Some, List, [], ◌∷◌, ◌++◌, length, map, get_or, refl, sym, ap, ◌∙◌, arith, Contains, bytes_eq, slice_get, position}
+use Rattle.csv_rows.proofs.Common.{list_any, Adds, bytes_eq-Decides, get_or-map, length-map, map-append, position-Some, slice_get-get_or}
 use Rattle.std.specs.Prelude.{if◌then◌else◌}
-use Rattle.indexmap.specs.IndexSet.{insert_key}
 use Rattle.std.proofs.lemmas.List.Folds.{Any-from_list_any, list_any_at}
+use Rattle.indexmap.specs.IndexSet.{insert_key}
 
 bytes : Bor (List ℕ) → List ℕ
 bytes k = k.now

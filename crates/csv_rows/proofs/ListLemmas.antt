@@ -1,6 +1,6 @@
 -- The list of a function's values.
-use Rattle.csv_rows.proofs.Common.{◌≡◌, ℕ, zero, suc, ◌+◌, ◌<◌, ◌≤◌, drop, length-drop, get_or-drop, List, [], ◌∷◌, ◌++◌, length, slice_index_or, refl, sym, ap, ◌∙◌, subst, arith, ⊎_elim, add-one}
-use Rattle.csv_rows.proofs.Common.{length-append, eq-or-lt_of_le, drop-drop, get_or_append_left, get_or_push, list_below}
+use Rattle.csv_rows.proofs.Common.{◌≡◌, ℕ, zero, suc, ◌+◌, ◌<◌, ◌≤◌, drop, length-drop, get_or-drop, List, [], ◌∷◌, ◌++◌, length, slice_index_or, refl, sym, ap, ◌∙◌, subst, arith, ⊎_elim}
+use Rattle.csv_rows.proofs.Common.{add-one, length-append, eq-or-lt_of_le, drop-drop, get_or_append_left, get_or_push, list_below}
 
 pub list_below-zero : {A : Type 0} (f : ℕ → A) → list_below f 0 ≡ []
 unfolding list_below

@@ -1,7 +1,6 @@
 -- Fields, and the rows that they make.
 use Rattle.csv_rows.proofs.Common.{◌≡◌, ℕ, ◌<◌, Bool, List, [], length, slice_index_or, Option, Some, None, if◌then◌else◌, sym, ap, ◌∙◌, arith, bytes_eq, IfSome, option_map, cases_Bool}
-use Rattle.csv_rows.proofs.Common.{same_Some, is_utf8, option_or, name_in, number_in}
-use Rattle.csv_rows.proofs.FirstLemmas.{index_by-some}
+use Rattle.csv_rows.proofs.{Common.{same_Some, is_utf8, option_or, name_in, number_in}, FirstLemmas.index_by-some}
 
 -- the first of two faults
 pub or_first : {F : Type 0} (a b : Option F) (f : F) → a ≡ Some f → option_or a b ≡ Some f

@@ -1,7 +1,6 @@
 -- The soonest of the faults of rows, key by key, and that it is the first.
-use Rattle.csv_rows.proofs.Common.{◌≡◌, ℕ, ◌+◌, ◌<◌, ◌≤◌, nat_lt, Bool, true, false, ◌⊎◌, List, length, Option, Some, None, option_map, if◌then◌else◌, sym, subst, arith, ⊎_elim}
-use Rattle.csv_rows.proofs.Common.{below_more, cases_Bool, ltb-true, ltb-false, first_below, Key, key_at, AreSorted, sooner}
-use Rattle.csv_rows.proofs.FirstLemmas.{first-none, first-at}
+use Rattle.csv_rows.proofs.Common.{◌≡◌, ℕ, ◌+◌, ◌<◌, ◌≤◌, nat_lt, Bool, true, false, ◌⊎◌, List, length, Option, Some, None, option_map, if◌then◌else◌, sym, subst, arith, ⊎_elim, below_more}
+use Rattle.csv_rows.proofs.{Common.{cases_Bool, ltb-true, ltb-false, first_below, Key, key_at, AreSorted, sooner}, FirstLemmas.{first-none, first-at}}
 
 -- of the rows of the first m keys this one is the first that has a fault, or none has
 abbrev pub IsSoonest : {F : Type 0} → (ℕ → Option F) → ℕ → List Key → ℕ → Option (ℕ × F) → Type 0

@@ -2,11 +2,9 @@
 use Rattle.csv_rows.proofs.Common.{◌≡◌, ℕ, ◌+◌, ◌<◌, ◌≤◌, arith, ⊎_elim, Bool, true, false, eqb, List, refl, ap, ◌∙◌, subst, ◌++◌, ◌∷◌, [], All, AllPairs, Contains, Ordering, is_lt, nat_cmp}
 use Rattle.csv_rows.proofs.Common.{IsPermutation, IsSorted, ne_eqb, IsDistinct, All-push, All-weaker, Contains-append_left, Contains-push, all_pairs_push, get_or_default, cases_lt, eqb-false}
 use Rattle.csv_rows.proofs.Common.{nat_tests, Key, no_key, IsAtMost, IsRising, AreSorted}
-use Rattle.std.specs.Cmp.{IsTotalOrder}
-use Rattle.std.specs.Ordering.{ordering_then}
-use Rattle.std.proofs.lemmas.Cmp.{nat_cmp_total, on_total, then_total}
-use Rattle.std.proofs.lemmas.List.Sorted.{All-permutation, Contains-permutation, ranks_by, sorted_far}
-use Rattle.std.proofs.lemmas.Map.Keys.{IsDistinct-from_apart, IsDistinct-IsPermutation, apart_from_distinct}
+use Rattle.std.specs.{Cmp.IsTotalOrder, Ordering.ordering_then}
+use Rattle.std.proofs.lemmas.{Cmp.{nat_cmp_total, on_total, then_total}, List.Sorted.{All-permutation, Contains-permutation, ranks_by, sorted_far}, Map.Keys.IsDistinct-from_apart}
+use Rattle.std.proofs.lemmas.Map.Keys.{IsDistinct-IsPermutation, apart_from_distinct}
 
 abbrev pub key_cmp : Key → Key → Ordering
 key_cmp a b = ordering_then (nat_cmp a.group b.group) (ordering_then (nat_cmp a.order b.order) (nat_cmp a.row b.row))

@@ -1,6 +1,6 @@
 -- Trimmed fields neither begin nor end with a space.
-use Rattle.csv_rows.proofs.Common.{◌≡◌, ℕ, zero, suc, Option, Bool, true, false, ◌==◌, List, [], ◌∷◌, ◌++◌, map, reverse, slice_index_or, if◌then◌else◌, refl, sym, ap, ◌∙◌, arith}
-use Rattle.csv_rows.proofs.Common.{cases_Bool, common_steps, nat_tests, reverse-append, reverse-reverse, IsTrimmed, drop_spaces, trimmed_text, AreTrimmed, field_at}
+use Rattle.csv_rows.proofs.Common.{◌≡◌, ℕ, zero, suc, Option, Bool, true, false, ◌==◌, List, [], ◌∷◌, ◌++◌, map, reverse, slice_index_or, if◌then◌else◌, refl, sym, ap, ◌∙◌, arith, cases_Bool}
+use Rattle.csv_rows.proofs.Common.{common_steps, nat_tests, reverse-append, reverse-reverse, IsTrimmed, drop_spaces, trimmed_text, AreTrimmed, field_at}
 
 start_if : (t : Bool) (b : ℕ) (bs dropped rest : List ℕ) → (b == 32) ≡ t → (dropped ≡ 32 ∷ rest → ⊥) → (if t then dropped else b ∷ bs) ≡ 32 ∷ rest → ⊥
 start_if t b bs dropped rest e h k = grind (arith, cases_Bool t, nat_tests)

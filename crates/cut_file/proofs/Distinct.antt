@@ -1,9 +1,9 @@
 -- Numbers of names: one for each name.
 use Rattle.cut_file.proofs.Common.{◌≡◌, ℕ, zero, suc, ◌==◌, Bool, true, false, List, [], ◌∷◌, ◌++◌, slice_get, Some, is_some, if◌then◌else◌, refl, arith, Contains, bytes_eq, eq-eqb, ne_eqb}
 use Rattle.cut_file.proofs.Common.{cases_Bool, bytes_eq-Decides, slice_get_within, get_or_from_slice_get, same_Some, AreDistinct, number_in, row, add_new, run_names, place_names}
+use Rattle.cut_file.proofs.NumberFacts.{there_place}
 use Rattle.plan_model.proofs.Texts.{AreDistinct-push}
 use Rattle.delay_table.proofs.NumberedFacts.{one_index}
-use Rattle.cut_file.proofs.NumberFacts.{there_place}
 
 push_if : (names : List (List ℕ)) (x : List ℕ) (b : Bool) → (b ≡ false → Contains names x → ⊥) → AreDistinct names → AreDistinct (if b then names else names ++ x ∷ [])
 push_if names x true absent d = d

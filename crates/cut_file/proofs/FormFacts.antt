@@ -1,13 +1,11 @@
 -- What the forms of the fields bound.
-use Rattle.cut_file.proofs.Common.{◌≡◌, ℕ, ◌+◌, ◌<◌, ◌≤◌, Bool, true, ◌==◌, nat_lt, List, length, Option, Some, None, Result, Ok, Err, IfSome, if◌then◌else◌, refl, subst, arith, ltb-true, cases_Bool}
-use Rattle.cut_file.proofs.Common.{Column, Class, Run, Step, From, To, Dep, Arr, Board, Exit, Change, same_Some, Row, row_from, row_at, bad_of, bad_field, row_of, row, field}
+use Rattle.cut_file.proofs.Common.{◌≡◌, ℕ, ◌+◌, ◌<◌, ◌≤◌, Bool, true, ◌==◌, nat_lt, List, length, Option, Some, None, Result, Ok, Err, IfSome, if◌then◌else◌, refl, subst, arith, ltb-true}
+use Rattle.cut_file.proofs.Common.{cases_Bool, Column, Class, Run, Step, From, To, Dep, Arr, Board, Exit, Change, same_Some, Row, row_from, row_at, bad_of, bad_field, row_of, row, field}
+use Rattle.cut_file.specs.{CutRows.{before_end, moment_before_end, class_in, flag_in}, declared.lines.TheConstants.MOST_STEP}
 use Rattle.clock_text.proofs.DigitLemmas.{whole_bound}
+use Rattle.clock_text.specs.{Digits.{optional_seconds_of, whole_of}, Times.moment_at}
 use Rattle.csv_rows.proofs.RowLemmas.{name_text, optional-each}
-use Rattle.clock_text.specs.Digits.{optional_seconds_of, whole_of}
-use Rattle.clock_text.specs.Times.{moment_at}
 use Rattle.csv_rows.specs.Ids.{name_in}
-use Rattle.cut_file.specs.CutRows.{before_end, moment_before_end, class_in, flag_in}
-use Rattle.cut_file.specs.declared.lines.TheConstants.{MOST_STEP}
 use Rattle.plan_model.specs.Bounds.{end_of_arrivals}
 use Rattle.plan_model.proofs.Results.{require-each}
 

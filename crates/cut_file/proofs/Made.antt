@@ -1,8 +1,7 @@
 -- The network that is made.
-use Rattle.cut_file.proofs.Common.{◌≡◌, ℕ, ◌+◌, ◌<◌, List, [], ◌∷◌, ◌++◌, length, get_or, arith, below_more, get_or_append_left, get_or_push, length-append, plain_network, change_of, DelayLists, CutRow, Key, key_at}
-use Rattle.cut_file.proofs.Common.{Cut, cut_row, AreConnections, IsConnection, IsNetwork, longest, change_from}
-use Rattle.plan_model.specs.declared.model.Connection.{Connection}
-use Rattle.plan_model.specs.declared.model.Outcome.{Outcome}
+use Rattle.cut_file.proofs.Common.{◌≡◌, ℕ, ◌+◌, ◌<◌, List, [], ◌∷◌, ◌++◌, length, get_or, arith, below_more, get_or_append_left, get_or_push, length-append, plain_network, change_of, DelayLists}
+use Rattle.cut_file.proofs.Common.{CutRow, Key, key_at, Cut, cut_row, AreConnections, IsConnection, IsNetwork, longest, change_from}
+use Rattle.plan_model.specs.declared.model.{Connection.Connection, Outcome.Outcome}
 
 -- the connections, one more at a time
 pub connections-next : (delays : DelayLists) (rows : List CutRow) (keys : List Key) (n : ℕ) (old new : List Connection) (c : Connection)

@@ -1,9 +1,8 @@
 -- The fault of a row after the row before it in its run, by the keys.
-use Rattle.cut_file.proofs.Common.{cases_Bool, ◌≡◌, ℕ, ◌+◌, ◌<◌, ◌==◌, nat_lt, Bool, true, false, not, ◌&&◌, ◌||◌, List, length, Option, Some, None, if◌then◌else◌, sym, ap, ap₂, ◌∙◌, subst, arith}
-use Rattle.cut_file.proofs.Common.{bytes_eq, first_below, any_below, row_count, Key, key_at, IsBefore, any-same, before_inside, asked, asked_before, CutRow, CutFault, Backward, Broken, row}
-use Rattle.cut_file.proofs.Common.{cut_precedes, cut_just_precedes, repeated_step, run_fault, cut_row, run_of, step_of, fault_after, IsCutRead}
-use Rattle.cut_file.proofs.Distinct.{same_name}
-use Rattle.cut_file.proofs.Repeats.{one_place_name, run_is, step_is, apart}
+use Rattle.cut_file.proofs.Common.{cases_Bool, ◌≡◌, ℕ, ◌+◌, ◌<◌, ◌==◌, nat_lt, Bool, true, false, not, ◌&&◌, ◌||◌, List, length, Option, Some, None, if◌then◌else◌, sym, ap, ap₂, ◌∙◌, subst}
+use Rattle.cut_file.proofs.Common.{arith, bytes_eq, first_below, any_below, row_count, Key, key_at, IsBefore, any-same, before_inside, asked, asked_before, CutRow, CutFault, Backward, Broken}
+use Rattle.cut_file.proofs.{Common.{row, cut_precedes, cut_just_precedes, repeated_step, run_fault, cut_row, run_of, step_of, fault_after, IsCutRead}, Distinct.same_name, Repeats.one_place_name}
+use Rattle.cut_file.proofs.Repeats.{run_is, step_is, apart}
 
 -- the fault by the two tests
 abbrev fault_by : Bool → Bool → ℕ → Option CutFault

@@ -1,10 +1,9 @@
 -- Names that are numbered as they come.
 use Rattle.cut_file.proofs.Common.{◌≡◌, ℕ, zero, suc, ◌+◌, ◌≤◌, Bool, true, false, List, [], ◌∷◌, ◌++◌, length, get_or, slice_get, Option, Some, None, is_some, if◌then◌else◌, refl, sym, ap, ◌∙◌}
-use Rattle.cut_file.proofs.Common.{subst, take, arith, Contains, length-append, bytes_eq, cases_Bool, get_or_default, take_more, none-some, slice_get_within, get_or_from_slice_get, Adds, AreDistinct}
-use Rattle.cut_file.proofs.Common.{number_in, absent_by, CutRow, Row, add_new, IsNumbered}
+use Rattle.cut_file.proofs.Common.{subst, take, arith, Contains, length-append, bytes_eq, cases_Bool, get_or_default, take_more, none-some, slice_get_within, get_or_from_slice_get, Adds}
+use Rattle.cut_file.proofs.Common.{AreDistinct, number_in, absent_by, CutRow, Row, add_new, IsNumbered}
 use Rattle.text_index.proofs.KeyLemmas.{new_after_those_before}
-use Rattle.csv_rows.proofs.IdLemmas.{got, number-contained}
-use Rattle.csv_rows.proofs.HeaderLemmas.{bytes_ne}
+use Rattle.csv_rows.proofs.{IdLemmas.{got, number-contained}, HeaderLemmas.bytes_ne}
 
 -- the next of these names is new after those before it
 pub next_absent : (names taken : List (List ℕ)) (k : ℕ) (name : List ℕ) → AreDistinct names → taken ≡ take k names → slice_get names k ≡ Some name → ¬ Contains taken name

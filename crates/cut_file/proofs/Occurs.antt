@@ -1,7 +1,6 @@
 -- Each number is that of some row.
-use Rattle.cut_file.proofs.Common.{◌≡◌, ℕ, zero, suc, ◌*◌, ◌<◌, ◌≤◌, ◌⊎◌, inl, inr, Bool, true, false, List, [], ◌∷◌, ◌++◌, length, slice_get, Some, is_some, if◌then◌else◌, refl, sym, subst, arith}
-use Rattle.cut_file.proofs.Common.{⊎_elim, length-append, eq-or-lt_of_le, number_in, row, add_new, run_names, place_names}
-use Rattle.cut_file.proofs.NumberFacts.{get_add, length_add}
+use Rattle.cut_file.proofs.Common.{◌≡◌, ℕ, zero, suc, ◌*◌, ◌<◌, ◌≤◌, ◌⊎◌, inl, inr, Bool, true, false, List, [], ◌∷◌, ◌++◌, length, slice_get, Some, is_some, if◌then◌else◌, refl, sym, subst}
+use Rattle.cut_file.proofs.{Common.{arith, ⊎_elim, length-append, eq-or-lt_of_le, number_in, row, add_new, run_names, place_names}, NumberFacts.{get_add, length_add}}
 
 get_last : (names : List (List ℕ)) (x : List ℕ) → slice_get (names ++ x ∷ []) (length names) ≡ Some x
 get_last [] x = refl

@@ -1,8 +1,7 @@
 -- The rows of a table by the keys of their runs and steps, and the first step that is repeated.
-use Rattle.cut_file.proofs.Common.{◌≡◌, ℕ, ◌+◌, ◌<◌, ◌==◌, Bool, true, List, length, Option, Some, None, option_map, if◌then◌else◌, sym, ap, ◌∙◌, subst, arith, AreDistinct, first_below, row_count}
-use Rattle.cut_file.proofs.Common.{Key, key_at, AreSorted, has_twin, twin_at, any-same, first-same, first-reported, AreApart, no_twins, rises, CutRow, CutFault, DuplicateStep, row, same_run}
-use Rattle.cut_file.proofs.Common.{repeated_step, run_of, step_of, IsCutRead}
-use Rattle.cut_file.proofs.Distinct.{runs_distinct, places_distinct, same_name}
+use Rattle.cut_file.proofs.Common.{◌≡◌, ℕ, ◌+◌, ◌<◌, ◌==◌, Bool, true, List, length, Option, Some, None, option_map, if◌then◌else◌, sym, ap, ◌∙◌, subst, arith, AreDistinct, first_below}
+use Rattle.cut_file.proofs.Common.{row_count, Key, key_at, AreSorted, has_twin, twin_at, any-same, first-same, first-reported, AreApart, no_twins, rises, CutRow, CutFault, DuplicateStep, row}
+use Rattle.cut_file.proofs.{Common.{same_run, repeated_step, run_of, step_of, IsCutRead}, Distinct.{runs_distinct, places_distinct, same_name}}
 
 module _ (t : List (List (List ℕ))) (runs places : List (List ℕ)) (rows : List CutRow) (keys : List Key) (r : IsCutRead t runs places rows keys) where
   pub one_run : AreDistinct runs

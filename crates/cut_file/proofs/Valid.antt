@@ -1,19 +1,13 @@
 -- The network of a cut file with no fault is valid.
 use Rattle.cut_file.proofs.Common.{◌≡◌, ℕ, zero, suc, ◌+◌, ◌-◌, ◌<◌, ◌≤◌, ◌==◌, inl, inr, Bool, false, List, length, slice_get, slice_index_or, Option, Some, None, IfSome, if◌then◌else◌, refl}
 use Rattle.cut_file.proofs.Common.{sym, ap, ◌∙◌, subst, arith, ⊎_elim, ltb-false, cases_Bool, cases_lt, or_parts, slice_get_within, NetworkModel, IsValid, IsValidConnection, AreLinks, count}
-use Rattle.cut_file.proofs.Common.{connection, first_below, DelayLists, AreDelays, row_count, none-both, none-each, CutRow, Key, key_at, IsBefore, less_group, CutFault, row, bad_field, repeated_step}
-use Rattle.cut_file.proofs.Common.{run_fault, first_cut_fault, cut_row, fault_after, Cut, IsFaultless, IsConnection, IsNetwork, longest, change_by, change_from, change_seconds_of}
+use Rattle.cut_file.proofs.Common.{connection, first_below, DelayLists, AreDelays, row_count, none-both, none-each, CutRow, Key, key_at, IsBefore, less_group, CutFault, row, bad_field}
+use Rattle.cut_file.proofs.Common.{repeated_step, run_fault, first_cut_fault, cut_row, fault_after, Cut, IsFaultless, IsConnection, IsNetwork, longest, change_by, change_from, change_seconds_of}
+use Rattle.cut_file.proofs.{Repeats.{one_run, steps_rise}, Misfits.misfit_is, Distinct.one_number, FormFacts.row_in_form, Occurs.{run_occurs, few_places}, ChangeFacts.{longest-zero, longest-suc}}
 use Rattle.std.proofs.lemmas.Bool.Decides.{nat_tests}
-use Rattle.plan_model.proofs.Links.{AreLinks-none}
+use Rattle.plan_model.proofs.{Links.AreLinks-none, Local.{FitsNext, IsLocallyValid, IsValid-from_local}}
 use Rattle.plan_model.specs.Network.{row_of, run_of, step_of}
-use Rattle.plan_model.proofs.Local.{FitsNext, IsLocallyValid, IsValid-from_local}
 use Rattle.delay_table.proofs.ClassBounds.{class_for-inside}
-use Rattle.cut_file.proofs.Repeats.{one_run, steps_rise}
-use Rattle.cut_file.proofs.Misfits.{misfit_is}
-use Rattle.cut_file.proofs.Distinct.{one_number}
-use Rattle.cut_file.proofs.FormFacts.{row_in_form}
-use Rattle.cut_file.proofs.Occurs.{run_occurs, few_places}
-use Rattle.cut_file.proofs.ChangeFacts.{longest-zero, longest-suc}
 
 if_none : (b : Bool) (e : CutFault) (o : Option CutFault) → (if b then Some e else o) ≡ None → (b ≡ false) × (o ≡ None)
 if_none b e o h = grind (arith, cases_Bool b)

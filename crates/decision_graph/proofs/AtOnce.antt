@@ -1,12 +1,11 @@
 -- A journey that is at its target when it begins.
-use Rattle.decision_graph.proofs.Common.{◌≡◌, ℕ, ◌<◌, ◌≤◌, [], Option, Some, None, MatchOption, MatchOption-at_some, refl, sym, subst, arith, nat_tests, Scoring, ScoreLaws, Leg, Query, NetworkModel, Tree, Done, Ride, Stuck}
-use Rattle.decision_graph.proofs.Common.{IsSafeFor, ExpandedGraph, RideTable, IsBestBy, IsNoneSafe, IsExpandedBy, HasSteadyChoice}
-use Rattle.std.proofs.lemmas.List.Elements.{All-nil}
+use Rattle.decision_graph.proofs.Common.{◌≡◌, ℕ, ◌<◌, ◌≤◌, [], Option, Some, None, MatchOption, MatchOption-at_some, refl, sym, subst, arith, nat_tests, Scoring, ScoreLaws, Leg, Query}
+use Rattle.decision_graph.proofs.Common.{NetworkModel, Tree, Done, Ride, Stuck, IsSafeFor, ExpandedGraph, RideTable, IsBestBy, IsNoneSafe, IsExpandedBy, HasSteadyChoice}
 use Rattle.decision_graph.specs.Planned.{no_rides}
+use Rattle.std.proofs.lemmas.List.Elements.{All-nil}
 use Rattle.plan_model.specs.Unfold.{unfolding_of}
-use Rattle.plan_graph.specs.Unfold.{Precedes, pick_after}
-use Rattle.plan_graph.specs.Ready.{Stands}
 use Rattle.plan_model.proofs.Lists.{Contains-nil, AllPairs-nil}
+use Rattle.plan_graph.specs.{Unfold.{Precedes, pick_after}, Ready.Stands}
 
 unfolds : (n : NetworkModel) (q : Query) (choice : Leg → ℕ → Option Leg) → q.source.0 ≡ q.target.0 → unfolding_of n q choice None ≡ Done q.start.0
 unfolds n q choice same =

@@ -1,10 +1,8 @@
 -- From what a scan promises to a best strategy.
-use Rattle.decision_graph.proofs.Common.{◌≡◌, ◌≢◌, List, Some, ◌∙◌, MatchOption-at_some, Leg, Query, NetworkModel, Tree, ExpandedGraph, Scoring, FollowsRules, arith}
-use Rattle.decision_graph.proofs.Common.{IsByRules, IsBestBy, IsNoneSafe, IsExpandedBy, HasSteadyChoice}
-use Rattle.plan_model.specs.declared.model.ConnectionId.{ConnectionId}
-use Rattle.plan_model.specs.Order.{IsScanOrder}
-use Rattle.meat_scan.specs.ScanResult.{ScanResult, chosen_by, leg_choice}
-use Rattle.meat_scan.specs.Solves.{Solves, IsStartAnswer}
+use Rattle.decision_graph.proofs.Common.{◌≡◌, ◌≢◌, List, Some, ◌∙◌, MatchOption-at_some, Leg, Query, NetworkModel, Tree, ExpandedGraph, Scoring, FollowsRules, arith, IsByRules, IsBestBy}
+use Rattle.decision_graph.proofs.Common.{IsNoneSafe, IsExpandedBy, HasSteadyChoice}
+use Rattle.plan_model.specs.{declared.model.ConnectionId.ConnectionId, Order.IsScanOrder}
+use Rattle.meat_scan.specs.{ScanResult.{ScanResult, chosen_by, leg_choice}, Solves.{Solves, IsStartAnswer}}
 use Rattle.leg_extract.specs.Extracted.{IsExtracted}
 
 -- the graph of the choices of a scan, from its start leg on

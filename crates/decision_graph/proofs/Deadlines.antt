@@ -1,8 +1,7 @@
 -- Plans by one deadline and by another.
-use Rattle.decision_graph.proofs.Common.{◌≡◌, ℕ, ◌+◌, ◌*◌, ◌^◌, ◌<◌, ◌≤◌, Some, arith, inl, inr, mul-le-mul_right, Interval, NetworkModel, Query, IsLeastWorst, Tree, worst, height}
-use Rattle.decision_graph.proofs.Common.{PlanGraph, unfold_plan, IsBest, IsPlanned}
-use Rattle.std.proofs.lemmas.Bool.{cases_lt}
-use Rattle.std.proofs.Math.Nat.{one-le-pow}
+use Rattle.decision_graph.proofs.Common.{◌≡◌, ℕ, ◌+◌, ◌*◌, ◌^◌, ◌<◌, ◌≤◌, Some, arith, inl, inr, mul-le-mul_right, Interval, NetworkModel, Query, IsLeastWorst, Tree, worst, height, PlanGraph}
+use Rattle.decision_graph.proofs.Common.{unfold_plan, IsBest, IsPlanned}
+use Rattle.std.proofs.{lemmas.Bool.cases_lt, Math.Nat.one-le-pow}
 use Rattle.plan_model.specs.Expected.{Below, Covers}
 use Rattle.plan_model.proofs.Laws.{reaches_from_safe, safe_from_reaches}
 

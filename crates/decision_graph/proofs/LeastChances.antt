@@ -1,7 +1,6 @@
 -- What the chance as a score says of a graph is what its bounds say.
 use Rattle.decision_graph.proofs.Common.{◌≡◌, ℕ, ◌*◌, ◌≤◌, arith, true, refl, nat_le, nat_tests, Interval, Query, NetworkModel, PlanGraph, IsPlannedBy, IsLeastChance}
-use Rattle.plan_model.specs.Bounds.{certainty}
-use Rattle.plan_model.specs.Expected.{late}
+use Rattle.plan_model.specs.{Bounds.certainty, Expected.late}
 use Rattle.late_chance.specs.Chances.{chance_scoring}
 
 none_late : (promise start : ℕ) → start ≤ promise → ◌≡◌ {A = Interval} (record { lo = certainty * late promise start; hi = certainty * late promise start }) (record { lo = 0; hi = 0 })

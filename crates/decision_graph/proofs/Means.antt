@@ -1,7 +1,6 @@
 -- What the mean as a score says of a graph is what its bounds say.
 use Rattle.decision_graph.proofs.Common.{ap, Tree, Query, NetworkModel, ExpandedGraph, PlanGraph, IsBestBy, IsBest, IsExpandedBy, IsExpanded, IsPlannedBy, IsPlanned}
-use Rattle.value_laws.specs.declared.MeanSpan.{MeanSpan}
-use Rattle.value_laws.specs.Means.{span_of, mean_scoring}
+use Rattle.value_laws.specs.{declared.MeanSpan.MeanSpan, Means.{span_of, mean_scoring}}
 
 best : (n : NetworkModel) (q : Query) (strategy : Tree) (value : MeanSpan) → IsBestBy mean_scoring n q strategy value → IsBest n q strategy value.0
 best n q strategy value by = record {

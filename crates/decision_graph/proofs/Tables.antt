@@ -1,6 +1,5 @@
 -- From the graph ride by ride to the one with one table for each place.
-use Rattle.decision_graph.proofs.Common.{◌≡◌, Query, NetworkModel, ExpandedGraph, PlanGraph, unfold_expanded, unfold_plan, Scoring, IsExpandedBy, arith}
-use Rattle.decision_graph.proofs.Common.{IsPlannedBy}
+use Rattle.decision_graph.proofs.Common.{◌≡◌, Query, NetworkModel, ExpandedGraph, PlanGraph, unfold_expanded, unfold_plan, Scoring, IsExpandedBy, arith, IsPlannedBy}
 use Rattle.plan_graph.specs.Tidy.{IsTidy}
 
 -- the plan unfolds to the strategy of the graph

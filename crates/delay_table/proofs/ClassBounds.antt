@@ -1,7 +1,6 @@
 -- The class of a connection is one of those of the table.
-use Rattle.delay_table.proofs.Common.{◌≡◌, ℕ, ◌+◌, ◌<◌, ◌==◌, List, length, slice_index, Option, Some, None, IfSome, option_map, arith, unwrap_or, option_or, index_by-some, DelayLists}
-use Rattle.delay_table.proofs.Common.{class_for, hour_class, hour_of, other_class, route_class, type_class, type_index, Group, group_index, AreDelays}
-use Rattle.delay_table.proofs.GroupFacts.{group-here}
+use Rattle.delay_table.proofs.Common.{◌≡◌, ℕ, ◌+◌, ◌<◌, ◌==◌, List, length, slice_index, Option, Some, None, IfSome, option_map, arith, unwrap_or, option_or, index_by-some, DelayLists, class_for}
+use Rattle.delay_table.proofs.{Common.{hour_class, hour_of, other_class, route_class, type_class, type_index, Group, group_index, AreDelays}, GroupFacts.group-here}
 
 module _ (n : ℕ) where
   -- it is below n, where it is there

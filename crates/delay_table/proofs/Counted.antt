@@ -2,8 +2,8 @@
 use Rattle.delay_table.proofs.Common.{◌≡◌, ℕ, ◌<◌, ◌+◌, nat_lt, Bool, true, List, length, Option, Some, None, option_map, if◌then◌else◌, arith, cases_Bool, nat_tests, Outcome, first_below}
 use Rattle.delay_table.proofs.Common.{row_count, first-is, option_or, DelayFault, MissingColumn, TooManyClasses, WeightSum, GroupSum, MOST_GROUPS, Group, Line, class_name, class_rows, class_sum}
 use Rattle.delay_table.proofs.Common.{fault_of, groups_fault, line_fault, missing_column, no_default_of, other_sum, group_outcomes}
-use Rattle.csv_rows.specs.declared.columns.Column.{Column}
 use Rattle.delay_table.specs.Delays.{line_at}
+use Rattle.csv_rows.specs.declared.columns.Column.{Column}
 
 -- a fault that has no number of groups, or none
 abbrev pub IsOther : Option DelayFault → Type 0

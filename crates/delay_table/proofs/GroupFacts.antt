@@ -1,7 +1,7 @@
 -- Groups that are the same, and where a group is among others.
 use Rattle.delay_table.proofs.Common.{◌≡◌, ℕ, ◌+◌, ◌<◌, Bool, true, false, List, [], ◌∷◌, ◌++◌, length, Option, Some, None, refl, sym, ◌∙◌, subst, arith, inl, inr, length-append, eqb-true}
-use Rattle.delay_table.proofs.Common.{eq-eqb, cases_order, and_from, and_parts, false_from_ne_true, get_or_append_left, get_or_push, absent_by, found_by, index_by-none, index_by-some, Group, same_if}
-use Rattle.delay_table.proofs.Common.{same_group, of_class, group_in, group_index, AreApart}
+use Rattle.delay_table.proofs.Common.{eq-eqb, cases_order, and_from, and_parts, false_from_ne_true, get_or_append_left, get_or_push, absent_by, found_by, index_by-none, index_by-some, Group}
+use Rattle.delay_table.proofs.Common.{same_if, same_group, of_class, group_in, group_index, AreApart}
 use Rattle.std.proofs.lemmas.Slice.Eq.{bytes_eq-Decides}
 
 pub same_if-equal : {A : Type 0} (same : A → A → Bool) → ((a b : A) → same a b ≡ true → a ≡ b) → (x y : Option A) → same_if same x y ≡ true → x ≡ y

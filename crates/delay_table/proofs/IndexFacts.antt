@@ -1,8 +1,7 @@
 -- The indexes of elements in a list to which one is added.
 use Rattle.delay_table.proofs.Common.{◌≡◌, ℕ, ◌+◌, Bool, true, false, cond, List, [], ◌∷◌, ◌++◌, length, Option, Some, None, is_some, refl, sym, ap, ◌∙◌, subst, arith, ⊎_elim, position, list_any}
-use Rattle.delay_table.proofs.Common.{position_from, option_or, cases_Bool, NumberedGroup, same_numbered}
+use Rattle.delay_table.proofs.{Common.{position_from, option_or, cases_Bool, NumberedGroup, same_numbered}, NumberedFacts.{numbered-equal, numbered-true}}
 use Rattle.std.proofs.lemmas.Iterator.Adapters.{position_from-zero}
-use Rattle.delay_table.proofs.NumberedFacts.{numbered-equal, numbered-true}
 
 module _ {X : Type 0} (test : X → Bool) where
   any-from : (i : ℕ) (xs : List X) → is_some (position_from test i xs) ≡ list_any test xs

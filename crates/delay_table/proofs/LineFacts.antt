@@ -1,12 +1,10 @@
 -- One row of the table.
 use Rattle.std.proofs.lemmas.Grind.{common_steps}
-use Rattle.delay_table.proofs.Common.{◌≡◌, ℕ, ◌≤◌, Bool, false, ◌==◌, List, Option, Some, None, IfSome, ◌<◌, option_map, if◌then◌else◌, ap, ◌∙◌, subst, arith, is_none}
-use Rattle.delay_table.proofs.Common.{bytes_eq, cases_Bool, nat_tests, Class, Delay, Weight, RouteId, Hour, field, field_at, seconds_per_day, end_of_types, Line}
-use Rattle.delay_table.proofs.Common.{not_zero, given, line_from}
+use Rattle.delay_table.proofs.Common.{◌≡◌, ℕ, ◌≤◌, Bool, false, ◌==◌, List, Option, Some, None, IfSome, ◌<◌, option_map, if◌then◌else◌, ap, ◌∙◌, subst, arith, is_none, bytes_eq, cases_Bool}
+use Rattle.delay_table.proofs.Common.{nat_tests, Class, Delay, Weight, RouteId, Hour, field, field_at, seconds_per_day, end_of_types, Line, not_zero, given, line_from}
+use Rattle.delay_table.specs.{declared.lines.DelayLine.DelayLine, Delays.line_at}
 use Rattle.clock_text.proofs.DigitLemmas.{whole_bound}
 use Rattle.csv_rows.proofs.RowLemmas.{mapped-each, name_text, optional-each}
-use Rattle.delay_table.specs.declared.lines.DelayLine.{DelayLine}
-use Rattle.delay_table.specs.Delays.{line_at}
 
 one_on : (b : Bool) (w : ℕ) → (b ≡ false → 1 ≤ w) → IfSome (if b then None else Some w) (λ n. 1 ≤ n)
 one_on b w h = grind (arith, cases_Bool b)

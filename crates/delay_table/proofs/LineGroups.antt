@@ -1,11 +1,10 @@
 -- The groups of lines, as they are numbered.
-use Rattle.delay_table.proofs.Common.{◌≡◌, Bor, ℕ, ◌<◌, ◌&&◌, Bool, true, false, not, cond, List, [], ◌∷◌, ◌++◌, length, map, slice_index_or, Option, Some, None, is_some, option_map, if◌then◌else◌}
-use Rattle.delay_table.proofs.Common.{refl, sym, ap, ◌∙◌, arith, position, bytes_eq, list_any, position_or_len, get_or-map, length-map, map-append, list_any_at, position-Some, Group, same_if}
-use Rattle.delay_table.proofs.Common.{same_number, same_group, of_class, group_in, group_index, with_group, line_group, same_line, same_text}
-use Rattle.indexmap.specs.IndexSet.{insert_key}
+use Rattle.delay_table.proofs.Common.{◌≡◌, Bor, ℕ, ◌<◌, ◌&&◌, Bool, true, false, not, cond, List, [], ◌∷◌, ◌++◌, length, map, slice_index_or, Option, Some, None, is_some, option_map}
+use Rattle.delay_table.proofs.Common.{if◌then◌else◌, refl, sym, ap, ◌∙◌, arith, position, bytes_eq, list_any, position_or_len, get_or-map, length-map, map-append, list_any_at, position-Some}
+use Rattle.delay_table.proofs.{Common.{Group, same_if, same_number, same_group, of_class, group_in, group_index, with_group, line_group, same_line, same_text}, GroupFacts.none-index}
+use Rattle.delay_table.proofs.{GroupFacts.{index-first, same-equal, same-true}, IndexFacts.any-position}
 use Rattle.delay_table.specs.declared.groups.LineGroup.{LineGroup}
-use Rattle.delay_table.proofs.GroupFacts.{none-index, index-first, same-equal, same-true}
-use Rattle.delay_table.proofs.IndexFacts.{any-position}
+use Rattle.indexmap.specs.IndexSet.{insert_key}
 
 abbrev no_line : LineGroup
 no_line = record { class = None; route = None; hour = None }

@@ -1,12 +1,11 @@
 -- Groups by the numbers of their routes.
 use Rattle.std.proofs.lemmas.Grind.{common_steps}
-use Rattle.delay_table.proofs.Common.{◌≡◌, ℕ, suc, ◌<◌, ◌≤◌, true, false, List, [], ◌∷◌, ◌++◌, length, map, slice_index_or, Option, Some, None, IfSome, option_map, is_some, refl, sym, ap, ap₂, ◌∙◌}
-use Rattle.delay_table.proofs.Common.{subst, arith, below_more, position, eqb-true, eq-eqb, list_any, cases_order, and_from, and_parts, false_from_ne_true, same_Some, get_or_default}
+use Rattle.delay_table.proofs.Common.{◌≡◌, ℕ, suc, ◌<◌, ◌≤◌, true, false, List, [], ◌∷◌, ◌++◌, length, map, slice_index_or, Option, Some, None, IfSome, option_map, is_some, refl, sym, ap, ap₂}
+use Rattle.delay_table.proofs.Common.{◌∙◌, subst, arith, below_more, position, eqb-true, eq-eqb, list_any, cases_order, and_from, and_parts, false_from_ne_true, same_Some, get_or_default}
 use Rattle.delay_table.proofs.Common.{get_or_append_left, get_or_push, get_or-map, length-map, length_push, map-append, Any-from_list_any, list_any_at, position-Some, AreDistinct, number_in}
 use Rattle.delay_table.proofs.Common.{number-here, NumberedGroup, Group, of_class, group_in, group_index, numbered_route, routes_of, with_route, no_group, named_group, same_numbered, AreNumbers}
-use Rattle.delay_table.proofs.Common.{IsNumber, IsNumbering}
-use Rattle.delay_table.proofs.RouteFacts.{routes-distinct, routes-next, with_route-cases, with_route-distinct}
-use Rattle.delay_table.proofs.GroupFacts.{none-index, nowhere, index-first, same_if-equal, same_if-self}
+use Rattle.delay_table.proofs.{Common.{IsNumber, IsNumbering}, RouteFacts.{routes-distinct, routes-next, with_route-cases, with_route-distinct}, GroupFacts.{none-index, nowhere, index-first}}
+use Rattle.delay_table.proofs.GroupFacts.{same_if-equal, same_if-self}
 
 pub numbered-equal : (a b : NumberedGroup) → same_numbered a b ≡ true → a ≡ b
 numbered-equal a b h = grind (arith, and_parts, same_if-equal, eqb-true)

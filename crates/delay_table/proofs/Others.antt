@@ -1,8 +1,7 @@
 -- The groups that name a route or an hour, one more at a time.
 use Rattle.delay_table.proofs.Common.{cases_Bool, ◌≡◌, ℕ, zero, suc, ◌+◌, ◌<◌, Bool, true, false, List, [], ◌∷◌, ◌++◌, length, map, None, if◌then◌else◌, refl, sym, ap, ◌∙◌, subst, arith, All}
 use Rattle.delay_table.proofs.Common.{append_assoc, append-nil, add-one, map-append, All-nil, All-cons, All-append, Outcome, Group, group_in, is_plain, of_class, group_index, if_other, others}
-use Rattle.delay_table.proofs.Common.{AreApart}
-use Rattle.delay_table.proofs.GroupFacts.{apart-ne, none-index}
+use Rattle.delay_table.proofs.{Common.AreApart, GroupFacts.{apart-ne, none-index}}
 
 pub others-zero : (groups : List Group) → others groups 0 ≡ []
 unfolding others

@@ -1,14 +1,11 @@
 -- The route types of the groups of a route type alone, in the order of the groups: sorted, they are those that are named.
-use Rattle.delay_table.proofs.Common.{◌≡◌, ◌≢◌, ℕ, zero, suc, ◌+◌, ◌<◌, ◌≤◌, Bool, ◌&&◌, eqb, List, [], ◌∷◌, ◌++◌, length, get_or, Option, Some, None, if◌then◌else◌, refl, sym, ap, ◌∙◌, subst, arith}
-use Rattle.delay_table.proofs.Common.{⊎_elim, All, AllPairs, Contains, length-append, append-nil, add-one, nat_cmp, is_none, IsPermutation, IsSorted, cases_Bool, IsDistinct, cases_lt, Decides-eqb}
-use Rattle.delay_table.proofs.Common.{nat_tests, same_Some, All-push, Contains-append_left, Contains-push, all_pairs_push, All-permutation, Contains-permutation, IsNonDecreasingBy-from_sort, Outcome}
-use Rattle.delay_table.proofs.Common.{GroupRows, end_of_types, Group, group_in, is_plain, listed, of_class, group_index, plain_type, plain_types, if_other, route_types_below, others, type_rows}
-use Rattle.delay_table.proofs.Common.{AreApart, AreGroupsRead, outcomes_at, read_outcomes}
-use Rattle.std.proofs.lemmas.List.Kept.{AllPairs-from_increasing}
-use Rattle.std.proofs.lemmas.Map.Keys.{IsDistinct-IsPermutation, IsStrictlyIncreasing-from_distinct}
-use Rattle.std.proofs.lemmas.Map.Made.{IsDistinct-from_AllPairs}
-use Rattle.delay_table.proofs.GroupFacts.{apart-ne, group-here}
-use Rattle.delay_table.proofs.NamedTypes.{AreNamed, HasNamed, are-route_types_below}
+use Rattle.delay_table.proofs.Common.{◌≡◌, ◌≢◌, ℕ, zero, suc, ◌+◌, ◌<◌, ◌≤◌, Bool, ◌&&◌, eqb, List, [], ◌∷◌, ◌++◌, length, get_or, Option, Some, None, if◌then◌else◌, refl, sym, ap, ◌∙◌, subst}
+use Rattle.delay_table.proofs.Common.{arith, ⊎_elim, All, AllPairs, Contains, length-append, append-nil, add-one, nat_cmp, is_none, IsPermutation, IsSorted, cases_Bool, IsDistinct, cases_lt}
+use Rattle.delay_table.proofs.Common.{Decides-eqb, nat_tests, same_Some, All-push, Contains-append_left, Contains-push, all_pairs_push, All-permutation, Contains-permutation}
+use Rattle.delay_table.proofs.Common.{IsNonDecreasingBy-from_sort, Outcome, GroupRows, end_of_types, Group, group_in, is_plain, listed, of_class, group_index, plain_type, plain_types, if_other}
+use Rattle.delay_table.proofs.{Common.{route_types_below, others, type_rows, AreApart, AreGroupsRead, outcomes_at, read_outcomes}, GroupFacts.{apart-ne, group-here}, NamedTypes.AreNamed}
+use Rattle.delay_table.proofs.NamedTypes.{HasNamed, are-route_types_below}
+use Rattle.std.proofs.lemmas.{List.Kept.AllPairs-from_increasing, Map.{Keys.{IsDistinct-IsPermutation, IsStrictlyIncreasing-from_distinct}, Made.IsDistinct-from_AllPairs}}
 
 plain-zero : (groups : List Group) → plain_types groups 0 ≡ []
 unfolding plain_types

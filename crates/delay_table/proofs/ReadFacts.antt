@@ -1,11 +1,10 @@
 -- The groups of the rows that are read, one row more at a time.
-use Rattle.delay_table.proofs.Common.{◌≡◌, ℕ, ◌+◌, ◌<◌, List, [], ◌∷◌, ◌++◌, length, slice_index, Option, Some, None, IfSome, Result, if◌then◌else◌, refl, sym, ap, ◌∙◌, subst, arith}
-use Rattle.delay_table.proofs.Common.{add-one, append-nil, below_more, OnOk, cases_eq, get_or_append_left, get_or_push, get_or-map, length-map, length_push, map-append, Outcome, GroupRows}
-use Rattle.delay_table.proofs.Common.{DelayFault, BadField, Group, same_group, of_class, group_in, group_index, Line, of_group, group_outcomes, fault_of, fault_after, line_fault, begins, if_begins}
-use Rattle.delay_table.proofs.Common.{firsts, group_of, groups_at, group_rows_at, outcomes_at, read_outcomes, AreApart, IsPushed, AddsRow, IsReadTo, field, RouteId, end_of_types}
+use Rattle.delay_table.proofs.Common.{◌≡◌, ℕ, ◌+◌, ◌<◌, List, [], ◌∷◌, ◌++◌, length, slice_index, Option, Some, None, IfSome, Result, if◌then◌else◌, refl, sym, ap, ◌∙◌, subst, arith, add-one}
+use Rattle.delay_table.proofs.Common.{append-nil, below_more, OnOk, cases_eq, get_or_append_left, get_or_push, get_or-map, length-map, length_push, map-append, Outcome, GroupRows, DelayFault}
+use Rattle.delay_table.proofs.Common.{BadField, Group, same_group, of_class, group_in, group_index, Line, of_group, group_outcomes, fault_of, fault_after, line_fault, begins, if_begins, firsts}
+use Rattle.delay_table.proofs.{Common.{group_of, groups_at, group_rows_at, outcomes_at, read_outcomes, AreApart, IsPushed, AddsRow, IsReadTo, field, RouteId, end_of_types}, LineFacts.IsFormed}
+use Rattle.delay_table.proofs.{LineFacts.formed_at, GroupFacts.{same-true, same-false, group-here, nowhere, apart-ne, index-at, push-none}}
 use Rattle.delay_table.specs.Delays.{line_at}
-use Rattle.delay_table.proofs.LineFacts.{IsFormed, formed_at}
-use Rattle.delay_table.proofs.GroupFacts.{same-true, same-false, group-here, nowhere, apart-ne, index-at, push-none}
 
 outcomes-zero : (t : List (List (List ℕ))) (group : Group) → group_outcomes t 0 group ≡ []
 unfolding group_outcomes

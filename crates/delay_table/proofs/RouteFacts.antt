@@ -1,10 +1,9 @@
 -- The routes that groups name.
-use Rattle.delay_table.proofs.Common.{◌≡◌, ℕ, zero, suc, ◌<◌, Bool, true, false, List, [], ◌∷◌, ◌++◌, length, Option, Some, None, IfSome, IfNone, slice_get, is_some, if◌then◌else◌, Contains, sym, ap}
-use Rattle.delay_table.proofs.Common.{◌∙◌, subst, arith, fold, get_or_default, Contains-push, Contains-append_left, Adds, AreDistinct, number_in, got, number-contained, number-here, DelayLists}
-use Rattle.delay_table.proofs.Common.{class_at, class_for, hour_of, Group, group_in, group_index, numbered_route, routes_of, with_route}
+use Rattle.delay_table.proofs.Common.{◌≡◌, ℕ, zero, suc, ◌<◌, Bool, true, false, List, [], ◌∷◌, ◌++◌, length, Option, Some, None, IfSome, IfNone, slice_get, is_some, if◌then◌else◌, Contains, sym}
+use Rattle.delay_table.proofs.Common.{ap, ◌∙◌, subst, arith, fold, get_or_default, Contains-push, Contains-append_left, Adds, AreDistinct, number_in, got, number-contained, number-here}
+use Rattle.delay_table.proofs.{Common.{DelayLists, class_at, class_for, hour_of, Group, group_in, group_index, numbered_route, routes_of, with_route}, GroupFacts.none-index}
 use Rattle.std.proofs.lemmas.List.Sums.{fold-append}
 use Rattle.plan_model.proofs.Texts.{AreDistinct-push}
-use Rattle.delay_table.proofs.GroupFacts.{none-index}
 
 -- whether a route has a index
 contained : (id : List ℕ) (routes : List (List ℕ)) (o : Option ℕ) → number_in id routes ≡ o → (is_some o ≡ true → Contains routes id) × (is_some o ≡ false → ¬ Contains routes id)

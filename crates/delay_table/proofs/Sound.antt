@@ -3,14 +3,10 @@ use Rattle.delay_table.proofs.Common.{◌≡◌, ℕ, ◌+◌, ◌<◌, ◌≤�
 use Rattle.delay_table.proofs.Common.{refl, sym, ap, ◌∙◌, subst, arith, All, length-append, eqb-true, ltb-false, cases_Bool, get_or_default, length-map, All-cons, All-append, All-map, option_or}
 use Rattle.delay_table.proofs.Common.{Outcome, IsValidRow, first_below, none-both, none-each, DelayFault, TooManyClasses, WeightSum, GroupSum, GroupRows, DelayLists, end_of_types, MOST_GROUPS}
 use Rattle.delay_table.proofs.Common.{WHOLE_WEIGHT, Group, group_in, is_plain, of_class, plain_types, class_name, class_rows, class_sum, delays_in, group_sum_at, groups_fault, groups_of}
-use Rattle.delay_table.proofs.Common.{route_types_below, no_default_of, other_sum, others, too_many_classes, type_rows, type_sum_at, AreGroupsRead, line_at, read_outcomes, AreDelays, IsGroupStart}
-use Rattle.delay_table.proofs.Common.{row_count, first-same, delays_of, first_delay_fault, first_line, firsts, groups_at, line_fault, missing_column, group_outcomes, IsReadTo}
+use Rattle.delay_table.proofs.Common.{route_types_below, no_default_of, other_sum, others, too_many_classes, type_rows, type_sum_at, AreGroupsRead, line_at, read_outcomes, AreDelays}
+use Rattle.delay_table.proofs.Common.{IsGroupStart, row_count, first-same, delays_of, first_delay_fault, first_line, firsts, groups_at, line_fault, missing_column, group_outcomes, IsReadTo}
+use Rattle.delay_table.proofs.{ReadFacts.{rows-are, rows-here, types-bounded}, Starts.starts, Others.others-from, NamedTypes.route_types_below-are, PlainTypes.groups-are}
 use mathlib.Core.Path.{fun_ext}
-use Rattle.delay_table.proofs.ReadFacts.{rows-are, rows-here, types-bounded}
-use Rattle.delay_table.proofs.Starts.{starts}
-use Rattle.delay_table.proofs.Others.{others-from}
-use Rattle.delay_table.proofs.NamedTypes.{route_types_below-are}
-use Rattle.delay_table.proofs.PlainTypes.{groups-are}
 
 none_mapped : (f : ℕ → DelayFault) (o : Option ℕ) → option_map f o ≡ None → o ≡ None
 none_mapped f o h = grind arith

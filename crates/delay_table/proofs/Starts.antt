@@ -1,13 +1,10 @@
 -- The outcomes of one group, one more at a time.
 use Rattle.std.proofs.lemmas.Grind.{common_steps}
-use Rattle.delay_table.proofs.Common.{cases_Bool, ◌≡◌, ◌+◌, ◌-◌, ◌<◌, ◌≤◌, Bool, true, false, List, [], ◌∷◌, ◌++◌, length, slice_get, slice_index_or, Option, Some, None, if◌then◌else◌, refl}
-use Rattle.delay_table.proofs.Common.{sym, subst, arith, ⊎_elim, length-append, append-nil, zero, suc, ℕ, IfSome, add-one, ap, ◌∙◌, cases_lt, leb-false, ltb-true, All-push, slice_get-get_or}
-use Rattle.delay_table.proofs.Common.{all_pairs_push, Outcome, seconds_per_day, DelayFault, Group, same_group, Line, fault_after, fault_of, delay_rises, of_group, group_outcomes}
-use Rattle.delay_table.proofs.Common.{line_fault, IsGroupStart, first_below, field, RouteId, none-each}
+use Rattle.delay_table.proofs.Common.{cases_Bool, ◌≡◌, ◌+◌, ◌-◌, ◌<◌, ◌≤◌, Bool, true, false, List, [], ◌∷◌, ◌++◌, length, slice_get, slice_index_or, Option, Some, None, if◌then◌else◌, refl, sym}
+use Rattle.delay_table.proofs.Common.{subst, arith, ⊎_elim, length-append, append-nil, zero, suc, ℕ, IfSome, add-one, ap, ◌∙◌, cases_lt, leb-false, ltb-true, All-push, slice_get-get_or}
+use Rattle.delay_table.proofs.Common.{all_pairs_push, Outcome, seconds_per_day, DelayFault, Group, same_group, Line, fault_after, fault_of, delay_rises, of_group, group_outcomes, line_fault}
+use Rattle.delay_table.proofs.{Common.{IsGroupStart, first_below, field, RouteId, none-each}, GroupFacts.same-equal, LineFacts.{IsFormed, formed_at}, ReadFacts.outcomes-next}
 use Rattle.delay_table.specs.Delays.{line_at}
-use Rattle.delay_table.proofs.GroupFacts.{same-equal}
-use Rattle.delay_table.proofs.LineFacts.{IsFormed, formed_at}
-use Rattle.delay_table.proofs.ReadFacts.{outcomes-next}
 
 none_cases : (a b : Bool) (x y : DelayFault) → (if a then Some x else if b then None else Some y) ≡ None → (a ≡ false) × (b ≡ true)
 none_cases a b x y h = grind (arith, cases_Bool a, cases_Bool b)

@@ -1,7 +1,7 @@
 -- The index of a route type among those that are named, and the greatest delay of a class.
-use Rattle.delay_table.proofs.Common.{◌≡◌, slice_get, ℕ, ◌+◌, ◌-◌, ◌<◌, ◌≤◌, ◌==◌, List, length, get_or, slice_index, slice_index_or, Option, Some, None, option_map, sym, ap, ◌∙◌}
-use Rattle.delay_table.proofs.Common.{arith, eq-or-lt_of_le, Contains, All, eq-eqb, ne_eqb, unwrap_or, cases_lt, get_or_default, slice_get_within, get_or_from_slice_get, Outcome, IsValidRow}
-use Rattle.delay_table.proofs.Common.{absent_by, found_by, DelayLists, class_at, hour_class, route_class, type_class, type_index, option_or, AreDelays, IsClassOf}
+use Rattle.delay_table.proofs.Common.{◌≡◌, slice_get, ℕ, ◌+◌, ◌-◌, ◌<◌, ◌≤◌, ◌==◌, List, length, get_or, slice_index, slice_index_or, Option, Some, None, option_map, sym, ap, ◌∙◌, arith}
+use Rattle.delay_table.proofs.Common.{eq-or-lt_of_le, Contains, All, eq-eqb, ne_eqb, unwrap_or, cases_lt, get_or_default, slice_get_within, get_or_from_slice_get, Outcome, IsValidRow, absent_by}
+use Rattle.delay_table.proofs.Common.{found_by, DelayLists, class_at, hour_class, route_class, type_class, type_index, option_or, AreDelays, IsClassOf}
 
 -- not found among types that rise
 pub absent_type : (types : List ℕ) (r i : ℕ) → ((k : ℕ) → k < i → get_or types k 0 < r) → ((k : ℕ) → i ≤ k → k < length types → r < get_or types k 0) → Contains types r → ⊥

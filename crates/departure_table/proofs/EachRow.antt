@@ -1,10 +1,8 @@
 -- The rows of a reach by their places.
-use Rattle.departure_table.proofs.Common.{◌≡◌, ◌≢◌, ℕ, zero, suc, ◌<◌, ◌==◌, arith, Option, Some, None, List, [], ◌∷◌, length, true, false, refl, sym, ◌∙◌, subst, inl, inr, All, AllPairs, MatchOption}
-use Rattle.departure_table.proofs.Common.{slice_index_or, cases_eq, cases_lt, nat_tests, Query, NetworkModel, IsValid, SafeFrom, IsNoneSafeFrom, end_of_arrivals}
-use Rattle.std.proofs.Common.{ap₂}
-use Rattle.std.proofs.lemmas.List.Elements.{All-cons}
-use Rattle.departure_table.specs.Reach.{IsReach, IsReachRow, row_of_place}
-use Rattle.departure_table.specs.declared.reach_rows.ReachRow.{ReachRow}
+use Rattle.departure_table.proofs.Common.{◌≡◌, ◌≢◌, ℕ, zero, suc, ◌<◌, ◌==◌, arith, Option, Some, None, List, [], ◌∷◌, length, true, false, refl, sym, ◌∙◌, subst, inl, inr, All, AllPairs}
+use Rattle.departure_table.proofs.Common.{MatchOption, slice_index_or, cases_eq, cases_lt, nat_tests, Query, NetworkModel, IsValid, SafeFrom, IsNoneSafeFrom, end_of_arrivals}
+use Rattle.departure_table.specs.{Reach.{IsReach, IsReachRow, row_of_place}, declared.reach_rows.ReachRow.ReachRow}
+use Rattle.std.proofs.{Common.ap₂, lemmas.List.Elements.All-cons}
 
 abbrev pub AreRising : List ReachRow → Type 0
 AreRising rows = AllPairs (λ a b. a.place.0 < b.place.0) rows

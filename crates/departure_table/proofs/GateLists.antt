@@ -1,13 +1,12 @@
 -- The lists of a network with gates, as they are made.
-use Rattle.std.proofs.lemmas.Grind.{common_steps}
-use Rattle.departure_table.proofs.Common.{◌≡◌, ℕ, ◌+◌, ◌<◌, ◌≤◌, List, [], ◌∷◌, ◌++◌, length, map, arith, sym, ap, ◌∙◌, append-nil, append_assoc, cases_eq, slice_index_or, range_with_len, take, take_all}
-use Rattle.departure_table.proofs.Common.{Connection, NetworkModel, plain_network, IsValid, AreLinksInto, FitGates, PlaceId, Way, links_into, source_at, way_from, ways_from_gates, links_with_gates, places_with, extended_by}
+use Rattle.std.proofs.lemmas.{Grind.common_steps, List.{get_or-set_same, get_or-set_other, take_more, length-take-le, ext_get_or, FromFn.{map-range_with_len_more, length-map-range_with_len}}}
+use Rattle.std.proofs.lemmas.List.FromFn.{get_or-map-range_with_len}
 use Rattle.std.specs.Prelude.{slice_set}
-use Rattle.std.proofs.lemmas.List.{get_or-set_same, get_or-set_other, take_more, length-take-le, ext_get_or}
-use Rattle.std.proofs.lemmas.List.FromFn.{map-range_with_len_more, length-map-range_with_len, get_or-map-range_with_len}
+use Rattle.departure_table.proofs.Common.{◌≡◌, ℕ, ◌+◌, ◌<◌, ◌≤◌, List, [], ◌∷◌, ◌++◌, length, map, arith, sym, ap, ◌∙◌, append-nil, append_assoc, cases_eq, slice_index_or, range_with_len, take}
+use Rattle.departure_table.proofs.Common.{take_all, Connection, NetworkModel, plain_network, IsValid, AreLinksInto, FitGates, PlaceId, Way, links_into, source_at, way_from, ways_from_gates}
+use Rattle.departure_table.proofs.Common.{links_with_gates, places_with, extended_by}
 use Rattle.plan_model.specs.declared.model.Outcome.{Outcome}
-use Rattle.plan_model.proofs.Links.{IsValid-relinked, AreLinks-none}
-use Rattle.plan_model.proofs.GateWays.{ways_from_gates-push, if_here, if_away, places, is_valid}
+use Rattle.plan_model.proofs.{Links.{IsValid-relinked, AreLinks-none}, GateWays.{ways_from_gates-push, if_here, if_away, places, is_valid}}
 
 -- the lists for one place more
 pub lists_more : (f : ℕ → List Way) (place : ℕ) (old now : List (List Way)) (one : List Way) → old ≡ map f (range_with_len 0 place) → one ≡ f place → now ≡ old ++ one ∷ [] → now ≡ map f (range_with_len 0 (place + 1))

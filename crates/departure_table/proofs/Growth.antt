@@ -1,9 +1,7 @@
 -- A table that grows from look to look.
-use Rattle.std.proofs.lemmas.Grind.{common_steps}
+use Rattle.std.proofs.lemmas.{Grind.common_steps, List.{Quantifiers.all_pairs_push, Elements.All-push}}
 use Rattle.departure_table.proofs.Common.{◌≡◌, ℕ, zero, suc, ◌+◌, ◌<◌, ◌≤◌, arith, Some, None, List, [], ◌∷◌, ◌++◌, true, refl, ⊎_elim, All, AllPairs, MatchOption, nat_le, cases_lt, nat_tests}
 use Rattle.departure_table.proofs.Common.{NetworkModel, Tree, DepartureRow, IsNoneSafeFrom, IsBestFrom, IsDepartureRow, IsTable, first_row_by}
-use Rattle.std.proofs.lemmas.List.Quantifiers.{all_pairs_push}
-use Rattle.std.proofs.lemmas.List.Elements.{All-push}
 
 row_past : (moment : ℕ) (rows : List DepartureRow) → All (λ r. r.by.0 < moment) rows → first_row_by moment rows ≡ None
 row_past moment [] few = refl

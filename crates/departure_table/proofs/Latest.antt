@@ -1,9 +1,9 @@
 -- The greatest moment, the rows of a table, and the least worst arrival.
 use Rattle.departure_table.proofs.Common.{◌≡◌, ℕ, zero, suc, ◌<◌, ◌≤◌, ◌⊎◌, List, [], ◌∷◌, length, Option, Some, None, true, false, All, IsSome, arith, inl, inr, refl, subst, nat_le}
-use Rattle.departure_table.proofs.Common.{slice_index_or, cases_lt, cases_order, nat_tests, Query, Moment, NetworkModel, Tree, Done, Ride, Stuck, IsLeastWorst, DepartureRow, SafeFrom}
-use Rattle.departure_table.proofs.Common.{IsBestFrom, IsDepartureRow, IsTable, IsGreatestMoment, first_row_by}
-use Rattle.plan_model.proofs.Laws.{reaches_from_safe, safe_exists}
+use Rattle.departure_table.proofs.Common.{slice_index_or, cases_lt, cases_order, nat_tests, Query, Moment, NetworkModel, Tree, Done, Ride, Stuck, IsLeastWorst, DepartureRow, SafeFrom, IsBestFrom}
+use Rattle.departure_table.proofs.Common.{IsDepartureRow, IsTable, IsGreatestMoment, first_row_by}
 use Rattle.departure_table.specs.Departures.{IsOfLastRow, AgreesWithLeastWorst}
+use Rattle.plan_model.proofs.Laws.{reaches_from_safe, safe_exists}
 
 -- a row by a moment, that is the first
 record IsFirst (moment : ℕ) (rows : List DepartureRow) : Type 0 where

@@ -1,11 +1,11 @@
 -- What a choice at a moment says of all from then on.
 use Rattle.departure_table.proofs.Common.{◌≡◌, ◌≢◌, ℕ, ◌-◌, ◌<◌, ◌≤◌, arith, Some, refl, sym, ap, ◌∙◌, subst, Leg, Query, NetworkModel, count, dep_of, arr_of, Tree, Done, Ride, Stuck, Kids}
-use Rattle.departure_table.proofs.Common.{IsLeg, Moment, MeanSpan, DepartureRow, IsGreatestMoment, row_of_choice, None, IsASecondAway, SafeAfter, IsNoneSafeFrom, BeginsWith, IsBestFrom, IsDepartureRow, SolvesArrivals}
+use Rattle.departure_table.proofs.Common.{IsLeg, Moment, MeanSpan, DepartureRow, IsGreatestMoment, row_of_choice, None, IsASecondAway, SafeAfter, IsNoneSafeFrom, BeginsWith, IsBestFrom}
+use Rattle.departure_table.proofs.Common.{IsDepartureRow, SolvesArrivals}
 use Rattle.std.proofs.lemmas.Option.{MatchOption-at_some, MatchOption-at_none}
 use Rattle.plan_model.specs.Unfold.{by_place, unfold_after, kids_after, outcomes_of}
 use Rattle.value_laws.specs.Means.{mean_scoring}
-use Rattle.meat_scan.specs.ScanResult.{ScanResult, choice_of, leg_choice, chosen_at}
-use Rattle.meat_scan.specs.Solves.{SolvesEach, IsSafeAt}
+use Rattle.meat_scan.specs.{ScanResult.{ScanResult, choice_of, leg_choice, chosen_at}, Solves.{SolvesEach, IsSafeAt}}
 
 module _ (n : NetworkModel) (q : Query) (found : ScanResult MeanSpan) (solves : SolvesArrivals found n q) (differ : q.source.0 ≢ q.target.0) (second : IsASecondAway n q.source.0) where
   abbrev here : ℕ

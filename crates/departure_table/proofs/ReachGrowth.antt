@@ -1,11 +1,8 @@
 -- A reach that grows from place to place.
-use Rattle.departure_table.proofs.Common.{◌≡◌, ◌≢◌, ℕ, zero, suc, ◌+◌, ◌<◌, ◌==◌, arith, Some, None, List, [], ◌∷◌, ◌++◌, length, true, false, refl, sym, ◌∙◌, subst, inl, inr, All, AllPairs, MatchOption}
-use Rattle.departure_table.proofs.Common.{slice_index_or, cases_eq, nat_tests, Query, PlaceId, NetworkModel, SafeFrom, IsNoneSafeFrom, IsGate, HasGates}
-use Rattle.std.proofs.lemmas.List.Quantifiers.{all_pairs_push}
-use Rattle.std.proofs.lemmas.List.Elements.{All-push}
-use Rattle.std.proofs.lemmas.List.FromFn.{map-range_with_len_more, length-map-range_with_len, get_or-map-range_with_len}
-use Rattle.departure_table.specs.Reach.{IsReachRow, row_of_place, places_of, places_up_to}
-use Rattle.departure_table.specs.declared.reach_rows.ReachRow.{ReachRow}
+use Rattle.departure_table.proofs.Common.{◌≡◌, ◌≢◌, ℕ, zero, suc, ◌+◌, ◌<◌, ◌==◌, arith, Some, None, List, [], ◌∷◌, ◌++◌, length, true, false, refl, sym, ◌∙◌, subst, inl, inr, All, AllPairs}
+use Rattle.departure_table.proofs.Common.{MatchOption, slice_index_or, cases_eq, nat_tests, Query, PlaceId, NetworkModel, SafeFrom, IsNoneSafeFrom, IsGate, HasGates}
+use Rattle.departure_table.specs.{Reach.{IsReachRow, row_of_place, places_of, places_up_to}, declared.reach_rows.ReachRow.ReachRow}
+use Rattle.std.proofs.lemmas.List.{Quantifiers.all_pairs_push, Elements.All-push, FromFn.{map-range_with_len_more, length-map-range_with_len, get_or-map-range_with_len}}
 
 abbrev place_named : ℕ → PlaceId
 place_named k = record { 0 = k }

@@ -1,24 +1,14 @@
 -- A scan finds the same at the gates of one source, whatever other gates there are.
-use Rattle.departure_table.proofs.Common.{◌≡◌, ℕ, zero, suc, ◌+◌, ◌<◌, ◌≤◌, ◌==◌, arith, inl, inr, Option, Some, List, [], ◌∷◌, length, All, refl, ap, sym, ◌∙◌, nat_tests}
-use Rattle.departure_table.proofs.Common.{Query, PlaceId, NetworkModel, IsValid, MeanSpan, way_of, extended_by, source_at, FitGates, row_found, DepartureRow, AreLooked}
+use Rattle.departure_table.proofs.Common.{◌≡◌, ℕ, zero, suc, ◌+◌, ◌<◌, ◌≤◌, ◌==◌, arith, inl, inr, Option, Some, List, [], ◌∷◌, length, All, refl, ap, sym, ◌∙◌, nat_tests, Query, PlaceId}
+use Rattle.departure_table.proofs.{Common.{NetworkModel, IsValid, MeanSpan, way_of, extended_by, source_at, FitGates, row_found, DepartureRow, AreLooked}, ReachGrowth.{count_up_to, place_at}}
+use Rattle.departure_table.specs.{Looked.asked_at, Reach.{BeginsWithBounds, FirstAlike, places_of}}
 unfoldable use Rattle.plan_model.specs.Network.{connection, row_of}
-use Rattle.plan_model.specs.Network.{count}
-use Rattle.plan_model.specs.Order.{IsScanOrder}
-use Rattle.plan_model.specs.declared.model.ConnectionId.{ConnectionId}
-use Rattle.plan_model.specs.declared.model.Outcome.{Outcome}
-use Rattle.plan_model.proofs.ScanOrders.{has_each_id}
+use Rattle.plan_model.specs.{Network.count, Order.IsScanOrder, declared.model.{ConnectionId.ConnectionId, Outcome.Outcome}}
+use Rattle.plan_model.proofs.{ScanOrders.has_each_id, GateWays.{same_ways, from_the_gate}}
 use Rattle.stop_profile.specs.declared.Row.{Row}
 use Rattle.trip_exit.specs.Offers.{Exit}
-use Rattle.value_laws.specs.ScoreLaws.{Scoring}
-use Rattle.value_laws.specs.Means.{mean_scoring}
-use Rattle.meat_scan.specs.Rules.{Kept, kept_after, kept_next, FollowsRules}
-use Rattle.meat_scan.specs.ScanResult.{ScanResult}
-use Rattle.meat_scan.specs.Step.{exits_with}
-use Rattle.meat_scan.specs.Step.{values_after}
-use Rattle.plan_model.proofs.GateWays.{same_ways, from_the_gate}
-use Rattle.departure_table.specs.Looked.{asked_at}
-use Rattle.departure_table.specs.Reach.{BeginsWithBounds, FirstAlike, places_of}
-use Rattle.departure_table.proofs.ReachGrowth.{count_up_to, place_at}
+use Rattle.value_laws.specs.{ScoreLaws.Scoring, Means.mean_scoring}
+use Rattle.meat_scan.specs.{Rules.{Kept, kept_after, kept_next, FollowsRules}, ScanResult.ScanResult, Step.{exits_with, values_after}}
 
 -- values after outcomes are looked up at one place
 values_alike : {V : Type 0} (arrived : ℕ → V) (target deadline : ℕ) (a b : ℕ → List (Row V)) (place moment : ℕ) (row : List Outcome) → a place ≡ b place

@@ -1,9 +1,7 @@
 -- What is said of a gate is said of its source in the network.
-use Rattle.departure_table.proofs.Common.{◌≡◌, ℕ, zero, ◌≤◌, arith, Option, List, [], ◌∷◌, true, refl, MatchOption, nat_le, ◌↔◌, nat_tests, Query, Moment}
-use Rattle.departure_table.proofs.Common.{NetworkModel, IsGate, IsValid, count, Tree, DepartureRow, IsASecondAway, SafeAfter, SafeFrom, IsNoneSafeFrom, IsBestFrom, IsTable, IsGreatestMoment}
-use Rattle.departure_table.proofs.Common.{IsExtendedFor, SaysOfSource}
-use Rattle.plan_model.proofs.Views.{seen, leg_there}
-use Rattle.plan_model.proofs.GateTrees.{gate_there, gate_back}
+use Rattle.departure_table.proofs.Common.{◌≡◌, ℕ, zero, ◌≤◌, arith, Option, List, [], ◌∷◌, true, refl, MatchOption, nat_le, ◌↔◌, nat_tests, Query, Moment, NetworkModel, IsGate, IsValid, count}
+use Rattle.departure_table.proofs.Common.{Tree, DepartureRow, IsASecondAway, SafeAfter, SafeFrom, IsNoneSafeFrom, IsBestFrom, IsTable, IsGreatestMoment, IsExtendedFor, SaysOfSource}
+use Rattle.plan_model.proofs.{Views.{seen, leg_there}, GateTrees.{gate_there, gate_back}}
 
 -- a table has no row exactly where nothing is safe from the first moment on
 module _ (m : NetworkModel) (Safe : ℕ → Tree → Type 0) (first last : ℕ) (order : first ≤ last) where

@@ -1,6 +1,6 @@
 -- A file put in front of the others.
-use Rattle.feed_maker.proofs.Common.{◌≡◌, ℕ, List, [], ◌∷◌, ◌++◌, Bool, true, false, refl, ap, sym, ◌∙◌, codes, Option, None, Some, if◌then◌else◌, bytes_eq, bytes_eq-Decides, FileMap, file_at, arith}
-use Rattle.feed_maker.proofs.Common.{PutsFile, stops_text, routes_text, trips_text, stop_times_text, calendar_text, delays_text, made, other_files, SameFolder}
+use Rattle.feed_maker.proofs.Common.{◌≡◌, ℕ, List, [], ◌∷◌, ◌++◌, Bool, true, false, refl, ap, sym, ◌∙◌, codes, Option, None, Some, if◌then◌else◌, bytes_eq, bytes_eq-Decides, FileMap, file_at}
+use Rattle.feed_maker.proofs.Common.{arith, PutsFile, stops_text, routes_text, trips_text, stop_times_text, calendar_text, delays_text, made, other_files, SameFolder}
 
 pub folder_none : (folder : FileMap) → folder ≡ [] → SameFolder [] folder
 folder_none folder none = λ path. ap (λ (files : FileMap). file_at files path) none

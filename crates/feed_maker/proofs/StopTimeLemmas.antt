@@ -1,8 +1,7 @@
 -- What remains of stop times that are made as they are read.
 use Rattle.feed_maker.proofs.Common.{◌≡◌, ℕ, ◌+◌, ◌-◌, ◌<◌, ◌≤◌, suc, List, ◌++◌, length, take, drop, ap, sym, ◌∙◌, arith, append_assoc, take-append-drop, codes, joined, line_rows}
 use Rattle.feed_maker.proofs.Common.{stop_times_text, rows_from}
-use Rattle.std.proofs.lemmas.Grind.{common_steps}
-use Rattle.std.proofs.lemmas.List.{take_rest, drop-drop}
+use Rattle.std.proofs.lemmas.{Grind.common_steps, List.{take_rest, drop-drop}}
 
 -- the rows of a line, and of those that come
 rows_from-first : (line count next : ℕ) → count ≡ suc next → rows_from line count ≡ line_rows line ++ rows_from (line + 1) next

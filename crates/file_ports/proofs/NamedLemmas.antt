@@ -2,8 +2,7 @@
 use Rattle.file_ports.proofs.Common.{◌≡◌, ◌<◌, ◌≤◌, ℕ, ◌+◌, List, [], ◌∷◌, ◌++◌, Bool, true, false, get_or, set, length, refl, ap, sym, ◌∙◌, subst, arith, length-append, Option, None, Some}
 use Rattle.file_ports.proofs.Common.{if◌then◌else◌, bytes_eq, string_bytes, position, get_or-set_same, get_or-set_other, length-set, cond_both, common_steps, get_or_append_left, get_or_push}
 use Rattle.file_ports.proofs.Common.{position-Some, bytes_eq-Decides, Named, value_at}
-use Rattle.std.proofs.lemmas.List.Recursion.{found_at, found_nowhere, found_set_other, found_push_other}
-use Rattle.std.proofs.lemmas.List.Sums.{fails_before_first}
+use Rattle.std.proofs.lemmas.List.{Recursion.{found_at, found_nowhere, found_set_other, found_push_other}, Sums.fails_before_first}
 use Rattle.std.specs.List.{position_or_len}
 
 -- the test of a path

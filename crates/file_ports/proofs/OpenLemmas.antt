@@ -1,9 +1,9 @@
 -- The open file, by its index.
 use Rattle.file_ports.proofs.Common.{◌≡◌, ◌⊎◌, inl, inr, subst, ◌<◌, ℕ, ◌+◌, ◌-◌, ◌≤◌, min, List, [], ◌∷◌, ◌++◌, Bool, true, false, length, refl, ap, sym, ◌∙◌, map, drop, take, get_or, arith}
 use Rattle.file_ports.proofs.Common.{position-Some, take_rest, drop_min, drop-drop, take-append-drop, bytes_eq-Decides, common_steps, Consumes, IsAtEnd, Named, value_at, FileMap, file_at}
+use Rattle.file_ports.proofs.NamedLemmas.{at_path, position_gives, position_gives_none}
 use Rattle.std.specs.Prelude.{Option, None, Some, IsSome, IfSome, is_some, if◌then◌else◌, bytes_eq, string_bytes, position, option_map, option_and_then, slice_get}
 use Rattle.std.proofs.lemmas.Option.{slice_get-get_or, slice_get_cases}
-use Rattle.file_ports.proofs.NamedLemmas.{at_path, position_gives, position_gives_none}
 
 -- the entries as files
 abbrev pub pairs : {T : Type 0} → (T → List ℕ) → List (Named T) → FileMap

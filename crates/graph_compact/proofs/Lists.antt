@@ -4,11 +4,8 @@ use Rattle.graph_compact.proofs.Common.{nat_cmp, BTreeSet, ne_eqb, eq-eqb, get_o
 use Rattle.graph_compact.proofs.Common.{CmpEqualImpliesEq, exact_unsigned, exact_pairs, Leg, NetworkModel, end_of, GraphRow, Ride, PlaceTable, IsFirstInTime, leg_cmp, row_by, Contains-nil}
 use Rattle.graph_compact.proofs.Common.{Contains-head, Contains-tail, Contains-cons_cases, All-from_contains, AllPairs-head, AllPairs-tail, leg_cmp-total, leg_cmp-exact, row_cmp, put_rows}
 use Rattle.graph_compact.proofs.Common.{with_ride, gathered_rows, lists_of, rows_in, with_table}
-use Rattle.std.specs.Cmp.{IsTotalOrder, on_total, then_total}
-use Rattle.std.specs.BTreeSet.{insert_key}
-use Rattle.std.specs.List.Sorted.{IsStrictlySortedBy}
-use Rattle.std.proofs.lemmas.Cmp.{nat_cmp_total}
-use Rattle.std.proofs.lemmas.Map.Views.{All-insert_key}
+use Rattle.std.specs.{Cmp.{IsTotalOrder, on_total, then_total}, BTreeSet.insert_key, List.Sorted.IsStrictlySortedBy}
+use Rattle.std.proofs.lemmas.{Cmp.nat_cmp_total, Map.Views.All-insert_key}
 use Rattle.plan_graph.proofs.Sets.{Contains-insert_key, Contains-inserted_key, IsStrictlySortedBy-insert_key}
 
 pub with_rows : (place : ℕ) (rows : List GraphRow) (more : List PlaceTable) → 0 < length rows → with_table place rows more ≡ record { place = record { 0 = place }; rows = rows } ∷ more

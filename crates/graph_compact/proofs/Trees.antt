@@ -1,30 +1,15 @@
 -- The graph by place unfolds to the same tree, and is tidy.
 use Rattle.graph_compact.proofs.Common.{◌≡◌, ◌≢◌, ℕ, suc, ◌+◌, ◌≤◌, ◌<◌, List, [], ◌∷◌, length, Option, Some, Contains, All, AllPairs, arith, sym, subst, refl, inl, inr, ◌∙◌, ap, ap₂}
-use Rattle.graph_compact.proofs.Common.{slice_index_or, MatchOption, nat_cmp, Less, ne_eqb, eq-eqb, common_steps, cases_eq, All-nil, All-contains, Contains-get_or}
-use Rattle.graph_compact.proofs.Common.{exact_unsigned, Leg, NetworkModel, end_of, arrival_of, outcomes_of, unfolding_of, by_place, GraphRow, Ride, PlaceTable, IsReadyRide, IsPruned}
-use Rattle.graph_compact.proofs.Common.{IsPickedAfter, IsLegOf, IsFirstInTime, IsSafeForSome, Stands, row_by, leg_cmp, All-from_contains, AllPairs-nil, nat_cmp-Less}
-use Rattle.graph_compact.proofs.Common.{ordering_then-Less, leg_cmp-Less, row_cmp, with_table, gathered_rows, tables_of}
-use Rattle.std.proofs.lemmas.Bool.Decides.{nat_tests}
-use Rattle.std.proofs.lemmas.Map.Keys.{Less-from_sorted}
-use Rattle.plan_model.specs.declared.model.Outcome.{Outcome}
-use Rattle.plan_model.specs.declared.model.Query.{Query}
-use Rattle.plan_model.specs.Network.{IsValid}
-use Rattle.plan_model.specs.Tree.{Tree}
-use Rattle.plan_model.specs.Ways.{limit_of}
-use Rattle.plan_graph.specs.declared.ExpandedGraph.{ExpandedGraph}
-use Rattle.plan_graph.specs.declared.PlanGraph.{PlanGraph}
-use Rattle.plan_graph.specs.Unfold.{pick_row, pick_after, pick_at, rows_of_place}
-use Rattle.plan_graph.specs.Unfold.{unfold_expanded, unfold_plan}
-use Rattle.plan_graph.specs.Coherent.{IsCoherent, IsRowAt}
-use Rattle.plan_graph.specs.Tidy.{IsFit, IsFitRow, IsFitTable, IsFitStart, IsTidy, IsPickedIn}
-use Rattle.plan_graph.proofs.Searches.{precedes_itself}
-use Rattle.plan_graph.specs.Walked.{StandsSafely}
-use Rattle.plan_graph.proofs.Together.{unfold_from-together}
-use Rattle.plan_graph.proofs.Places.{IsPlacedNext, next_after}
-use Rattle.plan_graph.proofs.Reaching.{start_placed}
-use Rattle.plan_graph.proofs.Tables.{first_pick, first_there, picked_first, one_found}
-use Rattle.plan_graph.proofs.Rides.{ride_there}
-use Rattle.graph_compact.proofs.Lists.{IsOf, All-gathered_rows, Contains-gathered_rows, IsStrictlySortedBy-gathered_rows, some_first, first_least}
+use Rattle.graph_compact.proofs.Common.{slice_index_or, MatchOption, nat_cmp, Less, ne_eqb, eq-eqb, common_steps, cases_eq, All-nil, All-contains, Contains-get_or, exact_unsigned, Leg}
+use Rattle.graph_compact.proofs.Common.{NetworkModel, end_of, arrival_of, outcomes_of, unfolding_of, by_place, GraphRow, Ride, PlaceTable, IsReadyRide, IsPruned, IsPickedAfter, IsLegOf}
+use Rattle.graph_compact.proofs.Common.{IsFirstInTime, IsSafeForSome, Stands, row_by, leg_cmp, All-from_contains, AllPairs-nil, nat_cmp-Less, ordering_then-Less, leg_cmp-Less, row_cmp}
+use Rattle.graph_compact.proofs.{Common.{with_table, gathered_rows, tables_of}, Lists.{IsOf, All-gathered_rows, Contains-gathered_rows, IsStrictlySortedBy-gathered_rows, some_first, first_least}}
+use Rattle.std.proofs.lemmas.{Bool.Decides.nat_tests, Map.Keys.Less-from_sorted}
+use Rattle.plan_model.specs.{declared.model.{Outcome.Outcome, Query.Query}, Network.IsValid, Tree.Tree, Ways.limit_of}
+use Rattle.plan_graph.specs.{declared.{ExpandedGraph.ExpandedGraph, PlanGraph.PlanGraph}, Unfold.{pick_row, pick_after, pick_at, rows_of_place, unfold_expanded, unfold_plan}, Coherent.IsCoherent}
+use Rattle.plan_graph.specs.{Coherent.IsRowAt, Tidy.{IsFit, IsFitRow, IsFitTable, IsFitStart, IsTidy, IsPickedIn}, Walked.StandsSafely}
+use Rattle.plan_graph.proofs.{Searches.precedes_itself, Together.unfold_from-together, Places.{IsPlacedNext, next_after}, Reaching.start_placed, Tables.{first_pick, first_there, picked_first}}
+use Rattle.plan_graph.proofs.{Tables.one_found, Rides.ride_there}
 
 -- the rows of a place in the tables, from a first table on
 rows_of_place-here : (base : ℕ) (rows : List GraphRow) (tables : List PlaceTable) → rows_of_place tables base ≡ [] → rows_of_place (with_table base rows tables) base ≡ rows

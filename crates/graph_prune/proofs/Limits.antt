@@ -1,8 +1,8 @@
 -- The rows by their legs' limits, and what they pick.
-use Rattle.graph_prune.proofs.Common.{◌≡◌, ℕ, ◌≤◌, ◌<◌, Bool, true, false, List, [], ◌∷◌, Option, Some, None, All, AllPairs, Contains, arith, sym, subst, refl, inl, inr, ◌∙◌}
-use Rattle.graph_prune.proofs.Common.{if◌then◌else◌, nat_tests, All-head, All-tail, Leg, NetworkModel, limit_of, GraphRow, pick_row, IsFirstInTime, MayPrecede, IsReadyRow, pick_in_time, row_by}
-use Rattle.graph_prune.proofs.Common.{Contains-nil, Contains-head, Contains-tail, Contains-cons_cases, AllPairs-nil, AllPairs-head, AllPairs-tail, AllPairs-with, one_found, in_time_here}
-use Rattle.graph_prune.proofs.Common.{in_time_next, is_last, by_limits}
+use Rattle.graph_prune.proofs.Common.{◌≡◌, ℕ, ◌≤◌, ◌<◌, Bool, true, false, List, [], ◌∷◌, Option, Some, None, All, AllPairs, Contains, arith, sym, subst, refl, inl, inr, ◌∙◌, if◌then◌else◌}
+use Rattle.graph_prune.proofs.Common.{nat_tests, All-head, All-tail, Leg, NetworkModel, limit_of, GraphRow, pick_row, IsFirstInTime, MayPrecede, IsReadyRow, pick_in_time, row_by, Contains-nil}
+use Rattle.graph_prune.proofs.Common.{Contains-head, Contains-tail, Contains-cons_cases, AllPairs-nil, AllPairs-head, AllPairs-tail, AllPairs-with, one_found, in_time_here, in_time_next, is_last}
+use Rattle.graph_prune.proofs.Common.{by_limits}
 use Rattle.std.proofs.lemmas.Bool.{cases_lt}
 
 -- the row before, if any, is before the moment

@@ -1,16 +1,13 @@
 -- The graph of the rides that were walked, with rows by limits, unfolds to the same tree and is pruned.
 use Rattle.graph_prune.proofs.Common.{◌≡◌, ◌≢◌, ℕ, ◌<◌, List, map, Option, Some, Contains, All, AllPairs, arith, sym, subst, ◌∙◌, ap, slice_index_or, nat_tests, All-contains, All-map, Leg}
-use Rattle.graph_prune.proofs.Common.{Outcome, Query, NetworkModel, limit_of, end_of, arrival_of, outcomes_of, unfolding_of, GraphRow, Ride, ExpandedGraph, pick_row, pick_after, Precedes, IsReady}
-use Rattle.graph_prune.proofs.Common.{IsReadyRide, IsReadyRow, MayPrecede, IsBusy, IsPruned, IsByLimits, IsPickedAfter, IsFirstInTime, IsSafeForSome, Stands, Follows, row_by, Contains-map}
-use Rattle.graph_prune.proofs.Common.{All-from_contains, AllPairs-map, first_pick, picked_there, one_found, ready, busy, picks_taken, ride_by_limits, ride_there, rows_after-own}
+use Rattle.graph_prune.proofs.Common.{Outcome, Query, NetworkModel, limit_of, end_of, arrival_of, outcomes_of, unfolding_of, GraphRow, Ride, ExpandedGraph, pick_row, pick_after, Precedes}
+use Rattle.graph_prune.proofs.Common.{IsReady, IsReadyRide, IsReadyRow, MayPrecede, IsBusy, IsPruned, IsByLimits, IsPickedAfter, IsFirstInTime, IsSafeForSome, Stands, Follows, row_by}
+use Rattle.graph_prune.proofs.Common.{Contains-map, All-from_contains, AllPairs-map, first_pick, picked_there, one_found, ready, busy, picks_taken, ride_by_limits, ride_there, rows_after-own}
+use Rattle.graph_prune.proofs.{Limits.{first_by_limits, limit_member, limits_rise, in_time_by}, Sources.{kept_after, start_can}}
 use Rattle.std.proofs.lemmas.Grind.{common_steps}
-use Rattle.plan_model.specs.Network.{IsValid}
-use Rattle.plan_model.specs.Tree.{Tree}
-use Rattle.plan_graph.specs.Unfold.{unfold_expanded}
-use Rattle.plan_graph.specs.Walked.{IsWalked, HasRideOf}
+use Rattle.plan_model.specs.{Network.IsValid, Tree.Tree}
+use Rattle.plan_graph.specs.{Unfold.unfold_expanded, Walked.{IsWalked, HasRideOf}}
 use Rattle.plan_graph.proofs.Together.{IsSameNext, unfold_from-together}
-use Rattle.graph_prune.proofs.Limits.{first_by_limits, limit_member, limits_rise, in_time_by}
-use Rattle.graph_prune.proofs.Sources.{kept_after, start_can}
 
 module _ (n : NetworkModel) (valid : IsValid n) (q : Query) (source : ExpandedGraph) (source_ready : IsReady n q source) (start : Leg) (starts : source.start ≡ Some start) (rides : List Ride)
     (walked : IsWalked n q (pick_after source.rides) start rides) where

@@ -1,8 +1,7 @@
 -- What a ready graph picks.
 use Rattle.graph_prune.proofs.Common.{◌≡◌, ◌≢◌, ℕ, List, Option, Some, Contains, All, sym, subst, ◌∙◌, ap, MatchOption, All-contains, Leg, Outcome, Query, NetworkModel, end_of, arrival_of, arith}
 use Rattle.graph_prune.proofs.Common.{outcomes_of, GraphRow, Ride, ExpandedGraph, pick_row, pick_after, HasRisingRides, IsReady, IsReadyRide, IsReadyRow, IsLegOf, pick_in_time, ride_there}
-use Rattle.graph_prune.proofs.Common.{IsKeptAfter}
-use Rattle.graph_prune.proofs.Limits.{in_time_kept}
+use Rattle.graph_prune.proofs.{Common.IsKeptAfter, Limits.in_time_kept}
 
 module _ (n : NetworkModel) (q : Query) (graph : ExpandedGraph) (ready : IsReady n q graph) where
   abbrev choice : Leg → ℕ → Option Leg

@@ -1,10 +1,9 @@
 -- The connections that legs end with, by departure, and how many connections depart after one.
-use Rattle.graph_score.proofs.Common.{◌≡◌, ℕ, zero, suc, ◌+◌, ◌<◌, ◌≤◌, Bool, true, false, cond, List, [], ◌∷◌, ◌++◌, length, map, get_or, nat_lt, All, AllPairs, Contains, arith, sym, subst, refl}
-use Rattle.graph_score.proofs.Common.{inl, inr, ◌∙◌, ap, append_assoc, count_by, length-append, IsPermutation, cases_Bool, nat_tests, get_or_append_left, get_or_at, All-map, Contains-append_cases}
-use Rattle.graph_score.proofs.Common.{Departure, NetworkModel, count, connection, no_connection, dep_of, departure_of, IsInOrder, Contains-map, Contains-cons_cases, All-from_contains, GraphLeg}
-use Rattle.graph_score.proofs.Common.{exit_of, AreExits}
-use Rattle.std.proofs.lemmas.List.Sorted.{All-permutation, Contains-permutation}
-use Rattle.std.proofs.lemmas.List.Sums.{count_by-le-length, sum_by-cons}
+use Rattle.graph_score.proofs.Common.{◌≡◌, ℕ, zero, suc, ◌+◌, ◌<◌, ◌≤◌, Bool, true, false, cond, List, [], ◌∷◌, ◌++◌, length, map, get_or, nat_lt, All, AllPairs, Contains, arith, sym, subst}
+use Rattle.graph_score.proofs.Common.{refl, inl, inr, ◌∙◌, ap, append_assoc, count_by, length-append, IsPermutation, cases_Bool, nat_tests, get_or_append_left, get_or_at, All-map}
+use Rattle.graph_score.proofs.Common.{Contains-append_cases, Departure, NetworkModel, count, connection, no_connection, dep_of, departure_of, IsInOrder, Contains-map, Contains-cons_cases}
+use Rattle.graph_score.proofs.Common.{All-from_contains, GraphLeg, exit_of, AreExits}
+use Rattle.std.proofs.lemmas.List.{Sorted.{All-permutation, Contains-permutation}, Sums.{count_by-le-length, sum_by-cons}}
 use Rattle.plan_model.specs.declared.model.Connection.{Connection}
 
 -- ---- in order

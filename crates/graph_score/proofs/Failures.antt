@@ -1,7 +1,7 @@
 -- The first failure after the outcomes of a ride, and the bounds where there is none.
-use Rattle.graph_score.proofs.Common.{◌≡◌, ℕ, suc, ◌⊎◌, List, [], ◌∷◌, length, Option, Some, None, arith, refl, inl, inr, ap, nat_tests, Outcome, Query, NetworkModel, outcomes, EachKid, Tree, Ride}
-use Rattle.graph_score.proofs.Common.{Kids, Nil, Kid, Failure, Outlook, Safe, Failing, Fails, FailsIn, IsFirstFailure, spans_of, sooner_failure, with_outlook, first_failure_of, spans_in, mean_or}
-use Rattle.graph_score.proofs.Common.{blend_of, IsOutlook}
+use Rattle.graph_score.proofs.Common.{◌≡◌, ℕ, suc, ◌⊎◌, List, [], ◌∷◌, length, Option, Some, None, arith, refl, inl, inr, ap, nat_tests, Outcome, Query, NetworkModel, outcomes, EachKid, Tree}
+use Rattle.graph_score.proofs.Common.{Ride, Kids, Nil, Kid, Failure, Outlook, Safe, Failing, Fails, FailsIn, IsFirstFailure, spans_of, sooner_failure, with_outlook, first_failure_of, spans_in}
+use Rattle.graph_score.proofs.Common.{mean_or, blend_of, IsOutlook}
 use Rattle.interval_fixed.specs.Interval.{mean_of}
 
 -- a failure is not forgotten

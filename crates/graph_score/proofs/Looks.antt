@@ -3,12 +3,9 @@ use Rattle.graph_score.proofs.Common.{◌≡◌, ◌≢◌, ℕ, zero, suc, ◌+
 use Rattle.graph_score.proofs.Common.{◌∙◌, ap, append_assoc, slice_index_or, ◌==◌, get_or-set_other, get_or-set_same, append-nil, length-set, cases_lt, cases_eq, nat_tests, All-contains}
 use Rattle.graph_score.proofs.Common.{Contains-append_right, Departure, Leg, Outcome, Query, NetworkModel, IsValid, count, dep_of, arr_of, EachKid, departure_of, Tree, Done, Stuck, end_of}
 use Rattle.graph_score.proofs.Common.{kids_after, boards_later, Contains-cons_cases, Contains-from_map, PlaceTable, PlanGraph, pick_at, rows_of_place, IsLegOf, rows_of_place-by, row_of_pick}
-use Rattle.graph_score.proofs.Common.{GraphLeg, Outlook, Failing, exit_of, AreExits, IsFitLeg, legs_of, AreFitRows, AreOutlooks, IsOutlook, arrived_outlook, by_leg, failure, no_outlook, outlook_at}
-use Rattle.graph_score.proofs.Common.{outlook_of, outlooks_after, ride_by_rows}
-use Rattle.graph_score.proofs.ExitLemmas.{later, later_few, later_fewer, later_taken}
-use Rattle.graph_score.proofs.Failures.{blend_reported}
-use Rattle.graph_score.proofs.GraphLegs.{each_row_of, rows_fit}
-use Rattle.graph_score.proofs.Trees.{taken_row, next_after, after-there, after-stuck, after-ride}
+use Rattle.graph_score.proofs.Common.{GraphLeg, Outlook, Failing, exit_of, AreExits, IsFitLeg, legs_of, AreFitRows, AreOutlooks, IsOutlook, arrived_outlook, by_leg, failure, no_outlook}
+use Rattle.graph_score.proofs.{Common.{outlook_at, outlook_of, outlooks_after, ride_by_rows}, ExitLemmas.{later, later_few, later_fewer, later_taken}, Failures.blend_reported}
+use Rattle.graph_score.proofs.{GraphLegs.{each_row_of, rows_fit}, Trees.{taken_row, next_after, after-there, after-stuck, after-ride}}
 
 -- where source and target are one place, or one has arrived
 pub arrived_reported : (n : NetworkModel) (q : Query) (p x : ℕ) → p ≡ q.target.0 → IsOutlook n q (arrived_outlook q.deadline.0 p x) (Done x)

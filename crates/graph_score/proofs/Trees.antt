@@ -1,6 +1,6 @@
 -- A tree by rows that fit is safe exactly where the traveller cannot fail.
-use Rattle.graph_score.proofs.Common.{◌≡◌, ◌≢◌, ℕ, zero, suc, ◌+◌, ◌-◌, ◌≤◌, List, [], ◌∷◌, Option, Some, None, All, arith, sym, subst, refl, inl, inr, ap, cases_lt, cases_eq, eq-eqb, ne_eqb, Leg}
-use Rattle.graph_score.proofs.Common.{Outcome, Query, NetworkModel, count, to_of, arr_of, outcomes, Tree, Done, Ride, Stuck, Kids, Nil, Kid, height, height_of, IsSafe, AreSafe, IsBoardable}
+use Rattle.graph_score.proofs.Common.{◌≡◌, ◌≢◌, ℕ, zero, suc, ◌+◌, ◌-◌, ◌≤◌, List, [], ◌∷◌, Option, Some, None, All, arith, sym, subst, refl, inl, inr, ap, cases_lt, cases_eq, eq-eqb, ne_eqb}
+use Rattle.graph_score.proofs.Common.{Leg, Outcome, Query, NetworkModel, count, to_of, arr_of, outcomes, Tree, Done, Ride, Stuck, Kids, Nil, Kid, height, height_of, IsSafe, AreSafe, IsBoardable}
 use Rattle.graph_score.proofs.Common.{IsSafeFor, end_of, outcomes_of, kids_after, ride_or_stuck, unfold_after, by_place, limit_of-some, PlaceTable, PlanGraph, pick_at, rows_of_place, IsLegOf}
 use Rattle.graph_score.proofs.Common.{IsFitRow, IsFitStart, unfold_plan, Fails, FailsIn, AreFitRows, ride_by_rows, rows_of_place-by, row_of_pick}
 

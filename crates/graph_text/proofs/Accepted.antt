@@ -2,11 +2,9 @@
 use Rattle.graph_text.proofs.Common.{◌≡◌, ℕ, ◌≤◌, List, [], ◌∷◌, Option, Some, None, Ok, arith, sym, subst, ◌∙◌, ap, refl, ◌==◌, eqb-true, eq-eqb, ne_eqb, false≢true, All-nil, last_printable}
 use Rattle.graph_text.proofs.Common.{table_of, require-ok, Leg, Query, NetworkModel, NameLists, IsValid, PlaceTable, PlanGraph, IsFit, Head, Version, start_in, place_tables_from, no_tables}
 use Rattle.graph_text.proofs.Common.{started_in, graph_after_first, head_in, graph_of_records, graph_of, IsReadAs, version_in, AreGraphRows, IsTextOf, IsHeadOf, field, and_then-value, if-value}
-use Rattle.graph_text.proofs.Common.{else-value}
+use Rattle.graph_text.proofs.{Common.else-value, Rows.{start_reported, start_read, head_reported, head_read}, Tables.{all_reported, all_read}}
 use Rattle.clock_text.proofs.Range.{moment_range}
 use Rattle.graph_text.specs.declared.reader.TextFault.TheVariants as fault
-use Rattle.graph_text.proofs.Rows.{start_reported, start_read, head_reported, head_read}
-use Rattle.graph_text.proofs.Tables.{all_reported, all_read}
 
 module _ (n : NetworkModel) (names : NameLists) (version : Version) (q : Query) where
   graph_reported : (rs : List (List (List ℕ))) (graph : PlanGraph) → graph_after_first n names version q.source.0 q.target.0 q.start.0 rs ≡ Ok graph

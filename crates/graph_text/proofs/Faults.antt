@@ -1,16 +1,15 @@
 -- The first fault of a text is that of its first row that breaks a rule, or of the first row that is missing.
 use Rattle.graph_text.proofs.Common.{◌≡◌, ◌≢◌, ℕ, suc, ◌+◌, ◌-◌, Bool, true, false, List, [], ◌∷◌, Option, Some, None, IsSome, is_some, Result, Ok, Err, arith, sym, subst, refl, ◌∙◌, ap, ◌==◌}
 use Rattle.graph_text.proofs.Common.{if◌then◌else◌, codes, inl, inr, ◌⊎◌, option_map, eqb-true, eq-eqb, ne_eqb, leb-true, le-leb, nat_le, false≢true, and_parts, cases_eq, moment_at, nanos_at}
-use Rattle.graph_text.proofs.Common.{if_cases, and_then, require, require-ok, Leg, PlaceId, NetworkModel, NameLists, IsValid, GraphRow, PlanGraph, field, is_kind, whole_at}
-use Rattle.graph_text.proofs.Common.{number_of, rises, is_query, Head, TextFault, LegRow, LegNames, PlaceRow, HeadRow, TableStart, Reading, Version, width_of, is_place, is_head, version_in, IsLegRow}
-use Rattle.graph_text.proofs.Common.{IsPlaceRow, leg_numbers, leg_row_in, names_in, leg_found, is_by_limit, can_start, row_in, start_in, place_numbers, place_row_in, table_in, head_numbers}
-use Rattle.graph_text.proofs.Common.{head_row_in, head_in, step, after_place_row, after_leg_row, place_tables_from, no_tables, started_in, graph_after_first, graph_of_records}
-use Rattle.graph_text.specs.declared.reader.TextFault.TheVariants as f
+use Rattle.graph_text.proofs.Common.{if_cases, and_then, require, require-ok, Leg, PlaceId, NetworkModel, NameLists, IsValid, GraphRow, PlanGraph, field, is_kind, whole_at, number_of, rises}
+use Rattle.graph_text.proofs.Common.{is_query, Head, TextFault, LegRow, LegNames, PlaceRow, HeadRow, TableStart, Reading, Version, width_of, is_place, is_head, version_in, IsLegRow, IsPlaceRow}
+use Rattle.graph_text.proofs.Common.{leg_numbers, leg_row_in, names_in, leg_found, is_by_limit, can_start, row_in, start_in, place_numbers, place_row_in, table_in, head_numbers, head_row_in}
+use Rattle.graph_text.proofs.{Common.{head_in, step, after_place_row, after_leg_row, place_tables_from, no_tables, started_in, graph_after_first, graph_of_records}, Rows.numbers_reported}
+use Rattle.graph_text.proofs.Rows.{names_reported, place_numbers_reported, head_numbers_reported, start_reported, start_read, row_reported, row_read, table_reported, table_read, head_reported}
+use Rattle.graph_text.proofs.{Rows.head_read, Tables.{leg_step, place_row_is, leg_row_is, after_last, after_row}}
 use Rattle.graph_text.specs.FirstFaults.{Breaks, HasLegForm, HasLegNames, HasLaterMoment, IsRowOf, BreaksAtLeg, IsStartOf, BreaksAtStart, HasPlaceForm, HasLaterPlace, BreaksAtPlace, HasHeadForm}
 use Rattle.graph_text.specs.FirstFaults.{HasHeadNames, IsOfQuestion, BreaksAtHead, Coming, PlaceNext, LegNext, after_leg, HaveFirstFault, HaveFaultAfterHead, HaveFault}
-use Rattle.graph_text.proofs.Rows.{numbers_reported, names_reported, place_numbers_reported, head_numbers_reported, start_reported, start_read, row_reported, row_read, table_reported, table_read}
-use Rattle.graph_text.proofs.Rows.{head_reported, head_read}
-use Rattle.graph_text.proofs.Tables.{leg_step, place_row_is, leg_row_is, after_last, after_row}
+use Rattle.graph_text.specs.declared.reader.TextFault.TheVariants as f
 
 -- ---- chains that end with a fault
 

@@ -1,6 +1,6 @@
 -- The fields of printed rows.
-use Rattle.graph_text.proofs.Common.{arith, ◌≡◌, ℕ, List, [], ◌∷◌, take, decimal, moment_text, Leg, Connection, NetworkModel, NameLists, connection, Version, width_of, ninth}
-use Rattle.graph_text.proofs.Common.{leg_fields, place_name, run_name}
+use Rattle.graph_text.proofs.Common.{arith, ◌≡◌, ℕ, List, [], ◌∷◌, take, decimal, moment_text, Leg, Connection, NetworkModel, NameLists, connection, Version, width_of, ninth, leg_fields}
+use Rattle.graph_text.proofs.Common.{place_name, run_name}
 
 -- the fields that a version has of nine
 pub take_nine : (version : Version) (a b c d e f g h last a' b' c' d' e' f' g' h' last' : List ℕ) → a ≡ a' → b ≡ b' → c ≡ c' → d ≡ d' → e ≡ e' → f ≡ f' → g ≡ g' → h ≡ h' → last ≡ last'

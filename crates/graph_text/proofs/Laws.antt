@@ -1,6 +1,6 @@
 -- Which graphs can be printed.
-use Rattle.graph_text.proofs.Common.{◌≡◌, ℕ, ◌<◌, length, Option, Some, arith, [], MatchOption, IfSome, slice_index_or, Leg, Query, NetworkModel, IsValid, limit_of, GraphRow, PlanGraph}
-use Rattle.graph_text.proofs.Common.{IsLegOf, IsReady, IsFit, IsFitStart, IsPrintableExpanded, IsPrintablePlan, end_of_arrivals}
+use Rattle.graph_text.proofs.Common.{◌≡◌, ℕ, ◌<◌, length, Option, Some, arith, [], MatchOption, IfSome, slice_index_or, Leg, Query, NetworkModel, IsValid, limit_of, GraphRow, PlanGraph, IsLegOf}
+use Rattle.graph_text.proofs.Common.{IsReady, IsFit, IsFitStart, IsPrintableExpanded, IsPrintablePlan, end_of_arrivals}
 use Rattle.plan_model.proofs.Boarding.{limit_of-some, way_takes}
 use Rattle.plan_graph.specs.declared.ExpandedGraph.{ExpandedGraph}
 

@@ -1,24 +1,16 @@
 -- What was printed is read back.
 use Rattle.graph_text.proofs.Common.{◌≡◌, ℕ, ◌<◌, ◌≤◌, ◌^◌, List, [], ◌∷◌, ◌++◌, length, map, Option, Some, None, Bool, true, false, All, arith, refl, ap, ◌∙◌, append_assoc, ◌==◌, slice_index_or}
 use Rattle.graph_text.proofs.Common.{decimal, codes, eqb, eqb-true, eq-eqb, ne_eqb, All-head, All-tail, All-map, All-contains, moment_text, nanos_text, last_printable, table_of, Leg, Query}
-use Rattle.graph_text.proofs.Common.{NetworkModel, NameLists, NamesFit, AreNames, IsValid, count, change_of, run_of, step_of, from_of, to_of, dep_of, arr_of, GraphRow, PlaceTable, PlanGraph, IsLegOf}
-use Rattle.graph_text.proofs.Common.{IsFit, IsFitRow, IsFitTable, Head, Version, First, Second, number_of_version, ninth, rows_leave, tables_leave, version_by, IsPrintableQuery, leg_fields}
-use Rattle.graph_text.proofs.Common.{rows_text, tables_text, plan_text_in, plan_text, place_name, run_name, row_of_fields, text_of_records, IsReadAs, is_head, version_in, IsLegRow, IsPlaceRow}
-use Rattle.graph_text.proofs.Common.{IsHeadRow, AreLegRows, AreTableRows, AreGraphRows, IsTextOf, most_connections}
+use Rattle.graph_text.proofs.Common.{NetworkModel, NameLists, NamesFit, AreNames, IsValid, count, change_of, run_of, step_of, from_of, to_of, dep_of, arr_of, GraphRow, PlaceTable, PlanGraph}
+use Rattle.graph_text.proofs.Common.{IsLegOf, IsFit, IsFitRow, IsFitTable, Head, Version, First, Second, number_of_version, ninth, rows_leave, tables_leave, version_by, IsPrintableQuery}
+use Rattle.graph_text.proofs.Common.{leg_fields, rows_text, tables_text, plan_text_in, plan_text, place_name, run_name, row_of_fields, text_of_records, IsReadAs, is_head, version_in, IsLegRow}
+use Rattle.graph_text.proofs.{Common.{IsPlaceRow, IsHeadRow, AreLegRows, AreTableRows, AreGraphRows, IsTextOf, most_connections}, Laws.{limit_soon, place_there}, Accepted.text_read}
 use Rattle.std.specs.Cmp.Lexicographic.{bytes_decides}
-use Rattle.std.proofs.lemmas.List.{get_or-map, length-map}
-use Rattle.std.proofs.lemmas.List.Recursion.{and_at}
-use Rattle.std.proofs.lemmas.Map.Keys.{IsDistinct-from_apart}
-use Rattle.std.proofs.lemmas.Map.Views.{Contains-from_any}
-use Rattle.std.proofs.lemmas.Map.Steps.{length-le_from_distinct_below}
-use Rattle.clock_text.proofs.Walk.{text_reports}
-use Rattle.clock_text.proofs.NanosLemmas.{nanos_report}
+use Rattle.std.proofs.lemmas.{List.{get_or-map, length-map, Recursion.and_at}, Map.{Keys.IsDistinct-from_apart, Views.Contains-from_any, Steps.length-le_from_distinct_below}}
+use Rattle.clock_text.proofs.{Walk.text_reports, NanosLemmas.nanos_report}
 use Rattle.csv_rows.specs.Spaces.{trimmed_text}
-use Rattle.printed_rows.proofs.Names.{place_kept, run_kept, place_back, run_back, step_kept, step_back}
-use Rattle.graph_text.proofs.Laws.{limit_soon, place_there}
-use Rattle.graph_text.proofs.Accepted.{text_read}
-use Rattle.printed_rows.proofs.Plain.{moment_kept, nanos_kept, decimal_kept, whole_back}
-use Rattle.printed_rows.proofs.Printed.{IsKept, AreKept, kept-append, table_back}
+use Rattle.printed_rows.proofs.{Names.{place_kept, run_kept, place_back, run_back, step_kept, step_back}, Plain.{moment_kept, nanos_kept, decimal_kept, whole_back}, Printed.{IsKept, AreKept}}
+use Rattle.printed_rows.proofs.Printed.{kept-append, table_back}
 
 -- what holds of either version holds of each
 by_version : (P : Version → Type 0) → P First → P Second → (version : Version) → P version

@@ -1,10 +1,10 @@
 -- A row is read as what it says, and as nothing else.
 use Rattle.graph_text.proofs.Common.{◌≡◌, ℕ, ◌≤◌, Bool, true, List, Option, Some, None, Ok, arith, sym, subst, refl, ◌∙◌, ap, ◌==◌, nat_le, if◌then◌else◌, codes, option_map, option_and_then}
 use Rattle.graph_text.proofs.Common.{eqb-true, eq-eqb, leb-true, le-leb, false≢true, and_parts, moment_at, nanos_at, if_cases, some_cases, require-ok, Leg, NetworkModel, NameLists, IsValid}
-use Rattle.graph_text.proofs.Common.{change_of, connection, run_of, step_of, from_of, to_of, dep_of, arr_of, limit_of, GraphRow, IsLegOf, IsFitRow, Head, Version, LegRow, LegNames, PlaceRow, HeadRow}
-use Rattle.graph_text.proofs.Common.{TableStart, leg_names, names_in, leg_numbers, leg_row_in, leg_found, leg_between, agrees, equals_limit, can_start, is_by_limit, start_in, row_in, place_numbers}
-use Rattle.graph_text.proofs.Common.{place_row_in, table_in, are_in_order, head_numbers, head_row_in, head_of, head_in, width_of, IsHeadOf, is_head, version_in, IsLegRow, IsPlaceRow}
-use Rattle.graph_text.proofs.Common.{IsHeadRow, is_query, connection_of, number_of, rises, field, whole_at, is_kind, if-value}
+use Rattle.graph_text.proofs.Common.{change_of, connection, run_of, step_of, from_of, to_of, dep_of, arr_of, limit_of, GraphRow, IsLegOf, IsFitRow, Head, Version, LegRow, LegNames, PlaceRow}
+use Rattle.graph_text.proofs.Common.{HeadRow, TableStart, leg_names, names_in, leg_numbers, leg_row_in, leg_found, leg_between, agrees, equals_limit, can_start, is_by_limit, start_in, row_in}
+use Rattle.graph_text.proofs.Common.{place_numbers, place_row_in, table_in, are_in_order, head_numbers, head_row_in, head_of, head_in, width_of, IsHeadOf, is_head, version_in, IsLegRow}
+use Rattle.graph_text.proofs.Common.{IsPlaceRow, IsHeadRow, is_query, connection_of, number_of, rises, field, whole_at, is_kind, if-value}
 use Rattle.printed_rows.proofs.Found.{connection_back, connection_holds}
 
 -- ---- the row of a leg

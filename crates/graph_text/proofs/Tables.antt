@@ -1,13 +1,13 @@
 -- A step of reading, and the rows of tables, which are read as the tables that they give, and as no others.
 use Rattle.graph_text.proofs.Common.{◌≡◌, ℕ, ◌+◌, ◌<◌, List, [], ◌∷◌, length, drop, Option, Some, Ok, Err, Result, arith, sym, ap, subst, refl, ◌∙◌, ◌≢◌, suc, ◌-◌, ◌≤◌, true, ◌++◌, None, All}
-use Rattle.graph_text.proofs.Common.{AllPairs, inl, inr, append_assoc, ◌==◌, slice_index_or, if◌then◌else◌, codes, option_map, IsErr, IsErrAnd, ne_eqb, eqb-true, eq-eqb, ltb-true, lt-ltb, append-nil}
-use Rattle.graph_text.proofs.Common.{cases_eq, and_then, PlaceId, NetworkModel, NameLists, PlaceTable, PlanGraph, Head, Version, Reading, TextFault, split_at, version_in, IsLegRow, AreLegRows}
-use Rattle.graph_text.proofs.Common.{AreTableRows, after_leg_row, row_in, step, IsUnlessNoMemory, place_or_first, place_tables_from, graph_after_first, head_in, graph_of_records, table_in, with_rows}
-use Rattle.graph_text.proofs.Common.{after_place_row, no_tables, All-cons, All-nil, All-head, All-tail, IsValid, GraphRow, IsFitRow, IsFitTable, TableStart, rises, and_then-value, if-value}
-use Rattle.graph_text.specs.declared.reader.TextFault.TheVariants as f
+use Rattle.graph_text.proofs.Common.{AllPairs, inl, inr, append_assoc, ◌==◌, slice_index_or, if◌then◌else◌, codes, option_map, IsErr, IsErrAnd, ne_eqb, eqb-true, eq-eqb, ltb-true, lt-ltb}
+use Rattle.graph_text.proofs.Common.{append-nil, cases_eq, and_then, PlaceId, NetworkModel, NameLists, PlaceTable, PlanGraph, Head, Version, Reading, TextFault, split_at, version_in, IsLegRow}
+use Rattle.graph_text.proofs.Common.{AreLegRows, AreTableRows, after_leg_row, row_in, step, IsUnlessNoMemory, place_or_first, place_tables_from, graph_after_first, head_in, graph_of_records}
+use Rattle.graph_text.proofs.Common.{table_in, with_rows, after_place_row, no_tables, All-cons, All-nil, All-head, All-tail, IsValid, GraphRow, IsFitRow, IsFitTable, TableStart, rises}
+use Rattle.graph_text.proofs.{Common.{and_then-value, if-value}, Rows.{row_reported, row_read, table_reported, table_read}}
 use Rattle.std.proofs.lemmas.List.Kept.{AllPairs-cons}
 use Rattle.plan_model.specs.declared.model.Moment.{Moment}
-use Rattle.graph_text.proofs.Rows.{row_reported, row_read, table_reported, table_read}
+use Rattle.graph_text.specs.declared.reader.TextFault.TheVariants as f
 
 -- where leg rows are to come
 pub leg_step : (n : NetworkModel) (names : NameLists) (version : Version) (line : ℕ) (r : List (List ℕ)) (s : Reading) (place : PlaceId) → (s.remaining ≡ 0 → ⊥)

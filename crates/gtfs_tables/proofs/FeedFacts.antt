@@ -1,6 +1,6 @@
 -- A feed's trips are timed: their kept rows are at places of the feed, and no time goes back.
-use Rattle.gtfs_tables.proofs.Common.{◌≡◌, ℕ, ◌<◌, ◌==◌, Bool, List, length, slice_index, Option, IfSome, if◌then◌else◌, refl, arith, unwrap_or, number_in, row_count}
-use Rattle.gtfs_tables.proofs.Common.{field, StopId, FeedParts, IsSoundFeed, stop_ids, stop_places, place_from, parent_of, length-list_below, get-list_below, AreTimed, IsTimed, rows_of}
+use Rattle.gtfs_tables.proofs.Common.{◌≡◌, ℕ, ◌<◌, ◌==◌, Bool, List, length, slice_index, Option, IfSome, if◌then◌else◌, refl, arith, unwrap_or, number_in, row_count, field, StopId, FeedParts}
+use Rattle.gtfs_tables.proofs.Common.{IsSoundFeed, stop_ids, stop_places, place_from, parent_of, length-list_below, get-list_below, AreTimed, IsTimed, rows_of}
 use Rattle.csv_rows.proofs.RowLemmas.{number_inside}
 use Rattle.stop_times.proofs.NoFault.{AreInOrder, kept_in_order}
 

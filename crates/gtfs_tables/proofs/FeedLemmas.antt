@@ -1,23 +1,15 @@
 -- The tables of a feed, one after the other.
-use Rattle.gtfs_tables.proofs.Common.{◌≡◌, ℕ, ◌==◌, false, List, None, sym, ap, ◌∙◌, subst, arith, Result, Ok, Err, and_then, Stops, Routes, Trips}
-use Rattle.gtfs_tables.proofs.Common.{StopTimes, Frequencies, FeedFault, Loaded, load_in, trips_fault, fault_of_frequencies, frequencies_from, Tables, tables_by}
-use Rattle.gtfs_tables.proofs.Common.{tables_from, tables_in, IsFeed, IsFeedOf, IsSoundFeed, length-list_below, and_then-err}
+use Rattle.gtfs_tables.proofs.Common.{◌≡◌, ℕ, ◌==◌, false, List, None, sym, ap, ◌∙◌, subst, arith, Result, Ok, Err, and_then, Stops, Routes, Trips, StopTimes, Frequencies, FeedFault, Loaded}
+use Rattle.gtfs_tables.proofs.Common.{load_in, trips_fault, fault_of_frequencies, frequencies_from, Tables, tables_by, tables_from, tables_in, IsFeed, IsFeedOf, IsSoundFeed, length-list_below}
+use Rattle.gtfs_tables.proofs.Common.{and_then-err}
+use Rattle.gtfs_tables.specs.{Feeds.IsFirstOfTables, declared.{lists.FeedLists.FeedLists, times.TripTimes.TripTimes}, Parts.{parts_by, named_with, HasVisits, HasRepeats, AreLists, AreTripTimes}}
+use Rattle.gtfs_tables.specs.Parts.{AreSoundLists, AreSoundTimes}
 use Rattle.file_ports.specs.Ports.{FileMap}
-use Rattle.csv_rows.specs.declared.feed_tables.Table.{Table}
-use Rattle.csv_rows.specs.declared.limits.Limits.{Limits}
-use Rattle.csv_rows.specs.FeedTables.{rank_of, unread_table, IsFaultOf}
-use Rattle.gtfs_tables.specs.Feeds.{IsFirstOfTables}
-use Rattle.stop_times.specs.declared.rows.StopRow.{StopRow}
-use Rattle.stop_times.specs.StopTimes.{TripsAndStops, named_by, stop_times_fault}
+use Rattle.csv_rows.specs.{declared.{feed_tables.Table.Table, limits.Limits.Limits}, FeedTables.{rank_of, unread_table, IsFaultOf}}
+use Rattle.stop_times.specs.{declared.rows.StopRow.StopRow, StopTimes.{TripsAndStops, named_by, stop_times_fault}, Timetables.{stop_times_from, AreVisits}}
 use Rattle.table_files.specs.Loading.{Records}
-use Rattle.stop_times.specs.Timetables.{stop_times_from, AreVisits}
-use Rattle.feed_lists.specs.Lists.{stops_from, routes_from, trips_from, HasStops, HasRoutes, HasTrips}
-use Rattle.feed_lists.specs.declared.stops.Stops.{Stops as StopLists}
-use Rattle.feed_lists.specs.declared.routes.Routes.{Routes as RouteLists}
-use Rattle.gtfs_tables.specs.declared.lists.FeedLists.{FeedLists}
-use Rattle.gtfs_tables.specs.declared.times.TripTimes.{TripTimes}
-use Rattle.gtfs_tables.specs.Parts.{parts_by, named_with, HasVisits, HasRepeats, AreLists, AreTripTimes, AreSoundLists, AreSoundTimes}
 use Rattle.table_files.proofs.LoadLemmas.{load_in-other}
+use Rattle.feed_lists.specs.{Lists.{stops_from, routes_from, trips_from, HasStops, HasRoutes, HasTrips}, declared.{stops.Stops.Stops as StopLists, routes.Routes.Routes as RouteLists}}
 
 -- what was read is the feed of its tables
 is_feed : (l : FeedLists) (t : TripTimes) (s r d x : Records) (q : Loaded) → HasStops (Ok s) l.stops → HasRoutes (Ok r) l.routes → HasTrips l.routes (Ok d) l.trips

@@ -1,24 +1,18 @@
 -- The rows of frequencies of a feed's trips are within their bounds, and their lines rise.
-use Rattle.gtfs_tables.proofs.Common.{◌≡◌, ℕ, ◌+◌, ◌<◌, ◌≤◌, ◌==◌, Bool, List, [], map, length, slice_index_or, Option, Some, None, if◌then◌else◌, filter, refl, sym, ap, ◌∙◌, subst}
-use Rattle.gtfs_tables.proofs.Common.{arith, Result, Ok, option_and_then, AllPairs, value_or, TripId, StartTime, EndTime, HeadwaySecs, ExactTimes, Frequencies, FeedFault}
-use Rattle.gtfs_tables.proofs.Common.{BadField, UnknownKey, Loaded, loaded_rows, row_count, number_in, field, field_at, length-list_below, get-list_below, FrequencyRow, FeedParts, IsSoundFeed}
-use Rattle.gtfs_tables.proofs.Common.{frequency_from, frequency_columns, frequency_at, frequency_rows, bad_frequency, no_frequency, frequencies_fault, fault_of_frequencies, repeats_of, IsFrequency}
-use Rattle.gtfs_tables.proofs.Common.{AreRepeats, AreRepeating, trip_ids, require-ok}
-use Rattle.std.proofs.lemmas.List.{get_or-map, length-map}
-use Rattle.std.proofs.lemmas.List.Elements.{All-filter, All-map}
-use Rattle.std.proofs.lemmas.List.Kept.{AllPairs-filter}
+use Rattle.gtfs_tables.proofs.Common.{◌≡◌, ℕ, ◌+◌, ◌<◌, ◌≤◌, ◌==◌, Bool, List, [], map, length, slice_index_or, Option, Some, None, if◌then◌else◌, filter, refl, sym, ap, ◌∙◌, subst, arith}
+use Rattle.gtfs_tables.proofs.Common.{Result, Ok, option_and_then, AllPairs, value_or, TripId, StartTime, EndTime, HeadwaySecs, ExactTimes, Frequencies, FeedFault, BadField, UnknownKey, Loaded}
+use Rattle.gtfs_tables.proofs.Common.{loaded_rows, row_count, number_in, field, field_at, length-list_below, get-list_below, FrequencyRow, FeedParts, IsSoundFeed, frequency_from}
+use Rattle.gtfs_tables.proofs.Common.{frequency_columns, frequency_at, frequency_rows, bad_frequency, no_frequency, frequencies_fault, fault_of_frequencies, repeats_of, IsFrequency, AreRepeats}
+use Rattle.gtfs_tables.proofs.Common.{AreRepeating, trip_ids, require-ok}
+use Rattle.std.proofs.lemmas.List.{get_or-map, length-map, Elements.{All-filter, All-map}, Kept.AllPairs-filter}
 use Rattle.std.specs.Result.{result_err}
-use Rattle.clock_text.specs.Digits.{whole_of}
-use Rattle.clock_text.specs.Times.{time_at}
-use Rattle.csv_rows.specs.Lists.{first_below}
-use Rattle.csv_rows.specs.Ids.{name_in}
+use Rattle.clock_text.specs.{Digits.whole_of, Times.time_at}
+use Rattle.clock_text.proofs.DigitLemmas.{whole_bound}
+use Rattle.csv_rows.specs.{Lists.first_below, Ids.name_in}
 use Rattle.csv_rows.proofs.FirstLemmas.{first-zero, none-both, none-each}
-use Rattle.trip_frequencies.specs.declared.frequencies.TripFrequency.{TripFrequency}
-use Rattle.trip_frequencies.specs.FrequencyBounds.{most_headway}
-use Rattle.trip_frequencies.specs.Frequencies.{headway_in, is_exact_in}
+use Rattle.trip_frequencies.specs.{declared.frequencies.TripFrequency.TripFrequency, FrequencyBounds.most_headway, Frequencies.{headway_in, is_exact_in}}
 use Rattle.trip_frequencies.proofs.FrequencyLemmas.{frequency_count}
 use Rattle.stop_times.proofs.RowForms.{time_below}
-use Rattle.clock_text.proofs.DigitLemmas.{whole_bound}
 
 -- a row of this line that is within its bounds
 record IsFormed (line : ℕ) (r : TripFrequency) : Type 0 where

@@ -1,11 +1,7 @@
 -- A mean of spans encloses the mean of what is within them, and is little wider than the widest.
-use Rattle.std.proofs.Common.{◌≡◌, ℕ, suc, ◌+◌, ◌-◌, ◌*◌, ◌≤◌, List, [], ◌∷◌, length, All, arith, sum_by, mul-le-mul_left, mul-add}
-use Rattle.std.proofs.lemmas.List.Sums.{sum_by-cons}
-use Rattle.plan_model.specs.declared.model.Outcome.{Outcome}
-use Rattle.plan_model.specs.DelayRows.{IsValidRow}
-use Rattle.interval_fixed.specs.Interval.{Interval}
-use Rattle.interval_fixed.specs.Interval.{weighted, weighted_lo, weighted_hi, mean_of}
-use Rattle.interval_fixed.specs.Interval.{AreEnclosed, EnclosesMean}
+use Rattle.std.proofs.{Common.{◌≡◌, ℕ, suc, ◌+◌, ◌-◌, ◌*◌, ◌≤◌, List, [], ◌∷◌, length, All, arith, sum_by, mul-le-mul_left, mul-add}, lemmas.List.Sums.sum_by-cons}
+use Rattle.plan_model.specs.{declared.model.Outcome.Outcome, DelayRows.IsValidRow}
+use Rattle.interval_fixed.specs.Interval.{Interval, weighted, weighted_lo, weighted_hi, mean_of, AreEnclosed, EnclosesMean}
 
 sums_enclosed : (row : List Outcome) (spans : List Interval) (xs : List ℕ) → AreEnclosed spans xs
     → (weighted_lo row spans ≤ weighted row xs) × (weighted row xs ≤ weighted_hi row spans)

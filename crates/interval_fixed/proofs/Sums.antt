@@ -1,10 +1,6 @@
 -- Sums by weight, and their means, against the trees of a ride.
-use Rattle.std.proofs.Common.{◌≡◌, ℕ, ◌+◌, ◌-◌, ◌*◌, ◌/◌, ◌^◌, ◌≤◌, List, [], ◌∷◌, arith, ap, ◌∙◌, mul-le-mul_left, mul-le-mul_right, mul_assoc, mul_comm}
-use Rattle.std.proofs.Common.{mul_left_comm, add-mul, mul-add}
-use Rattle.plan_model.specs.declared.model.Outcome.{Outcome}
-use Rattle.plan_model.specs.Tree.{Kids, Ride, Nil, Kid, height, height_of}
-use Rattle.plan_model.specs.DelayRows.{EachKid}
-use Rattle.plan_model.specs.Expected.{weighted_by, weighted_kids, BelowBy, CoversBy}
+use Rattle.std.proofs.Common.{◌≡◌, ℕ, ◌+◌, ◌-◌, ◌*◌, ◌/◌, ◌^◌, ◌≤◌, List, [], ◌∷◌, arith, ap, ◌∙◌, mul-le-mul_left, mul-le-mul_right, mul_assoc, mul_comm, mul_left_comm, add-mul, mul-add}
+use Rattle.plan_model.specs.{declared.model.Outcome.Outcome, Tree.{Kids, Ride, Nil, Kid, height, height_of}, DelayRows.EachKid, Expected.{weighted_by, weighted_kids, BelowBy, CoversBy}}
 use Rattle.plan_model.proofs.Laws.{pow_down}
 use Rattle.interval_fixed.specs.Interval.{weighted}
 

@@ -1,8 +1,7 @@
 -- The bounds of a plan, and those that `check` finds of its graph.
-use Rattle.journey_answers.proofs.Common.{◌≡◌, ℕ, ◌+◌, ◌/◌, ◌≤◌, arith, Option, List, [], ◌∷◌, refl, ap, Outcome, Query, NetworkModel, to_of, arr_of, outcomes, nanos_per_second}
-use Rattle.journey_answers.proofs.Common.{Tree, Done, Ride, Stuck, Kids, Nil, Kid, IsSafe, AreSafe, IsSafeFor}
-use Rattle.interval_fixed.specs.Interval.{Interval}
-use Rattle.interval_fixed.specs.Interval.{weighted_lo, weighted_hi}
+use Rattle.journey_answers.proofs.Common.{◌≡◌, ℕ, ◌+◌, ◌/◌, ◌≤◌, arith, Option, List, [], ◌∷◌, refl, ap, Outcome, Query, NetworkModel, to_of, arr_of, outcomes, nanos_per_second, Tree, Done, Ride}
+use Rattle.journey_answers.proofs.Common.{Stuck, Kids, Nil, Kid, IsSafe, AreSafe, IsSafeFor}
+use Rattle.interval_fixed.specs.Interval.{Interval, weighted_lo, weighted_hi}
 use Rattle.plan_model.specs.Expected.{arrival}
 use Rattle.value_laws.specs.Spans.{rounded_up, sum_up, rounded_down, sum_down}
 use Rattle.graph_score.specs.Scores.{span_of, spans_of}

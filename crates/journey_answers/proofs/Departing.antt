@@ -1,9 +1,9 @@
 -- When one can leave: the latest moment, and that some strategy is safe.
-use Rattle.journey_answers.proofs.Common.{◌≡◌, ℕ, zero, ◌<◌, ◌≤◌, List, [], ◌∷◌, length, Option, Some, true, refl, arith, ◌≢◌, nat_le, Moment, NetworkModel, Tree, Done}
-use Rattle.journey_answers.proofs.Common.{IsSafeFromStart, IsNoneSafe, DepartureRow, Problem, Query, AreByRules}
+use Rattle.journey_answers.proofs.Common.{◌≡◌, ℕ, zero, ◌<◌, ◌≤◌, List, [], ◌∷◌, length, Option, Some, true, refl, arith, ◌≢◌, nat_le, Moment, NetworkModel, Tree, Done, IsSafeFromStart}
+use Rattle.journey_answers.proofs.Common.{IsNoneSafe, DepartureRow, Problem, Query, AreByRules}
+use Rattle.journey_answers.specs.Departures.{SafeOf, AreDepartures, HasSafeFor}
 use Rattle.std.proofs.lemmas.Bool.Decides.{nat_tests}
 use Rattle.departure_table.specs.Departures.{SafeFrom, IsGreatestMoment, IsTable}
-use Rattle.journey_answers.specs.Departures.{SafeOf, AreDepartures, HasSafeFor}
 
 module _ (n : NetworkModel) (source target deadline : ℕ) where
   -- a traveller who is at the target has arrived

@@ -1,12 +1,10 @@
 -- The departures, and the bounds of a reach, are those that the rules give.
 use Rattle.journey_answers.proofs.Common.{◌≡◌, ℕ, ◌*◌, ◌<◌, arith, List, [], ◌∷◌, All, length, subst, Query, NetworkModel, DepartureRow, Problem, IsRuled, AreByRules, added_query}
+use Rattle.journey_answers.specs.Reach.{IsReachByRules}
 use Rattle.value_laws.specs.declared.MeanSpan.{MeanSpan}
 use Rattle.meat_scan.specs.ScanResult.{ScanResult}
 use Rattle.plan_model.specs.Gates.{extended_by}
-use Rattle.departure_table.specs.Looked.{asked_at, row_found, AreLooked}
-use Rattle.departure_table.specs.Reach.{IsFoundAtGate, places_of}
-use Rattle.departure_table.specs.declared.reach_rows.ReachRow.{ReachRow}
-use Rattle.journey_answers.specs.Reach.{IsReachByRules}
+use Rattle.departure_table.specs.{Looked.{asked_at, row_found, AreLooked}, Reach.{IsFoundAtGate, places_of}, declared.reach_rows.ReachRow.ReachRow}
 use Rattle.departure_table.proofs.ReachGrowth.{are_below, count_up_to}
 
 pub by_rules : (p : Problem) (q : Query) (last : ℕ) (rows : List DepartureRow) (n : NetworkModel) (asked : Query) (found : ScanResult MeanSpan)

@@ -3,9 +3,7 @@ use Rattle.journey_answers.proofs.Common.{ℕ, arith, slice_index_or, All, List,
 use Rattle.plan_model.specs.NameLists.{NameLists, NamesFit}
 use Rattle.journey_report.specs.DepartureTexts.{IsPrintable}
 use Rattle.departure_table.proofs.EachRow.{each_row, leaves_early}
-use Rattle.departure_table.specs.Looked.{asked_at}
-use Rattle.departure_table.specs.Reach.{IsReach, IsReachRow}
-use Rattle.departure_table.specs.declared.reach_rows.ReachRow.{ReachRow}
+use Rattle.departure_table.specs.{Looked.asked_at, Reach.{IsReach, IsReachRow}, declared.reach_rows.ReachRow.ReachRow}
 
 module _ (m : NetworkModel) (q : Query) (x start : ℕ) where
   same_row : (row : ReachRow) → IsReachRow m (asked_at q x) start row → IsReachRow m q start row

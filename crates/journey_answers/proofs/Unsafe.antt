@@ -1,12 +1,10 @@
 -- Where one may fail by a graph: at a place of the network, at a moment that has a text.
-use Rattle.journey_answers.proofs.Common.{◌≡◌, ℕ, zero, suc, ◌+◌, ◌-◌, ◌<◌, ◌≤◌, List, [], ◌∷◌, length, Bool, Option, Some, inl, inr, sym, subst, arith, All}
-use Rattle.journey_answers.proofs.Common.{if◌then◌else◌, ◌==◌, MatchOption-at_some, Outcome, Query, NetworkModel, IsValid, count, arr_of, Tree, Done, Stuck, PlanGraph, unfold_plan}
-use Rattle.journey_answers.proofs.Common.{IsUnsafe, Problem, last_start, seconds_per_day, last_printable}
+use Rattle.journey_answers.proofs.Common.{◌≡◌, ℕ, zero, suc, ◌+◌, ◌-◌, ◌<◌, ◌≤◌, List, [], ◌∷◌, length, Bool, Option, Some, inl, inr, sym, subst, arith, All, if◌then◌else◌, ◌==◌}
+use Rattle.journey_answers.proofs.Common.{MatchOption-at_some, Outcome, Query, NetworkModel, IsValid, count, arr_of, Tree, Done, Stuck, PlanGraph, unfold_plan, IsUnsafe, Problem, last_start}
+use Rattle.journey_answers.proofs.Common.{seconds_per_day, last_printable}
 use Rattle.std.proofs.lemmas.List.Elements.{All-head, All-tail}
-use Rattle.plan_model.specs.declared.model.Leg.{Leg}
-use Rattle.plan_model.specs.Unfold.{end_of, outcomes_of, kids_after, ride_or_stuck, unfold_after, unfold_from, by_place}
-use Rattle.plan_graph.specs.Unfold.{pick_at}
-use Rattle.plan_graph.specs.Tidy.{IsFit}
+use Rattle.plan_model.specs.{declared.model.Leg.Leg, Unfold.{end_of, outcomes_of, kids_after, ride_or_stuck, unfold_after, unfold_from, by_place}}
+use Rattle.plan_graph.specs.{Unfold.pick_at, Tidy.IsFit}
 use Rattle.plan_graph.proofs.Picked.{picked_leg}
 use Rattle.graph_score.specs.Scores.{Fails, FailsIn}
 

@@ -1,6 +1,6 @@
 -- The causes of a step after others.
-use Rattle.journey_problem.proofs.Common.{arith, ◌≡◌, ℕ, List, Option, None, Result, Ok, sym, ap, IfErr, IsErrAnd, FilesState, causes-of, causes-idle, causes-silent, causes-next, Input, Fault, Read}
-use Rattle.journey_problem.proofs.Common.{unread_input, MayBeUnread, HasCauses}
+use Rattle.journey_problem.proofs.Common.{arith, ◌≡◌, ℕ, List, Option, None, Result, Ok, sym, ap, IfErr, IsErrAnd, FilesState, causes-of, causes-idle, causes-silent, causes-next, Input, Fault}
+use Rattle.journey_problem.proofs.Common.{Read, unread_input, MayBeUnread, HasCauses}
 use Rattle.file_ports.specs.Counts.{HasCausesOf}
 
 -- whose fault is not that a file cannot be read

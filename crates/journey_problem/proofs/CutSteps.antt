@@ -1,7 +1,7 @@
 -- The steps of reading a cut file, put together.
 use Rattle.journey_problem.proofs.Common.{arith, ◌≡◌, ℕ, List, Option, Some, None, Result, ◌≢◌, IfOk, IfErr, OnOk, IfSome, FileMap, file_at, Limits, IsCutNetwork, CutParts, IsCutRead, DelayLists}
-use Rattle.journey_problem.proofs.Common.{AreDelays, NameLists, NetworkModel, Timetable, JourneyModel, source_or_target, Input, Fault, NoMemory, IsFirst, MayBeUnread, unread_input, Problem, Records}
-use Rattle.journey_problem.proofs.Common.{HasCut, cut_fault, delay_fault, IsCutOfSome, AreDelaysOf, stop_fault, cut_problem_fault, IsNamed, IsCutProblem, HasCutTimetable}
+use Rattle.journey_problem.proofs.Common.{AreDelays, NameLists, NetworkModel, Timetable, JourneyModel, source_or_target, Input, Fault, NoMemory, IsFirst, MayBeUnread, unread_input, Problem}
+use Rattle.journey_problem.proofs.Common.{Records, HasCut, cut_fault, delay_fault, IsCutOfSome, AreDelaysOf, stop_fault, cut_problem_fault, IsNamed, IsCutProblem, HasCutTimetable}
 use Rattle.journey_model.specs.declared.faults.Input.TheVariants as input
 
 -- what holds of a network and its names, holds of the problem of them

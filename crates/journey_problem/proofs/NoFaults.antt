@@ -1,12 +1,11 @@
 -- Files of which a problem is made have no fault.
-use Rattle.journey_problem.proofs.Common.{arith, unwrap_or, ◌≡◌, ℕ, refl, List, Option, Some, None, Result, Err, ◌≢◌, IsOkAnd, FileMap, file_at, Limits, FeedFault, unread_table, FeedParts, Tables}
-use Rattle.journey_problem.proofs.Common.{IsFeedOf, place_of_stop, SourceModel, CutFile, FeedFolder, JourneyModel, source_or_target, Input, Fault, Read, NoMemory, unread_input, cut_problem_fault}
-use Rattle.journey_problem.proofs.Common.{delay_fault, feed_as, GtfsFolder, IsFolder, IsFolderFault, IsLaterTableFault, IsFaultAfterFolder, IsWindowFault, IsFeedProblem, IsFeedProblemFault}
-use Rattle.journey_problem.proofs.Common.{feed_stop_fault, window_fault_of, IsProblem, IsProblemOver, IsProblemFault, IsProblemFaultOver}
+use Rattle.journey_problem.proofs.Common.{arith, unwrap_or, ◌≡◌, ℕ, refl, List, Option, Some, None, Result, Err, ◌≢◌, IsOkAnd, FileMap, file_at, Limits, FeedFault, unread_table, FeedParts}
+use Rattle.journey_problem.proofs.Common.{Tables, IsFeedOf, place_of_stop, SourceModel, CutFile, FeedFolder, JourneyModel, source_or_target, Input, Fault, Read, NoMemory, unread_input}
+use Rattle.journey_problem.proofs.Common.{cut_problem_fault, delay_fault, feed_as, GtfsFolder, IsFolder, IsFolderFault, IsLaterTableFault, IsFaultAfterFolder, IsWindowFault, IsFeedProblem}
+use Rattle.journey_problem.proofs.{Common.{IsFeedProblemFault, feed_stop_fault, window_fault_of, IsProblem, IsProblemOver, IsProblemFault, IsProblemFaultOver}, OneFeed.one_feed_of}
+use Rattle.journey_problem.proofs.OneFeedProblem.{one_folder, one_window_fault}
 use Rattle.csv_rows.specs.declared.feed_tables.FeedFault.TheVariants as feed
 use Rattle.journey_model.specs.declared.faults.Input.TheVariants as input
-use Rattle.journey_problem.proofs.OneFeed.{one_feed_of}
-use Rattle.journey_problem.proofs.OneFeedProblem.{one_folder, one_window_fault}
 
 abbrev NotRead : Fault → Type 0
 NotRead fault = (i : Input) → fault ≡ Read i → ⊥

@@ -1,9 +1,9 @@
 -- A cut file with delays makes one network.
-use Rattle.journey_problem.proofs.Common.{◌≡◌, ℕ, ◌<◌, ◌⊎◌, sym, ◌∙◌, subst, arith, List, [], length, get_or, ext_get_or, slice_get-get_or, NameLists, AreDistinct, NetworkModel, same_parts, change_of}
-use Rattle.journey_problem.proofs.Common.{connection, count, no_connection, IsValid, row_count, DelayLists, row, IsRide, IsCutNetwork, runs_distinct, places_distinct, one_number}
+use Rattle.journey_problem.proofs.Common.{◌≡◌, ℕ, ◌<◌, ◌⊎◌, sym, ◌∙◌, subst, arith, List, [], length, get_or, ext_get_or, slice_get-get_or, NameLists, AreDistinct, NetworkModel, same_parts}
+use Rattle.journey_problem.proofs.Common.{change_of, connection, count, no_connection, IsValid, row_count, DelayLists, row, IsRide, IsCutNetwork, runs_distinct, places_distinct, one_number}
+use Rattle.journey_problem.proofs.OneOrder.{Enumerates, agree, same_size}
 use Rattle.plan_model.specs.declared.model.Connection.{Connection}
 use Rattle.cut_file.specs.CutRows.{Row}
-use Rattle.journey_problem.proofs.OneOrder.{Enumerates, agree, same_size}
 
 -- by run, and then by step
 abbrev pub Precedes : Connection → Connection → Type 0

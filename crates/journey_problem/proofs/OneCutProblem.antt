@@ -1,8 +1,7 @@
 -- A cut file with a delay file has one problem.
-use Rattle.journey_problem.proofs.Common.{◌≡◌, ℕ, refl, sym, ap, ◌∙◌, subst, List, Option, Some, Result, Ok, slice_get, FileMap, Limits, NameLists, AreDistinct, DelayLists, delays_of, IsCutNetwork}
-use Rattle.journey_problem.proofs.Common.{arith, one_number, JourneyModel, source_or_target, Problem, AreDelaysOf, IsCutProblem, IsNamed}
-use Rattle.journey_problem.proofs.OneCutNetwork.{one_network, same_names, runs_apart, places_apart}
-use Rattle.journey_problem.proofs.SameProblem.{same_problem}
+use Rattle.journey_problem.proofs.Common.{◌≡◌, ℕ, refl, sym, ap, ◌∙◌, subst, List, Option, Some, Result, Ok, slice_get, FileMap, Limits, NameLists, AreDistinct, DelayLists, delays_of}
+use Rattle.journey_problem.proofs.{Common.{IsCutNetwork, arith, one_number, JourneyModel, source_or_target, Problem, AreDelaysOf, IsCutProblem, IsNamed}, OneCutNetwork.{one_network, same_names}}
+use Rattle.journey_problem.proofs.{OneCutNetwork.{runs_apart, places_apart}, SameProblem.same_problem}
 
 pub same_ok : {A E : Type 0} (r : Result A E) (x y : A) → r ≡ Ok x → r ≡ Ok y → x ≡ y
 same_ok r x y h k = cc

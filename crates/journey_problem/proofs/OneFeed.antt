@@ -1,10 +1,8 @@
 -- The tables of a feed make one feed.
 use Rattle.journey_problem.proofs.Common.{◌≡◌, ℕ, ◌<◌, sym, ap, ◌∙◌, arith, List, [], length, Some, Result, true, is_some, ext_get_or, row_count, FeedFault, FeedParts, Tables, IsFeed, IsFeedOf}
-use Rattle.stop_times.specs.declared.rows.StopRow.{StopRow}
-use Rattle.stop_times.specs.StopTimes.{row_at, is_kept, timed_rows}
-use Rattle.stop_times.specs.Visits.{no_visit, IsVisit, AreStopTimes}
-use Rattle.gtfs_tables.specs.Feeds.{named_in}
 use Rattle.journey_problem.proofs.OneOrder.{Enumerates, agree, same_size}
+use Rattle.stop_times.specs.{declared.rows.StopRow.StopRow, StopTimes.{row_at, is_kept, timed_rows}, Visits.{no_visit, IsVisit, AreStopTimes}}
+use Rattle.gtfs_tables.specs.Feeds.{named_in}
 
 never_both : (rows : _) (a b : ℕ) → (row_at rows a).sequence < (row_at rows b).sequence → (row_at rows b).sequence < (row_at rows a).sequence → ⊥
 never_both rows a b h k = omega (arith, h, k)

@@ -1,13 +1,10 @@
 -- A folder with a delay file has one problem.
-use Rattle.journey_problem.proofs.Common.{◌≡◌, ℕ, refl, sym, ap, ◌∙◌, subst, arith, List, Some, Result, IsOkAnd, cases_lt, FileMap, file_at, Limits, FeedFault, DelayLists, FeedParts, ServiceParts}
-use Rattle.journey_problem.proofs.Common.{runs, Calendars, RunsBy, ChangeParts, AreCollectedChanges, place_seconds, links_of, place_of_stop, IsNetworkFrom, JourneyModel, source_or_target, Problem}
-use Rattle.journey_problem.proofs.Common.{AreDelaysOf, GtfsFolder, IsFolder, IsFeedProblem, window_fault_of}
+use Rattle.journey_problem.proofs.Common.{◌≡◌, ℕ, refl, sym, ap, ◌∙◌, subst, arith, List, Some, Result, IsOkAnd, cases_lt, FileMap, file_at, Limits, FeedFault, DelayLists, FeedParts}
+use Rattle.journey_problem.proofs.Common.{ServiceParts, runs, Calendars, RunsBy, ChangeParts, AreCollectedChanges, place_seconds, links_of, place_of_stop, IsNetworkFrom, JourneyModel}
+use Rattle.journey_problem.proofs.{Common.{source_or_target, Problem, AreDelaysOf, GtfsFolder, IsFolder, IsFeedProblem, window_fault_of}, OneCutProblem.delays_of_one, OneFeed.one_feed_of}
+use Rattle.journey_problem.proofs.{SameProblem.same_problem, OneWindow.{SameDays, same_count, same_entries, one_window}}
 use Rattle.std.proofs.lemmas.List.{get_or_past}
 use Rattle.table_files.specs.Loading.{Records}
-use Rattle.journey_problem.proofs.OneCutProblem.{delays_of_one}
-use Rattle.journey_problem.proofs.OneFeed.{one_feed_of}
-use Rattle.journey_problem.proofs.SameProblem.{same_problem}
-use Rattle.journey_problem.proofs.OneWindow.{SameDays, same_count, same_entries, one_window}
 
 -- two folders as they are read: one feed, services that run on the same days, and the same change times and links
 pub record SameGtfsFolder (g h : GtfsFolder) : Type 0 where

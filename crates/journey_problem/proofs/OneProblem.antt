@@ -1,8 +1,6 @@
 -- A journey over the same files has one problem, and the timetable does not depend on where it begins.
-use Rattle.journey_problem.proofs.Common.{arith, ◌≡◌, Option, List, ℕ, FileMap, Limits, SourceModel, JourneyModel, Problem, IsProblem, IsProblemOver}
-use Rattle.journey_problem.proofs.OneCutProblem.{one_cut_problem, one_cut_network, one_cut_names, one_cut_stop}
-use Rattle.journey_problem.proofs.OneFeedProblem.{one_feed_problem, one_feed_timetable, one_feed_stop}
-use Rattle.journey_problem.proofs.SameProblem.{same_timetable}
+use Rattle.journey_problem.proofs.{Common.{arith, ◌≡◌, Option, List, ℕ, FileMap, Limits, SourceModel, JourneyModel, Problem, IsProblem, IsProblemOver}, OneCutProblem.one_cut_problem}
+use Rattle.journey_problem.proofs.{OneCutProblem.{one_cut_network, one_cut_names, one_cut_stop}, OneFeedProblem.{one_feed_problem, one_feed_timetable, one_feed_stop}, SameProblem.same_timetable}
 
 over : (limits : Limits) (files : FileMap) (timetable : SourceModel) (j : JourneyModel) (p q : _) → IsProblemOver limits files timetable j p → IsProblemOver limits files timetable j q → p ≡ q
 over limits files timetable j p q a b = grind (arith, one_cut_problem, one_feed_problem)

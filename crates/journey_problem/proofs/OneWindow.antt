@@ -4,10 +4,8 @@ use Rattle.journey_problem.proofs.Common.{same_parts, ChangeParts, place_seconds
 use Rattle.plan_model.specs.declared.model.Way.{Way}
 use Rattle.csv_rows.specs.Lists.{list_below}
 use Rattle.clock_text.proofs.OneDate.{one_date}
-use Rattle.connections.specs.Window.{window_of}
-use Rattle.connections.specs.TripRuns.{day_runs, runs_below, window_runs, run_at}
-use Rattle.connections.specs.Counts.{day_sum, days_sum, window_sum}
-use Rattle.connections.specs.FeedNetworks.{start_text, IsRunName, AreRunNames, connections_below}
+use Rattle.connections.specs.{Window.window_of, TripRuns.{day_runs, runs_below, window_runs, run_at}, Counts.{day_sum, days_sum, window_sum}, FeedNetworks.{start_text, IsRunName, AreRunNames}}
+use Rattle.connections.specs.FeedNetworks.{connections_below}
 
 -- they run on the same days
 abbrev pub SameDays : ServiceParts → ServiceParts → Type 0

@@ -1,25 +1,18 @@
 -- Files that agree at the paths of a journey, or have the same records there, have the same problems and the same faults.
-use Rattle.journey_problem.proofs.Common.{◌≡◌, ℕ, ◌≤◌, ap, sym, subst, ◌∙◌, List, length, false, if◌then◌else◌, Option, None, Result, Err, IfSome, IsOkAnd, option_map, inl, inr, fun_ext}
-use Rattle.journey_problem.proofs.Common.{FileMap, file_at, Limits, path_of, unread_table, FeedFault, FeedParts, tables_in, tables_from, IsFeedOf, calendars_in, RunsBy, runs, AreCollectedChanges}
-use Rattle.journey_problem.proofs.Common.{table_of, SourceModel, CutFile, FeedFolder, JourneyModel, Problem, Fault, Delays, Input, unread_input, DelayLists, AreDelaysOf}
-use Rattle.journey_problem.proofs.Common.{delay_fault, first_cut_fault, first_delay_fault, fault_in, cut_as, stop_fault, cut_records, delay_records, cut_problem_fault, Records, bytes_present, path_by}
-use Rattle.journey_problem.proofs.Common.{arith, GtfsFolder, IsFolder, IsFeedProblem, IsCutProblem, IsFolderFault, IsLaterTableFault, IsFaultAfterFolder, IsFeedProblemFault, IsProblem, IsProblemOver}
+use Rattle.journey_problem.proofs.Common.{◌≡◌, ℕ, ◌≤◌, ap, sym, subst, ◌∙◌, List, length, false, if◌then◌else◌, Option, None, Result, Err, IfSome, IsOkAnd, option_map, inl, inr, fun_ext, FileMap}
+use Rattle.journey_problem.proofs.Common.{file_at, Limits, path_of, unread_table, FeedFault, FeedParts, tables_in, tables_from, IsFeedOf, calendars_in, RunsBy, runs, AreCollectedChanges}
+use Rattle.journey_problem.proofs.Common.{table_of, SourceModel, CutFile, FeedFolder, JourneyModel, Problem, Fault, Delays, Input, unread_input, DelayLists, AreDelaysOf, delay_fault}
+use Rattle.journey_problem.proofs.Common.{first_cut_fault, first_delay_fault, fault_in, cut_as, stop_fault, cut_records, delay_records, cut_problem_fault, Records, bytes_present, path_by, arith}
+use Rattle.journey_problem.proofs.Common.{GtfsFolder, IsFolder, IsFeedProblem, IsCutProblem, IsFolderFault, IsLaterTableFault, IsFaultAfterFolder, IsFeedProblemFault, IsProblem, IsProblemOver}
 use Rattle.journey_problem.proofs.Common.{IsProblemFault, IsProblemFaultOver}
-use Rattle.std.proofs.Common.{ap₂, nat_lt}
-use Rattle.std.proofs.lemmas.Bool.Decides.{nat_tests}
+use Rattle.journey_problem.specs.{CutProblems.places_in, Files.{AgreeAt, ReadAlikeAt, HaveSameRecords, records_of, with_header}, Paths.{AgreeFor, ReadAlike, no_path}}
+use Rattle.std.proofs.{Common.{ap₂, nat_lt}, lemmas.Bool.Decides.nat_tests}
 use Rattle.std.specs.Option.{option_or}
-use Rattle.csv_rows.specs.declared.feed_tables.Table.{Table}
-use Rattle.csv_rows.specs.declared.feed_tables.Table.TheVariants.{Transfers}
-use Rattle.csv_rows.specs.declared.feed_tables.FeedFault.TheVariants.{Read as UnreadTable}
-use Rattle.csv_rows.specs.FeedTables.{is_unread_table}
+use Rattle.csv_rows.specs.{declared.feed_tables.{Table.{Table, TheVariants.Transfers}, FeedFault.TheVariants.Read as UnreadTable}, FeedTables.is_unread_table}
 use Rattle.plan_model.specs.Results.{and_then}
-use Rattle.table_files.specs.declared.loading.Loaded.{Loaded}
-use Rattle.table_files.specs.Loading.{load_of, loaded_file}
+use Rattle.table_files.specs.{declared.loading.Loaded.Loaded, Loading.{load_of, loaded_file}}
 use Rattle.change_times.specs.Changes.{transfers_from, transfers_in}
 use Rattle.journey_model.specs.declared.faults.Input.TheVariants as input
-use Rattle.journey_problem.specs.CutProblems.{places_in}
-use Rattle.journey_problem.specs.Files.{AgreeAt, ReadAlikeAt, HaveSameRecords, records_of, with_header}
-use Rattle.journey_problem.specs.Paths.{AgreeFor, ReadAlike, no_path}
 
 agree_some : (path : Option (List ℕ)) (files other : FileMap) → ((path : List ℕ) → file_at files path ≡ file_at other path) → IfSome path (λ at. file_at files at ≡ file_at other at)
 agree_some path files other same = grind arith

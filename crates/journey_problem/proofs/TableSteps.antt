@@ -1,12 +1,10 @@
 -- The steps of reading a cut file and a delay file, put together.
-use Rattle.journey_problem.proofs.Common.{arith, ◌≡◌, ℕ, List, Option, Some, None, Result, Ok, option_map, sym, ap, ◌∙◌, ◌≢◌, ◌≤◌, table_of, Limits, first_cut_fault, CutParts, IsCutRead, delays_of}
-use Rattle.journey_problem.proofs.Common.{first_delay_fault, DelayLists, Fault, Delays, NoMemory, IsFirst, unread_input, Records, cut_as, fault_in, cut_fault, cut_records, delay_records, delay_fault}
-use Rattle.journey_problem.proofs.Common.{IsCutOf, IsCutOfSome, AreDelaysOf}
+use Rattle.journey_problem.proofs.Common.{arith, ◌≡◌, ℕ, List, Option, Some, None, Result, Ok, option_map, sym, ap, ◌∙◌, ◌≢◌, ◌≤◌, table_of, Limits, first_cut_fault, CutParts, IsCutRead}
+use Rattle.journey_problem.proofs.Common.{delays_of, first_delay_fault, DelayLists, Fault, Delays, NoMemory, IsFirst, unread_input, Records, cut_as, fault_in, cut_fault, cut_records}
+use Rattle.journey_problem.proofs.Common.{delay_records, delay_fault, IsCutOf, IsCutOfSome, AreDelaysOf}
 use Rattle.csv_rows.specs.Limits.{standard}
-use Rattle.cut_file.specs.declared.faults.CutFault.{CutFault}
-use Rattle.cut_file.specs.declared.faults.CutFault.TheVariants.{NoMemory as CutMemory}
-use Rattle.delay_table.specs.declared.faults.DelayFault.{DelayFault}
-use Rattle.delay_table.specs.declared.faults.DelayFault.TheVariants.{NoMemory as DelayMemory}
+use Rattle.cut_file.specs.declared.faults.CutFault.{CutFault, TheVariants.NoMemory as CutMemory}
+use Rattle.delay_table.specs.declared.faults.DelayFault.{DelayFault, TheVariants.NoMemory as DelayMemory}
 
 -- a table that was read with no fault
 pub cut_of_some : (table : Records) (parts : CutParts) (text : List ℕ) (limit : ℕ) → table ≡ table_of text → limit ≤ standard.cut_rows

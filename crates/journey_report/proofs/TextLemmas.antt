@@ -1,14 +1,10 @@
 -- The rows of a trip.
-use Rattle.journey_report.proofs.Common.{◌≡◌, ℕ, ◌+◌, ◌<◌, ◌≤◌, List, [], ◌∷◌, ◌++◌, length, drop, Bool, true, arith, refl, sym, ap, ◌∙◌, All, ◌==◌, ◌||◌, append-nil, at_drop_all}
-use Rattle.journey_report.proofs.Common.{NetworkModel, NameLists, Ridden, rides_text, arrived_text}
+use Rattle.journey_report.proofs.Common.{◌≡◌, ℕ, ◌+◌, ◌<◌, ◌≤◌, List, [], ◌∷◌, ◌++◌, length, drop, Bool, true, arith, refl, sym, ap, ◌∙◌, All, ◌==◌, ◌||◌, append-nil, at_drop_all, NetworkModel}
+use Rattle.journey_report.proofs.Common.{NameLists, Ridden, rides_text, arrived_text}
 use Rattle.std.specs.List.{list_any}
-use Rattle.std.proofs.lemmas.Bool.Decides.{nat_tests}
-use Rattle.std.proofs.lemmas.List.Elements.{All-head, All-tail}
-use Rattle.plan_model.specs.declared.model.Outcome.{Outcome}
-use Rattle.plan_model.specs.Network.{connection, IsValid}
-use Rattle.plan_model.specs.Bounds.{seconds_per_day}
+use Rattle.std.proofs.lemmas.{Bool.Decides.nat_tests, List.Elements.{All-head, All-tail}}
+use Rattle.plan_model.specs.{declared.model.{Outcome.Outcome, Moment.Moment}, Network.{connection, IsValid}, Bounds.seconds_per_day}
 use Rattle.trip_replay.specs.Rides.{IsRidden, arrival_after, place_after}
-use Rattle.plan_model.specs.declared.model.Moment.{Moment}
 use Rattle.journey_model.specs.Sites.{last_printable}
 
 delay_at : (o : Outcome) (row : List Outcome) (d : ℕ) (b : Bool) → (o.delay == d) ≡ b → o.delay ≤ seconds_per_day → (list_any (λ x. x.delay == d) row ≡ true → d ≤ seconds_per_day)

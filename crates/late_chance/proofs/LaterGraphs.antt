@@ -1,17 +1,12 @@
 -- A graph for a view, with all moments greater by the shift, is one for the network.
 use Rattle.late_chance.proofs.Common.{◌≡◌, ℕ, ◌+◌, ◌<◌, ◌≤◌, Option, Some, None, List, [], ◌∷◌, length, map, All, Contains, refl, sym, ap, ◌∙◌, subst, inl, inr, arith, MatchOption, length-map}
 use Rattle.late_chance.proofs.Common.{Outcome, Query, NetworkModel, from_of, dep_of, outcomes, Tree, Done, Ride, Stuck, Kids, Nil, Kid, IsSafe, AreSafe, IsSafeFromStart, IsSafeFor, later_by}
-use Rattle.late_chance.proofs.Common.{all_later_by, limit_of-some, way_takes, earlier_by-is, seen, leg_there, departs, same_way, start_there, GraphRow, PlanGraph, IsFitRow, IsFitTable, IsFitStart}
-use Rattle.late_chance.proofs.Common.{IsFit, IsPickedIn, IsTidy, unfold_plan, later_row, later_table, later_graph, later_query, IsShown, LaterAlike}
+use Rattle.late_chance.proofs.Common.{all_later_by, limit_of-some, way_takes, earlier_by-is, seen, leg_there, departs, same_way, start_there, GraphRow, PlanGraph, IsFitRow, IsFitTable}
+use Rattle.late_chance.proofs.Common.{IsFitStart, IsFit, IsPickedIn, IsTidy, unfold_plan, later_row, later_table, later_graph, later_query, IsShown, LaterAlike}
 use Rattle.std.proofs.lemmas.List.Elements.{All-map, All-weaker}
-use Rattle.plan_model.specs.declared.model.Leg.{Leg}
-use Rattle.plan_model.specs.Ways.{limit_of}
-use Rattle.plan_model.specs.Unfold.{end_of, arrival_of, by_place}
-use Rattle.plan_model.proofs.LaterTrees.{same_end, same_arrival, same_row, unfold_from-later}
-use Rattle.plan_graph.specs.declared.PlaceTable.{PlaceTable}
-use Rattle.plan_graph.specs.Unfold.{pick_row, pick_at, rows_of_place}
-use Rattle.plan_graph.specs.Ready.{IsLegOf, Stands, StandsIn, IsFirstInTime}
-use Rattle.plan_model.proofs.Lists.{AllPairs-map}
+use Rattle.plan_model.specs.{declared.model.Leg.Leg, Ways.limit_of, Unfold.{end_of, arrival_of, by_place}}
+use Rattle.plan_model.proofs.{LaterTrees.{same_end, same_arrival, same_row, unfold_from-later}, Lists.AllPairs-map}
+use Rattle.plan_graph.specs.{declared.PlaceTable.PlaceTable, Unfold.{pick_row, pick_at, rows_of_place}, Ready.{IsLegOf, Stands, StandsIn, IsFirstInTime}}
 use Rattle.plan_graph.proofs.Picked.{picked_leg}
 
 -- what the later rows pick

@@ -1,9 +1,8 @@
 -- The least chance of being late in a view is that in the network.
-use Rattle.late_chance.proofs.Common.{◌≡◌, ℕ, ◌+◌, ◌≤◌, arith, Some, sym, ap, ◌∙◌, subst, Interval, Query, NetworkModel, certainty, Tree, IsSafeFor, late, LateBelow, LateCovers, later_by, start_back}
-use Rattle.late_chance.proofs.Common.{PlanGraph, unfold_plan, later_graph, later_query, IsShown, IsPunctual, PunctualAlike, rounded_up, rounded_down}
-use Rattle.plan_model.proofs.Later.{below-later, covers-later, late-later}
-use Rattle.late_chance.proofs.LaterGraphs.{alike}
+use Rattle.late_chance.proofs.Common.{◌≡◌, ℕ, ◌+◌, ◌≤◌, arith, Some, sym, ap, ◌∙◌, subst, Interval, Query, NetworkModel, certainty, Tree, IsSafeFor, late, LateBelow, LateCovers, later_by}
+use Rattle.late_chance.proofs.{Common.{start_back, PlanGraph, unfold_plan, later_graph, later_query, IsShown, IsPunctual, PunctualAlike, rounded_up, rounded_down}, LaterGraphs.alike}
 use Rattle.late_chance.proofs.Rounded.{up-later, down-later}
+use Rattle.plan_model.proofs.Later.{below-later, covers-later, late-later}
 
 module _ (n m : NetworkModel) (shift first : ℕ) (q : Query) (shown : IsShown n m shift first q) where
   abbrev Sooner : Tree → Type 0

@@ -1,8 +1,7 @@
 -- The shifted network is valid, and a view of the network.
 use Rattle.late_chance.proofs.Common.{◌≡◌, ℕ, ◌-◌, ◌<◌, ◌≤◌, refl, sym, ap, ◌∙◌, inl, inr, ⊎_elim, arith, leb-true, le-leb, length-map, get_or-map, NetworkModel, IsValid, IsValidConnection}
 use Rattle.late_chance.proofs.Common.{PrecedesByStep, count, connection, no_connection, dep_of, arr_of, run_of, step_of, change_of, row_of, IsSeen, IsView, shifted_connection, shifted_parts}
-use Rattle.std.proofs.Math.Logic.{∥∥₁_map}
-use Rattle.std.proofs.lemmas.Bool.{and_parts, and_from}
+use Rattle.std.proofs.{Math.Logic.∥∥₁_map, lemmas.Bool.{and_parts, and_from}}
 use Rattle.plan_model.specs.declared.model.Connection.{Connection}
 
 one_seen : (shift start : ℕ) → shift ≤ start → (c : Connection) → IsSeen shift start (shifted_connection shift start c) c

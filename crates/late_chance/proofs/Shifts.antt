@@ -1,10 +1,8 @@
 -- From a graph over the network that is seen for a promise to one over the network.
-use Rattle.late_chance.proofs.Common.{◌≡◌, ℕ, ◌+◌, ◌-◌, ◌<◌, ◌≤◌, ◌^◌, All, get_or, Some, subst, refl, arith, Interval, Query, end_of_arrivals, end_of_time, NetworkModel, IsValid, Tree, IsSafeFor}
-use Rattle.late_chance.proofs.Common.{later_by, limit_of-some, start_there, GraphRow, PlanGraph, IsTidy, IsFitRow, promised, SECONDS_PER_WEEK, later_graph, later_query, IsShown, IsPunctual}
-use Rattle.late_chance.proofs.Common.{PunctualAlike, IsAboutNetwork, shift_for, seen_for, asked_for}
+use Rattle.late_chance.proofs.Common.{◌≡◌, ℕ, ◌+◌, ◌-◌, ◌<◌, ◌≤◌, ◌^◌, All, get_or, Some, subst, refl, arith, Interval, Query, end_of_arrivals, end_of_time, NetworkModel, IsValid, Tree}
+use Rattle.late_chance.proofs.Common.{IsSafeFor, later_by, limit_of-some, start_there, GraphRow, PlanGraph, IsTidy, IsFitRow, promised, SECONDS_PER_WEEK, later_graph, later_query, IsShown}
+use Rattle.late_chance.proofs.{Common.{IsPunctual, PunctualAlike, IsAboutNetwork, shift_for, seen_for, asked_for}, SeenFrom.{valid, view}, Punctual.punctual_alike}
 use Rattle.plan_model.specs.declared.model.PlaceId.{PlaceId}
-use Rattle.late_chance.proofs.SeenFrom.{valid, view}
-use Rattle.late_chance.proofs.Punctual.{punctual_alike}
 
 same_query : (source target : PlaceId) (a b c d : ℕ) → a ≡ b → c ≡ d →
     ◌≡◌ {A = Query} (record { source = source; target = target; start = record { 0 = a }; deadline = record { 0 = c } })

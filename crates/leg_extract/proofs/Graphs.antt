@@ -1,28 +1,13 @@
 -- The graph of the rides that a scan's choices reach.
-use Rattle.std.proofs.Common.{arith}
-use Rattle.std.proofs.Common.{◌≡◌, ◌≢◌, ℕ, List, [], map, Option, Some, None, Contains, sym, subst, refl, inl, inr, ◌∙◌, ap, ◌==◌, if◌then◌else◌, MatchOption}
-use Rattle.std.proofs.Common.{option_map, ne_eqb, eq-eqb}
-use Rattle.std.proofs.lemmas.Bool.{cases_eq}
-use Rattle.std.proofs.lemmas.List.Elements.{All-contains}
-use Rattle.plan_model.specs.declared.model.Leg.{Leg}
-use Rattle.plan_model.specs.declared.model.Query.{Query}
-use Rattle.plan_model.specs.Network.{NetworkModel}
-use Rattle.plan_model.specs.Network.{IsValid, arr_of}
-use Rattle.plan_model.specs.Tree.{Tree}
-use Rattle.plan_model.specs.Strategy.{IsSafeFor}
-use Rattle.plan_model.specs.Ways.{IsKept}
-use Rattle.plan_model.specs.Unfold.{end_of, arrival_of, outcomes_of, by_place}
-use Rattle.plan_graph.specs.declared.GraphRow.{GraphRow}
-use Rattle.plan_graph.specs.declared.Ride.{Ride}
-use Rattle.plan_graph.specs.Ready.{IsLegOf, Stands}
-use Rattle.plan_graph.specs.Coherent.{Follows, IsSteady}
-use Rattle.plan_graph.specs.Walked.{IsWalked}
+use Rattle.std.proofs.Common.{arith, ◌≡◌, ◌≢◌, ℕ, List, [], map, Option, Some, None, Contains, sym, subst, refl, inl, inr, ◌∙◌, ap, ◌==◌, if◌then◌else◌, MatchOption, option_map, ne_eqb, eq-eqb}
+use Rattle.std.proofs.lemmas.{Bool.cases_eq, List.Elements.All-contains}
+use Rattle.plan_model.specs.{declared.model.{Leg.Leg, Query.Query}, Network.{NetworkModel, IsValid, arr_of}, Tree.Tree, Strategy.IsSafeFor, Ways.IsKept, Unfold.{end_of, arrival_of, outcomes_of}}
+use Rattle.plan_model.specs.Unfold.{by_place}
 use Rattle.plan_model.proofs.Lists.{All-from_contains}
-use Rattle.plan_graph.proofs.Tables.{table_away, table_there, by_for}
-use Rattle.plan_graph.proofs.Graphs.{IsKeptAfter, ready, busy, table_of_ride, picks_taken}
+use Rattle.plan_graph.specs.{declared.{GraphRow.GraphRow, Ride.Ride}, Ready.{IsLegOf, Stands}, Coherent.{Follows, IsSteady}, Walked.IsWalked}
+use Rattle.plan_graph.proofs.{Tables.{table_away, table_there, by_for}, Graphs.{IsKeptAfter, ready, busy, table_of_ride, picks_taken}}
 use Rattle.value_laws.specs.ScoreLaws.{Scoring}
-use Rattle.meat_scan.specs.ScanResult.{ScanResult, choice_of, leg_choice, chosen_by}
-use Rattle.meat_scan.specs.Solves.{HasAnswers, SolvesEach, IsSafeAt}
+use Rattle.meat_scan.specs.{ScanResult.{ScanResult, choice_of, leg_choice, chosen_by}, Solves.{HasAnswers, SolvesEach, IsSafeAt}}
 use Rattle.leg_extract.specs.Extracted.{IsExtracted, HasArrivals}
 
 module _ {V : Type 0} {scoring : Scoring V} (n : NetworkModel) (q : Query) (found : ScanResult V) (answers : HasAnswers scoring n q found) where

@@ -1,19 +1,14 @@
 -- What is accepted is a lower bound on each safe tree, and a tight certificate is the best.
 use Rattle.std.proofs.lemmas.Grind.{common_steps}
 use Rattle.lower_proof.proofs.Common.{◌≡◌, ◌≢◌, ℕ, ◌+◌, ◌*◌, ◌/◌, ◌^◌, ◌≤◌, List, [], ◌∷◌, Option, Some, None, arith, refl, map, length, sum_by, inl, inr, mul_assoc, mul-add, mul-le-mul_left}
-use Rattle.lower_proof.proofs.Common.{nat_tests, Outcome, Query, NetworkModel, to_of, arr_of, outcomes, IsValid, count, connection, dep_of, IsLeg, IsBoardable, IsBoardableAtStart, IsSafe, AreSafe}
-use Rattle.lower_proof.proofs.Common.{IsSafeFor, weighted, bound_of, IsLeastOf, Offers, arrived_by, IsLeastValue, IsLeastAt, AreLeast, HasValueUpTo, IsAccepted, IsLeastAtStart, IsVia, IsTight}
-use Rattle.lower_proof.proofs.Common.{cases_Bool, cases_eq, cases_lt, both_ways, sum_by-cons, forward, ◌<◌, IsTrue, get_or_past}
-use Rattle.plan_model.specs.Tree.{Tree, Kids, Done, Ride, Stuck, Nil, Kid}
-use Rattle.plan_model.specs.DelayRows.{EachKid, IsValidRow}
-use Rattle.plan_model.specs.Expected.{Below, arrival as arrival_of, Covers}
+use Rattle.lower_proof.proofs.Common.{nat_tests, Outcome, Query, NetworkModel, to_of, arr_of, outcomes, IsValid, count, connection, dep_of, IsLeg, IsBoardable, IsBoardableAtStart, IsSafe}
+use Rattle.lower_proof.proofs.Common.{AreSafe, IsSafeFor, weighted, bound_of, IsLeastOf, Offers, arrived_by, IsLeastValue, IsLeastAt, AreLeast, HasValueUpTo, IsAccepted, IsLeastAtStart, IsVia}
+use Rattle.lower_proof.proofs.{Common.{IsTight, cases_Bool, cases_eq, cases_lt, both_ways, sum_by-cons, forward, ◌<◌, IsTrue, get_or_past}, Leasts.{least_up_to, least_boardable, least_at_start}}
+use Rattle.lower_proof.proofs.{Leasts.least_is, Departures.{after, after_less, after_starts, after_le, in_time_of, HoldsBy, holds_by}, Vias.IsLeast-unique}
 use Rattle.lower_proof.specs.Promises.{IsSound, AreSoundValues, IsGreatestCertificate, IsNowhereAbove, IsBestCertificate}
-use Rattle.plan_model.specs.Bounds.{nanos_per_second}
+use Rattle.plan_model.specs.{Tree.{Tree, Kids, Done, Ride, Stuck, Nil, Kid}, DelayRows.{EachKid, IsValidRow}, Expected.{Below, arrival as arrival_of, Covers}, Bounds.nanos_per_second}
 use Rattle.plan_model.proofs.Laws.{below_less, covers_more}
 use Rattle.interval_fixed.proofs.Sums.{mean_below, mean_covers}
-use Rattle.lower_proof.proofs.Leasts.{least_up_to, least_boardable, least_at_start, least_is}
-use Rattle.lower_proof.proofs.Departures.{after, after_less, after_starts, after_le, in_time_of, HoldsBy, holds_by}
-use Rattle.lower_proof.proofs.Vias.{IsLeast-unique}
 
 pub at_most : (o : Option ℕ) (v : ℕ) → HasValueUpTo o v → (w : ℕ) × (o ≡ Some w) × (w ≤ v)
 at_most o v h = grind arith

@@ -1,9 +1,8 @@
 -- The deadline of a certificate that is read has a text.
-use Rattle.lower_proof.proofs.Common.{◌≡◌, ℕ, ◌≤◌, List, Option, Some, Ok, subst, ap, sym, ◌∙◌, nat_le, last_printable, header, require-ok, Query, NetworkModel, NameLists, field, whole_at, number_of, arith}
-use Rattle.lower_proof.proofs.Common.{is_query, if-value, BoundsRow, bounds_numbers, is_bounds, bounds_row_in, bounds_in, IsProofReported}
+use Rattle.lower_proof.proofs.Common.{◌≡◌, ℕ, ◌≤◌, List, Option, Some, Ok, subst, ap, sym, ◌∙◌, nat_le, last_printable, header, require-ok, Query, NetworkModel, NameLists, field, whole_at}
+use Rattle.lower_proof.proofs.Common.{number_of, arith, is_query, if-value, BoundsRow, bounds_numbers, is_bounds, bounds_row_in, bounds_in, IsProofReported}
 use Rattle.clock_text.specs.Times.{moment_at}
-use Rattle.clock_text.proofs.OneText.{if_cases, some_cases}
-use Rattle.clock_text.proofs.Range.{moment_range}
+use Rattle.clock_text.proofs.{OneText.{if_cases, some_cases}, Range.moment_range}
 use Rattle.plan_model.specs.declared.model.Moment.{Moment}
 
 by_numbers : (a b c : Option ℕ) (x : BoundsRow) → bounds_numbers a b c ≡ Some x → b ≡ Some x.deadline.0

@@ -1,6 +1,6 @@
 -- How many connections depart after a moment, and what holds of each least value, since it does where it holds of those after later departures.
-use Rattle.lower_proof.proofs.Common.{◌≡◌, ◌≢◌, ℕ, zero, suc, ◌+◌, ◌*◌, ◌<◌, ◌≤◌, cond, ltb, List, Option, Some, arith, refl, cases_eq, cases_lt, nat_tests, Query, NetworkModel}
-use Rattle.lower_proof.proofs.Common.{IsValid, count, dep_of, IsBoardable, boards_later, Offers, arrived_by, IsLeastAt}
+use Rattle.lower_proof.proofs.Common.{◌≡◌, ◌≢◌, ℕ, zero, suc, ◌+◌, ◌*◌, ◌<◌, ◌≤◌, cond, ltb, List, Option, Some, arith, refl, cases_eq, cases_lt, nat_tests, Query, NetworkModel, IsValid, count}
+use Rattle.lower_proof.proofs.Common.{dep_of, IsBoardable, boards_later, Offers, arrived_by, IsLeastAt}
 
 -- the sum of the first m
 abbrev total : (ℕ → ℕ) → ℕ → ℕ

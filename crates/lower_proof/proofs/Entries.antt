@@ -1,12 +1,11 @@
 -- The entries of a board, one connection and one way after the other, and in order.
 use Rattle.lower_proof.proofs.Common.{◌≡◌, ℕ, ◌+◌, ◌-◌, ◌<◌, ◌≤◌, ◌⊎◌, List, [], ◌∷◌, ◌++◌, length, get_or, set, reverse, slice_get, Some, IsTrue, arith, inl, inr, sym, ◌∙◌, ap, subst, refl}
 use Rattle.lower_proof.proofs.Common.{Ordering, is_lt, nat_cmp, IsPermutation, IsSorted, length-set, cases_lt, length_push, get_or-reverse, get_or_append_left, get_or_at, get_or_default}
-use Rattle.lower_proof.proofs.Common.{All-permutation, Contains-permutation, ranks_by, sorted_far, NetworkModel, IsValid, count, connection, from_of, dep_of, ways_into, IsBoardable, way_of-listed}
-use Rattle.lower_proof.proofs.Common.{listed-way_of, not_above, Entry, ShownBoard, entry_at, IsEntry, AreEntries, Falls, board_at, AreFresh, HaveEntries}
+use Rattle.lower_proof.proofs.Common.{All-permutation, Contains-permutation, ranks_by, sorted_far, NetworkModel, IsValid, count, connection, from_of, dep_of, ways_into, IsBoardable}
+use Rattle.lower_proof.proofs.{Common.{way_of-listed, listed-way_of, not_above, Entry, ShownBoard, entry_at, IsEntry, AreEntries, Falls, board_at, AreFresh, HaveEntries}, Minima.get_or-set}
 use Rattle.std.specs.Ordering.{ordering_then}
 use Rattle.std.proofs.lemmas.Cmp.{nat_cmp_total, on_total, then_total}
 use Rattle.plan_model.specs.declared.model.Way.{Way}
-use Rattle.lower_proof.proofs.Minima.{get_or-set}
 
 abbrev pub no_board : ShownBoard
 no_board = record { entries = []; least = [] }

@@ -1,13 +1,10 @@
 -- The least values of leaving the runs, over the connections that are scanned.
 use Rattle.std.proofs.lemmas.Grind.{common_steps}
 use Rattle.lower_proof.proofs.Common.{◌≡◌, ◌≢◌, ℕ, ◌<◌, ◌≤◌, List, [], ◌∷◌, ◌++◌, length, set, Option, Some, None, IsTrue, arith, inl, inr, sym, ◌∙◌, subst, refl, ◌+◌, length-set, ConnectionId}
-use Rattle.lower_proof.proofs.Common.{Query, NetworkModel, count, connection, dep_of, run_of, IsValid, to_of, arr_of, outcomes, IsLeg, IsBoardable, bound_of, IsLeastOf, IsVia, IsLocal, IsAccepted}
-use Rattle.lower_proof.proofs.Common.{IsLastFault, Offers, IsLeastAt, AreLeast, lesser, KeepsTo, exit_of, IsBestExit, Known, IsNext, forward, Departure, NoneAfter, AreDepartingBy, Outcome}
-use Rattle.lower_proof.proofs.Common.{boards_later}
-use Rattle.lower_proof.proofs.Minima.{get_or-set}
-use Rattle.lower_proof.proofs.Leasts.{least_with, least_same, least_is, IsLeastOf-unique, keeps_to_each, each_keeps_to}
-use Rattle.lower_proof.proofs.Vias.{least_via, no_via}
-use Rattle.lower_proof.proofs.Departing.{Late, IsRest, rest_first, rest_popped, next_popped, all_taken}
+use Rattle.lower_proof.proofs.Common.{Query, NetworkModel, count, connection, dep_of, run_of, IsValid, to_of, arr_of, outcomes, IsLeg, IsBoardable, bound_of, IsLeastOf, IsVia, IsLocal}
+use Rattle.lower_proof.proofs.Common.{IsAccepted, IsLastFault, Offers, IsLeastAt, AreLeast, lesser, KeepsTo, exit_of, IsBestExit, Known, IsNext, forward, Departure, NoneAfter, AreDepartingBy}
+use Rattle.lower_proof.proofs.{Common.{Outcome, boards_later}, Minima.get_or-set, Leasts.{least_with, least_same, least_is, IsLeastOf-unique, keeps_to_each, each_keeps_to}, Vias.least_via}
+use Rattle.lower_proof.proofs.{Vias.no_via, Departing.{Late, IsRest, rest_first, rest_popped, next_popped, all_taken}}
 
 -- one can leave the run by a known connection, for this value
 pub record LeavesBy (n : NetworkModel) (q : Query) (values : List (Option ℕ)) (last : ℕ) (taken : List ConnectionId) (run v : ℕ) : Type 0 where

@@ -1,7 +1,7 @@
 -- Least values of front parts, one entry after the other.
 use Rattle.lower_proof.proofs.Common.{◌≡◌, ◌≢◌, ℕ, ◌+◌, ◌-◌, ◌<◌, ◌≤◌, List, get_or, length, take, set, Option, Some, None, arith, get_or-set_other, get_or-set_same, length-take, get_or-take}
-use Rattle.lower_proof.proofs.Common.{cases_eq, cases_lt, Entry, bound_of, IsLeastOf, lesser, entry_at, Falls, FrontValue, ValueInTime, least_of, AreMinima, IsBoard}
-use Rattle.lower_proof.proofs.Leasts.{least_same, below_more}
+use Rattle.lower_proof.proofs.{Common.{cases_eq, cases_lt, Entry, bound_of, IsLeastOf, lesser, entry_at, Falls, FrontValue, ValueInTime, least_of, AreMinima, IsBoard}, Leasts.least_same}
+use Rattle.lower_proof.proofs.Leasts.{below_more}
 
 -- what holds of the elements of a list by their positions, after one is set
 pub get_or-set : {A : Type 0} (P : ℕ → A → Type 0) (xs : List A) (i j : ℕ) (x d : A) → i < length xs → P i x → (j ≢ i → P j (get_or xs j d))

@@ -1,16 +1,13 @@
 -- What was printed of a certificate is read back, and how its rows are printed one after another.
 use Rattle.std.proofs.lemmas.Grind.{common_steps}
-use Rattle.lower_proof.proofs.Common.{◌≡◌, ◌≢◌, ℕ, zero, suc, ◌+◌, ◌<◌, ◌≤◌, ◌^◌, true, List, [], ◌∷◌, length, Option, Some, None, Ok, Err, Result, arith, inl, inr, sym, ◌∙◌, ap, subst, refl, ◌++◌}
-use Rattle.lower_proof.proofs.Common.{drop, cond, is_some, codes, decimal, slice_index_or, count_by, option_map, ext_get_or, append-nil, eq-eqb, lt-ltb, le-leb, IfOk, OnOk, result_err, max-le}
-use Rattle.lower_proof.proofs.Common.{sum_by-cons, drop_all, cases_eq, last_printable, table_of, Query, NetworkModel, NameLists, NamesFit, AreNames, IsValid, count, step_of, rises}
+use Rattle.lower_proof.proofs.Common.{◌≡◌, ◌≢◌, ℕ, zero, suc, ◌+◌, ◌<◌, ◌≤◌, ◌^◌, true, List, [], ◌∷◌, length, Option, Some, None, Ok, Err, Result, arith, inl, inr, sym, ◌∙◌, ap, subst, refl}
+use Rattle.lower_proof.proofs.Common.{◌++◌, drop, cond, is_some, codes, decimal, slice_index_or, count_by, option_map, ext_get_or, append-nil, eq-eqb, lt-ltb, le-leb, IfOk, OnOk, result_err}
+use Rattle.lower_proof.proofs.Common.{max-le, sum_by-cons, drop_all, cases_eq, last_printable, table_of, Query, NetworkModel, NameLists, NamesFit, AreNames, IsValid, count, step_of, rises}
 use Rattle.lower_proof.proofs.Common.{row_of_fields, text_of_records, text_step, split_at, LowerBounds, BoundsRow, ValueRow, ProofFault, bound_of, bounds_record, value_record, value_records}
 use Rattle.lower_proof.proofs.Common.{certificate_text, entry_text, bounds_in, value_row_in, connection_in, nanos_in, reported_in, value_row, connection_before, value_fault, AreValuesReported}
 use Rattle.lower_proof.proofs.Common.{IsProofReported, IsProofRead, IsReadBack, AllFit}
-use Rattle.clock_text.proofs.Walk.{text_reports}
-use Rattle.clock_text.proofs.NanosLemmas.{nanos_report}
-use Rattle.printed_rows.proofs.Found.{connection_back}
-use Rattle.printed_rows.proofs.Plain.{moment_kept, nanos_kept, decimal_kept, whole_back}
-use Rattle.printed_rows.proofs.Names.{place_kept, run_kept, place_back, run_back, step_kept, step_back}
+use Rattle.clock_text.proofs.{Walk.text_reports, NanosLemmas.nanos_report}
+use Rattle.printed_rows.proofs.{Found.connection_back, Plain.{moment_kept, nanos_kept, decimal_kept, whole_back}, Names.{place_kept, run_kept, place_back, run_back, step_kept, step_back}}
 use Rattle.printed_rows.proofs.Printed.{IsKept, AreKept, seven_kept, four_kept, table_back}
 
 -- two facts of one result

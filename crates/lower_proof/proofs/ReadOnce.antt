@@ -1,8 +1,8 @@
 -- A text gives one certificate, or has one first fault, and that is never that memory ran out.
-use Rattle.lower_proof.proofs.Common.{◌≡◌, ◌≢◌, ℕ, zero, suc, ◌+◌, ◌<◌, ◌⊎◌, Bool, List, Option, Some, None, Ok, Err, Result, arith, inl, inr, sym, ◌∙◌, ap, subst, ext_get_or}
-use Rattle.lower_proof.proofs.Common.{if◌then◌else◌, result_err, cases_eq, cases_lt, cases_order, row_count, header, Query, NetworkModel, NameLists}
-use Rattle.lower_proof.proofs.Common.{LowerBounds, BoundsRow, RowValue, ProofFault, Row, NoMemory, bound_of, bounds_row_in, bounds_in}
-use Rattle.lower_proof.proofs.Common.{value_row_in, connection_in, reported_in, value_row, connection_before, IsFirstLineFault, IsFaultAfter, AreValuesReported, IsProofReported, IsProofRead}
+use Rattle.lower_proof.proofs.Common.{◌≡◌, ◌≢◌, ℕ, zero, suc, ◌+◌, ◌<◌, ◌⊎◌, Bool, List, Option, Some, None, Ok, Err, Result, arith, inl, inr, sym, ◌∙◌, ap, subst, ext_get_or, if◌then◌else◌}
+use Rattle.lower_proof.proofs.Common.{result_err, cases_eq, cases_lt, cases_order, row_count, header, Query, NetworkModel, NameLists, LowerBounds, BoundsRow, RowValue, ProofFault, Row, NoMemory}
+use Rattle.lower_proof.proofs.Common.{bound_of, bounds_row_in, bounds_in, value_row_in, connection_in, reported_in, value_row, connection_before, IsFirstLineFault, IsFaultAfter}
+use Rattle.lower_proof.proofs.Common.{AreValuesReported, IsProofReported, IsProofRead}
 use Rattle.plan_model.specs.Results.{require}
 
 -- ---- memory is enough for each line

@@ -1,8 +1,8 @@
 -- What is read of the value rows so far.
-use Rattle.lower_proof.proofs.Common.{◌≡◌, ◌≢◌, ℕ, suc, ◌+◌, ◌<◌, ◌≤◌, ◌⊎◌, true, List, length, set, Option, Some, None, Ok, Err, Result, arith, inl, inr, sym, ◌∙◌, ap, subst, refl, get_or-set_other}
-use Rattle.lower_proof.proofs.Common.{get_or-set_same, max, option_and_then, lt-ltb, ltb-true, le-ltb, length-set, result_err, le-max_left, cases_lt, get_or_past, row_count, require-ok}
-use Rattle.lower_proof.proofs.Common.{if-value, NetworkModel, NameLists, count, field, number_of, connection_of, rises, ValueRow, RowValue, ProofFault, Row, bound_of, value_row_in, connection_in}
-use Rattle.lower_proof.proofs.Common.{nanos_in, reported_in, value_row, connection_before, value_fault, IsFirstLineFault, AreValuesReported}
+use Rattle.lower_proof.proofs.Common.{◌≡◌, ◌≢◌, ℕ, suc, ◌+◌, ◌<◌, ◌≤◌, ◌⊎◌, true, List, length, set, Option, Some, None, Ok, Err, Result, arith, inl, inr, sym, ◌∙◌, ap, subst, refl}
+use Rattle.lower_proof.proofs.Common.{get_or-set_other, get_or-set_same, max, option_and_then, lt-ltb, ltb-true, le-ltb, length-set, result_err, le-max_left, cases_lt, get_or_past, row_count}
+use Rattle.lower_proof.proofs.Common.{require-ok, if-value, NetworkModel, NameLists, count, field, number_of, connection_of, rises, ValueRow, RowValue, ProofFault, Row, bound_of, value_row_in}
+use Rattle.lower_proof.proofs.Common.{connection_in, nanos_in, reported_in, value_row, connection_before, value_fault, IsFirstLineFault, AreValuesReported}
 
 -- ---- a row that is well formed
 

@@ -1,10 +1,8 @@
 -- The value of leaving by a connection.
-use Rattle.std.proofs.lemmas.Grind.{common_steps}
+use Rattle.std.proofs.{lemmas.Grind.common_steps, Math.Seq.drop-cons}
 use Rattle.lower_proof.proofs.Common.{◌≡◌, ℕ, zero, suc, ◌+◌, ◌*◌, ◌/◌, ◌<◌, ◌≤◌, List, [], ◌∷◌, ◌++◌, length, take, drop, get_or, Option, Some, None, IsTrue, arith, sym, ◌∙◌, ap, subst, refl}
-use Rattle.lower_proof.proofs.Common.{sum_by, mul-le-mul_left, mul-add, mul_comm, cases_eq, take_more, sum_by-cons, Outcome, Query, NetworkModel, IsValid, count, connection, to_of, arr_of, outcomes}
-use Rattle.lower_proof.proofs.Common.{boards_later, weighted, IsLeastOf, IsLeastValue, IsLeastAt, AreLeast, IsVia, NoneAfter}
-use Rattle.std.proofs.Math.Seq.{drop-cons}
-use Rattle.lower_proof.proofs.Leasts.{IsLeastOf-unique}
+use Rattle.lower_proof.proofs.Common.{sum_by, mul-le-mul_left, mul-add, mul_comm, cases_eq, take_more, sum_by-cons, Outcome, Query, NetworkModel, IsValid, count, connection, to_of, arr_of}
+use Rattle.lower_proof.proofs.{Common.{outcomes, boards_later, weighted, IsLeastOf, IsLeastValue, IsLeastAt, AreLeast, IsVia, NoneAfter}, Leasts.IsLeastOf-unique}
 
 -- there is only one least value
 pub IsLeast-unique : (n : NetworkModel) (q : Query) (values : List (Option ℕ)) (Boards : ℕ → Type 0) (p x : ℕ) (r s : Option ℕ) → IsLeastValue n q values Boards p x r

@@ -2,11 +2,8 @@
 use Rattle.lower_proof.proofs.Common.{◌≡◌, ◌≢◌, ℕ, ◌+◌, ◌<◌, ◌≤◌, List, length, set, Option, Some, [], arith, inl, inr, sym, ◌∙◌, ap, subst, ◌∷◌, ◌++◌, None, IsTrue, Bool, cond, refl}
 use Rattle.lower_proof.proofs.Common.{get_or-set_other, length-set, cases_lt, Query, NetworkModel, count, dep_of, IsValid, connection, arr_of, run_of, IsBoardable, Entry, Departure, bound_of}
 use Rattle.lower_proof.proofs.Common.{IsLeastOf, Offers, IsLeastAt, IsTight, ShownBoard, entry_at, AreEntries, FrontValue, ValueInTime, least_of, NoneAfter, AreDepartingBy, AreLate, IsBoard}
-use Rattle.lower_proof.proofs.Common.{board_at, IsBoardOf, AreBoards, AllLate, boards_later, ConnectionId, exit_of, IsBestExit, Known, known_left_out}
-use Rattle.lower_proof.proofs.Minima.{get_or-set}
-use Rattle.lower_proof.proofs.Entries.{no_board}
-use Rattle.lower_proof.proofs.Leasts.{least_same}
-use Rattle.lower_proof.proofs.Exits.{Agree, Rides, IsScanned, scanned_first, scanned_is_next, scanned_next, best_ride, none_rides, rides_agree, scanned_agrees}
+use Rattle.lower_proof.proofs.{Common.{board_at, IsBoardOf, AreBoards, AllLate, boards_later, ConnectionId, exit_of, IsBestExit, Known, known_left_out}, Minima.get_or-set, Entries.no_board}
+use Rattle.lower_proof.proofs.{Leasts.least_same, Exits.{Agree, Rides, IsScanned, scanned_first, scanned_is_next, scanned_next, best_ride, none_rides, rides_agree, scanned_agrees}}
 use Rattle.lower_proof.proofs.Departing.{Late, all_taken}
 
 -- the least value in time is the least value after the arrival

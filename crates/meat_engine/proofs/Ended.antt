@@ -1,11 +1,11 @@
 -- A question about a problem ends as the problem says.
 use Rattle.meat_engine.proofs.Common.{arith, ◌≡◌, ℕ, ap, subst, inl, inr, List, Option, Some, ◌⊎◌, FileMap, Limits, JourneyModel, AskModel, Safe, Expand, Plan, Replays, Certify, CheckProof}
-use Rattle.meat_engine.proofs.Common.{CheckGraph, Punctual, Departures, Latest, Reach, Input, Fault, Read, status_of, NamedParts, Problem, IsProblem, IsProblemFault, none_unread, IsQueryOf, IsNoSafe}
-use Rattle.meat_engine.proofs.Common.{AnswersAsk, FailsAsk, EndsAsk, FailsJourney, FailsCheck, FailsReplay, FailsScore, EndsBySafety, EndsByGraphFile, EndsByCertificateFile, EndsByScore, Findings}
-use Rattle.plan_model.specs.declared.model.Query.{Query}
-use Rattle.plan_model.specs.declared.model.Moment.{Moment}
-use Rattle.journey_model.specs.declared.faults.Input.TheVariants as input
+use Rattle.meat_engine.proofs.Common.{CheckGraph, Punctual, Departures, Latest, Reach, Input, Fault, Read, status_of, NamedParts, Problem, IsProblem, IsProblemFault, none_unread, IsQueryOf}
+use Rattle.meat_engine.proofs.Common.{IsNoSafe, AnswersAsk, FailsAsk, EndsAsk, FailsJourney, FailsCheck, FailsReplay, FailsScore, EndsBySafety, EndsByGraphFile, EndsByCertificateFile}
+use Rattle.meat_engine.proofs.Common.{EndsByScore, Findings}
+use Rattle.plan_model.specs.declared.model.{Query.Query, Moment.Moment}
 use Rattle.journey_problem.proofs.OneProblem.{one_problem}
+use Rattle.journey_model.specs.declared.faults.Input.TheVariants as input
 
 module _ (p : Problem) (start : ℕ) where
   -- a journey with a query has a safe strategy

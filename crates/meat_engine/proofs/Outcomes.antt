@@ -1,7 +1,7 @@
 -- What a run comes to.
-use Rattle.meat_engine.proofs.Common.{arith, ◌≡◌, ℕ, List, Option, Some, None, Ok, inl, inr, sym, subst, ⊎_elim, ◌≢◌, ◌⊎◌, Keeps, FileMap, Limits, AskModel, JobModel, job_of, Input, Fault}
-use Rattle.meat_engine.proofs.Common.{Read, Write, NoMemory, line_of, IsFormatted, NamedParts, Problem, Report, FailsAsk, Findings, findings_of, no_findings, AnswersJob, Appends}
-use Rattle.meat_engine.proofs.Common.{AppendsFront, HasAnswer, FailsJob, IsExplained, IsRefused, IsRefusedWith, IsWritten, IsLineWritten, Outcome}
+use Rattle.meat_engine.proofs.Common.{arith, ◌≡◌, ℕ, List, Option, Some, None, Ok, inl, inr, sym, subst, ⊎_elim, ◌≢◌, ◌⊎◌, Keeps, FileMap, Limits, AskModel, JobModel, job_of, Input, Fault, Read}
+use Rattle.meat_engine.proofs.Common.{Write, NoMemory, line_of, IsFormatted, NamedParts, Problem, Report, FailsAsk, Findings, findings_of, no_findings, AnswersJob, Appends, AppendsFront}
+use Rattle.meat_engine.proofs.Common.{HasAnswer, FailsJob, IsExplained, IsRefused, IsRefusedWith, IsWritten, IsLineWritten, Outcome}
 use Rattle.std.proofs.lemmas.Option.{same_Some}
 
 pub no_memory_or_not : (fault : Fault) → (fault ≡ NoMemory) ⊎ (fault ≢ NoMemory)

@@ -1,11 +1,9 @@
 -- A run by its steps.
-use Rattle.meat_engine.proofs.Common.{◌≡◌, ◌<◌, ℕ, arith, List, Option, Some, None, Ok, ◌≢◌, IsSome, Keeps, Rose, RoseAt, FilesState, Limits, JobModel, job_of, Input, Fault, Read, Write, NoMemory}
-use Rattle.meat_engine.proofs.Common.{status_of, line_of, NamedParts, Report, Findings, findings_of, no_findings, AnswersJob, IsExplained, IsRefusedWith, IsWritten, Outcome, path_in}
-use Rattle.std.proofs.lemmas.Option.{same_Some}
+use Rattle.meat_engine.proofs.Common.{◌≡◌, ◌<◌, ℕ, arith, List, Option, Some, None, Ok, ◌≢◌, IsSome, Keeps, Rose, RoseAt, FilesState, Limits, JobModel, job_of, Input, Fault, Read, Write}
+use Rattle.meat_engine.proofs.Common.{NoMemory, status_of, line_of, NamedParts, Report, Findings, findings_of, no_findings, AnswersJob, IsExplained, IsRefusedWith, IsWritten, Outcome, path_in}
+use Rattle.meat_engine.proofs.{Outcomes.{keeps_same, refused_outcome, answered_outcome, refused_some, refused_is, refused_read}, Statuses.complete, Undisturbed.one_job}
 use Rattle.meat_engine.specs.RunPromises.{SinkState, WritesLine, IsRun}
-use Rattle.meat_engine.proofs.Outcomes.{keeps_same, refused_outcome, answered_outcome, refused_some, refused_is, refused_read}
-use Rattle.meat_engine.proofs.Statuses.{complete}
-use Rattle.meat_engine.proofs.Undisturbed.{one_job}
+use Rattle.std.proofs.lemmas.Option.{same_Some}
 
 -- what a run that is refused promises
 module _ (limits : Limits) (words : List (List ℕ)) (report : Report) (before after : FilesState) (out err err_after : SinkState)

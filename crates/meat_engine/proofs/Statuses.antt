@@ -1,13 +1,11 @@
 -- The status of a call, by what it comes to.
-use Rattle.meat_engine.proofs.Common.{◌≡◌, ℕ, ap, sym, ◌∙◌, subst, inl, inr, List, Option, Some, None, Ok, ◌≢◌, ◌⊎◌, FileMap, Limits, JourneyModel, AskModel, Plan, Ask, Sample, job_of, Input, arith}
-use Rattle.meat_engine.proofs.Common.{Fault, Read, NoMemory, status_of, IsUndisturbed, NamedParts, Problem, IsProblem, IsProblemFault, IsFaultless, no_fault, Report, EndsAsk, EndsBySafety}
-use Rattle.meat_engine.proofs.Common.{findings_of, Outcome, sample_journey, sample_alpha, FailsSample}
+use Rattle.meat_engine.proofs.Common.{◌≡◌, ℕ, ap, sym, ◌∙◌, subst, inl, inr, List, Option, Some, None, Ok, ◌≢◌, ◌⊎◌, FileMap, Limits, JourneyModel, AskModel, Plan, Ask, Sample, job_of, Input}
+use Rattle.meat_engine.proofs.Common.{arith, Fault, Read, NoMemory, status_of, IsUndisturbed, NamedParts, Problem, IsProblem, IsProblemFault, IsFaultless, no_fault, Report, EndsAsk, EndsBySafety}
+use Rattle.meat_engine.proofs.{Common.{findings_of, Outcome, sample_journey, sample_alpha, FailsSample}, Ended.{asked_ends, answers_end, EndsOver, ends_in, fails_over}, Outcomes.no_memory_or_not}
+use Rattle.meat_engine.proofs.Undisturbed.{fails, answered}
+use Rattle.meat_engine.specs.Completeness.{IsComplete}
 use Rattle.feed_maker.specs.MadeTables.{made, SameFolder}
 use Rattle.journey_problem.proofs.SameFiles.{agree_all, own_problem}
-use Rattle.meat_engine.specs.Completeness.{IsComplete}
-use Rattle.meat_engine.proofs.Ended.{asked_ends, answers_end, EndsOver, ends_in, fails_over}
-use Rattle.meat_engine.proofs.Outcomes.{no_memory_or_not}
-use Rattle.meat_engine.proofs.Undisturbed.{fails, answered}
 
 -- what a journey comes to over known files: its question ends over a problem, or its files have a fault, or there was no memory
 abbrev Comes : Limits → FileMap → JourneyModel → AskModel → Option Fault → Type 0

@@ -1,6 +1,6 @@
 -- What an outcome says, where no file failed to be read and the answer was written.
-use Rattle.meat_engine.proofs.Common.{◌≡◌, ℕ, refl, List, Option, Some, None, Ok, ◌≢◌, FileMap, Limits, JobModel, job_of, Report, Fault, Write, NoMemory, NamedParts, findings_of, AnswersJob, FailsJob, arith}
-use Rattle.meat_engine.proofs.Common.{IsExplained, Outcome}
+use Rattle.meat_engine.proofs.Common.{◌≡◌, ℕ, refl, List, Option, Some, None, Ok, ◌≢◌, FileMap, Limits, JobModel, job_of, Report, Fault, Write, NoMemory, NamedParts, findings_of, AnswersJob}
+use Rattle.meat_engine.proofs.Common.{FailsJob, arith, IsExplained, Outcome}
 
 pub one_job : (words : List (List ℕ)) (a b : JobModel) → job_of words ≡ Ok a → job_of words ≡ Ok b → a ≡ b
 one_job words a b h k = cc

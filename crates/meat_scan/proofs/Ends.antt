@@ -2,11 +2,8 @@
 use Rattle.meat_scan.proofs.Common.{◌≡◌, ◌≢◌, ℕ, zero, suc, ◌+◌, ◌-◌, ◌<◌, ◌≤◌, List, [], ◌∷◌, Option, Some, None, MatchOption, arith, sym, refl, inl, inr, ◌∙◌, ap, option_map, common_steps}
 use Rattle.meat_scan.proofs.Common.{cases_lt, nat_tests, Leg, Outcome, Query, NetworkModel, count, to_of, arr_of, outcomes, Tree, Kids, Done, Ride, Stuck, Nil, Kid, height, height_of, IsSafe}
 use Rattle.meat_scan.proofs.Common.{AreSafe, IsSafeFor, end_of, kids_after, ride_of, ride_or_stuck, unfold_after, unfold_from, by_place, Scoring, Row, row_in_time, Exit, ScanResult, found_rows}
-use Rattle.meat_scan.proofs.Common.{leg_choice, chosen_at, chosen_by, IsSafeAt, HasAnswers, SolvesEach, IsStartAnswer, SolvesStart, picked_in_time}
-use Rattle.meat_scan.proofs.Ways.{boards-limit_of}
-use Rattle.meat_scan.proofs.Claims.{IsChosen, ChosenChildren, by_ride, PlaceOk}
-use Rattle.meat_scan.proofs.Starts.{StartOk}
-use Rattle.meat_scan.proofs.ScanStep.{ScanOk}
+use Rattle.meat_scan.proofs.{Common.{leg_choice, chosen_at, chosen_by, IsSafeAt, HasAnswers, SolvesEach, IsStartAnswer, SolvesStart, picked_in_time}, Ways.boards-limit_of, Claims.IsChosen}
+use Rattle.meat_scan.proofs.{Claims.{ChosenChildren, by_ride, PlaceOk}, Starts.StartOk, ScanStep.ScanOk}
 
 -- the row that is picked stays picked up to its `by`
 picked_still : {V : Type 0} (rows : List (Row V)) (arrival later : ℕ) (row : Row V) → row_in_time arrival rows ≡ Some row → arrival ≤ later → later ≤ row.by.0 → row_in_time later rows ≡ Some row

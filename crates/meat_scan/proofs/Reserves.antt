@@ -1,8 +1,8 @@
 -- The memory of a scan.
 use Rattle.meat_scan.proofs.Common.{Bool, ◌≡◌, ℕ, zero, suc, ◌+◌, ◌<◌, ◌≤◌, List, [], ◌∷◌, ◌++◌, length, get_or, take, replicate, Option, None, arith, ◌∙◌, refl, cond, count_by, All, ap, sym}
-use Rattle.meat_scan.proofs.Common.{append-nil, nat_tests, common_steps, length-replicate, All-nil, All-tail, sum_by-append, sum_by-cons, Connection, ConnectionId, NetworkModel, count, connection}
-use Rattle.meat_scan.proofs.Common.{dep_of, from_of, run_of, no_connection, IsValid, IsScanOrder, IsPrefixUpTo, count_in_order, has_each_id, ShownProfile, Exit, rows_of_profile, spare_at, exit_at}
-use Rattle.meat_scan.proofs.Common.{has_way, is_boardable_by, boardable, HasRoom, FitsTables, FitsTablesBy, ShownTables, capacity_at, IsEmpty}
+use Rattle.meat_scan.proofs.Common.{append-nil, nat_tests, common_steps, length-replicate, All-nil, All-tail, sum_by-append, sum_by-cons, Connection, ConnectionId, NetworkModel, count}
+use Rattle.meat_scan.proofs.Common.{connection, dep_of, from_of, run_of, no_connection, IsValid, IsScanOrder, IsPrefixUpTo, count_in_order, has_each_id, ShownProfile, Exit, rows_of_profile}
+use Rattle.meat_scan.proofs.Common.{spare_at, exit_at, has_way, is_boardable_by, boardable, HasRoom, FitsTables, FitsTablesBy, ShownTables, capacity_at, IsEmpty}
 use Rattle.plan_model.specs.Bounds.{end_of_arrivals}
 
 -- one connection more is counted, where it passes

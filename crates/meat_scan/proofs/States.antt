@@ -1,11 +1,10 @@
 -- What holds while the scan runs.
-use Rattle.meat_scan.proofs.Common.{◌≡◌, ◌≢◌, ℕ, zero, suc, get_or, map, ◌+◌, ◌<◌, ◌≤◌, List, [], ◌∷◌, ◌++◌, length, Option, None, arith, sym, refl, ◌∙◌, ap, append_assoc, cond, Bool}
-use Rattle.meat_scan.proofs.Common.{All, append-nil, nat_tests, common_steps, sum_by_push, ConnectionId, Leg, Outcome, Query, NetworkModel, count, from_of, run_of, IsValid, connection, dep_of}
+use Rattle.meat_scan.proofs.Common.{◌≡◌, ◌≢◌, ℕ, zero, suc, get_or, map, ◌+◌, ◌<◌, ◌≤◌, List, [], ◌∷◌, ◌++◌, length, Option, None, arith, sym, refl, ◌∙◌, ap, append_assoc, cond, Bool, All}
+use Rattle.meat_scan.proofs.Common.{append-nil, nat_tests, common_steps, sum_by_push, ConnectionId, Leg, Outcome, Query, NetworkModel, count, from_of, run_of, IsValid, connection, dep_of}
 use Rattle.meat_scan.proofs.Common.{IsScanOrder, IsPrefixUpTo, has_each_id, Known, Never, whole_order, next_of, all_known, Scoring, ScoreLaws, Row, ShownProfile, Exit, exits_next, rows_next}
-use Rattle.meat_scan.proofs.Common.{start_next, alighted_by, boarding_exit, exits_with, rows_with, start_with, Kept, kept_in, kept_next, kept_after, FollowsRules, rows_of_profile, spare_at, exit_at}
-use Rattle.meat_scan.proofs.Common.{has_way, boardable, HasRoom, HasRoomFor, IsEmpty, ScanResult, found_rows, HasAnswers, All-tail, All-head, values_after}
-use Rattle.meat_scan.proofs.ScanStep.{ScanOk, scan_ok_step}
-use Rattle.meat_scan.proofs.Ends.{scan_ok_start, solves_end}
+use Rattle.meat_scan.proofs.Common.{start_next, alighted_by, boarding_exit, exits_with, rows_with, start_with, Kept, kept_in, kept_next, kept_after, FollowsRules, rows_of_profile, spare_at}
+use Rattle.meat_scan.proofs.{Common.{exit_at, has_way, boardable, HasRoom, HasRoomFor, IsEmpty, ScanResult, found_rows, HasAnswers, All-tail, All-head, values_after}, ScanStep.ScanOk}
+use Rattle.meat_scan.proofs.{ScanStep.scan_ok_step, Ends.{scan_ok_start, solves_end}}
 
 -- functions that agree everywhere are one
 pub same_function : {A B : Type 0} (f g : A → B) → ((x : A) → f x ≡ g x) → f ≡ g

@@ -1,9 +1,8 @@
 -- One way after the other.
-use Rattle.meat_scan.proofs.Common.{◌≡◌, ◌≢◌, ℕ, suc, ◌+◌, ◌<◌, ◌≤◌, true, List, [], ◌∷◌, ◌++◌, Option, Some, None, AllPairs, length, get_or, take, cond, slice_get, arith, sym, ap, ◌∙◌, refl, set}
-use Rattle.meat_scan.proofs.Common.{length-take-le, get_or-set_same, get_or-set_other, find, ◌==◌, is_some, eq-eqb, ne_eqb, get_or-take, common_steps, option_or, cases_eq, nat_tests, take_more, Leg}
-use Rattle.meat_scan.proofs.Common.{NetworkModel, IsValid, ways_into, way_of-listed, way_takes, ways_into-distinct, Scoring, Row, with_way, way_of_place, has_way}
-use Rattle.std.proofs.lemmas.List.Folds.{find-append}
-use Rattle.std.proofs.lemmas.Option.{slice_get-get_or}
+use Rattle.meat_scan.proofs.Common.{◌≡◌, ◌≢◌, ℕ, suc, ◌+◌, ◌<◌, ◌≤◌, true, List, [], ◌∷◌, ◌++◌, Option, Some, None, AllPairs, length, get_or, take, cond, slice_get, arith, sym, ap, ◌∙◌, refl}
+use Rattle.meat_scan.proofs.Common.{set, length-take-le, get_or-set_same, get_or-set_other, find, ◌==◌, is_some, eq-eqb, ne_eqb, get_or-take, common_steps, option_or, cases_eq, nat_tests}
+use Rattle.meat_scan.proofs.Common.{take_more, Leg, NetworkModel, IsValid, ways_into, way_of-listed, way_takes, ways_into-distinct, Scoring, Row, with_way, way_of_place, has_way}
+use Rattle.std.proofs.lemmas.{List.Folds.find-append, Option.slice_get-get_or}
 use Rattle.plan_model.specs.declared.model.Way.{Way}
 
 -- the way from a place, in a list of them

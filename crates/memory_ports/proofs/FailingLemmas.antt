@@ -3,13 +3,8 @@ use Rattle.memory_ports.proofs.Common.{◌≡◌, ◌≢◌, ◌≤◌, ℕ, ◌
 use Rattle.memory_ports.proofs.Common.{length-append, list_any, Named, Failing, value_at, faults_in, fails_in, SameFailing, at_path, none_at, position_gives_none, set_gives, searched, IsEntryAt}
 use Rattle.memory_ports.proofs.Common.{found, path_is, put_over, put_last}
 use Rattle.std.specs.Prelude.{Option, None, Some, Result, Ok, Err, OnErr, if◌then◌else◌, bytes_eq, string_bytes, position, option_map, nat_eq, unwrap_or}
-use Rattle.std.proofs.Math.Bool.{or-false}
-use Rattle.std.proofs.lemmas.Bool.{cond_both, false_from_ne_true}
-use Rattle.std.proofs.lemmas.Grind.{common_steps}
-use Rattle.std.proofs.lemmas.List.{get_or_append_left, get_or_push}
-use Rattle.std.proofs.lemmas.List.Folds.{list_any-append}
-use Rattle.std.proofs.lemmas.List.Sums.{position_or_len_is}
-use Rattle.std.proofs.lemmas.Slice.Eq.{bytes_eq-Decides}
+use Rattle.std.proofs.{Math.Bool.or-false, lemmas.{Bool.{cond_both, false_from_ne_true}, Grind.common_steps, List.{get_or_append_left, get_or_push, Folds.list_any-append}}}
+use Rattle.std.proofs.lemmas.{List.Sums.position_or_len_is, Slice.Eq.bytes_eq-Decides}
 
 -- an entry with a new path is at the end
 pub push_stands : {T : Type 0} (es : List (Named T)) (q : List ℕ) (w : Named T) → string_bytes w.path ≡ q → position (at_path q) es ≡ None

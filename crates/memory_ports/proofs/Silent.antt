@@ -1,7 +1,7 @@
 -- Entries whose calls are forgotten one after the other, and whose counts stay.
-use Rattle.memory_ports.proofs.Common.{◌≡◌, ◌<◌, ℕ, ◌+◌, List, [], ◌∷◌, Bool, true, false, map, get_or, set, length, refl, ap, sym, ◌∙◌, arith, Option, if◌then◌else◌, Some, bytes_eq, string_bytes}
-use Rattle.memory_ports.proofs.Common.{nat_eq, get_or-set_same, get_or-set_other, list_any, Named, Failing, value_at, faults_in, fails_in, get_or_next}
-use Rattle.memory_ports.proofs.FailingLemmas.{count_of, names_of}
+use Rattle.memory_ports.proofs.Common.{◌≡◌, ◌<◌, ℕ, ◌+◌, List, [], ◌∷◌, Bool, true, false, map, get_or, set, length, refl, ap, sym, ◌∙◌, arith, Option, if◌then◌else◌, Some, bytes_eq}
+use Rattle.memory_ports.proofs.{Common.{string_bytes, nat_eq, get_or-set_same, get_or-set_other, list_any, Named, Failing, value_at, faults_in, fails_in, get_or_next}, FailingLemmas.count_of}
+use Rattle.memory_ports.proofs.FailingLemmas.{names_of}
 
 -- an entry by its path and its count
 abbrev pub shape : Named Failing → List ℕ × ℕ

@@ -1,9 +1,9 @@
 -- The scan order of a network, and what remains of it.
-use Rattle.merged_runs.proofs.Common.{◌≡◌, ℕ, zero, suc, ◌<◌, ◌≤◌, ltb, List, [], ◌∷◌, ◌++◌, All, AllPairs, arith, sym, subst, IsPermutation, ltb-true, ltb-false, common_steps, cond_both, All-cons}
-use Rattle.merged_runs.proofs.Common.{All-tail, All-head, AllPairs-first, AllPairs-tail, most_connections, ConnectionId, NetworkModel, IsValid, count, IsScanOrder, IsEarlier, ids_below, length_ids}
-use Rattle.merged_runs.proofs.Common.{get_ids, rank, with_connection, in_order}
-use Rattle.std.proofs.lemmas.List.Kept.{AllPairs-cons}
-use Rattle.std.proofs.lemmas.List.Sorted.{IsPermutation-refl, IsPermutation-cons, IsPermutation-trans, IsPermutation-to_front, IsPermutation-sym, IsPermutation-middle, All-permutation}
+use Rattle.merged_runs.proofs.Common.{◌≡◌, ℕ, zero, suc, ◌<◌, ◌≤◌, ltb, List, [], ◌∷◌, ◌++◌, All, AllPairs, arith, sym, subst, IsPermutation, ltb-true, ltb-false, common_steps, cond_both}
+use Rattle.merged_runs.proofs.Common.{All-cons, All-tail, All-head, AllPairs-first, AllPairs-tail, most_connections, ConnectionId, NetworkModel, IsValid, count, IsScanOrder, IsEarlier, ids_below}
+use Rattle.merged_runs.proofs.Common.{length_ids, get_ids, rank, with_connection, in_order}
+use Rattle.std.proofs.lemmas.List.{Kept.AllPairs-cons, Sorted.{IsPermutation-refl, IsPermutation-cons, IsPermutation-trans, IsPermutation-to_front, IsPermutation-sym, IsPermutation-middle}}
+use Rattle.std.proofs.lemmas.List.Sorted.{All-permutation}
 
 -- a connection is scanned before another
 abbrev pub Scanned : NetworkModel → ConnectionId → ConnectionId → Type 0

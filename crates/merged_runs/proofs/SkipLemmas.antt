@@ -1,10 +1,9 @@
 -- What remains of the runs of a network up to a moment.
 use Rattle.merged_runs.proofs.Common.{◌≡◌, ℕ, suc, ◌+◌, ◌<◌, ◌≤◌, inl, inr, Bool, true, false, cond, ltb, List, [], ◌∷◌, ◌++◌, length, get_or, All, AllPairs, arith, refl, filter, lt-ltb}
 use Rattle.merged_runs.proofs.Common.{ltb-true, common_steps, cases_lt, cases_Bool, nat_tests, All-tail, All-head, All-cons, All-weaker, filter_agree, filter_passes, ConnectionId, NetworkModel}
-use Rattle.merged_runs.proofs.Common.{IsValid, count, dep_of, run_of, IsPrefixUpTo, AllPairs-tail, in_order, rest_of, AreStretches, DepartsInOrder, IsParted}
-use Rattle.plan_model.proofs.Skips.{dep_of_earlier}
-use Rattle.merged_runs.proofs.ScanLemmas.{IsScanOrder-in_order}
+use Rattle.merged_runs.proofs.{Common.{IsValid, count, dep_of, run_of, IsPrefixUpTo, AllPairs-tail, in_order, rest_of, AreStretches, DepartsInOrder, IsParted}, ScanLemmas.IsScanOrder-in_order}
 use Rattle.merged_runs.proofs.StretchLemmas.{run_between, filter_none}
+use Rattle.plan_model.proofs.Skips.{dep_of_earlier}
 
 late_alike : (p late : ConnectionId → Bool) (ids : List ConnectionId) → All (λ id. late id ≡ true) ids
     → filter p ids ≡ filter (λ id. cond (late id) (p id) false) ids

@@ -1,9 +1,9 @@
 -- What remains of the runs of a network.
-use Rattle.merged_runs.proofs.Common.{◌≡◌, ℕ, zero, suc, ◌+◌, ◌-◌, ◌<◌, ◌≤◌, ⊎_elim, Bool, true, false, cond, ltb, List, [], ◌∷◌, ◌++◌, length, get_or, set, take, drop, add-one, All, AllPairs, arith}
-use Rattle.merged_runs.proofs.Common.{refl, sym, ap, ◌∙◌, subst, Contains, filter, lt-ltb, le-ltb, ltb-true, get_or-set_same, get_or-set_other, take_all, nat_tests, common_steps, cases_lt, cases_eq}
-use Rattle.merged_runs.proofs.Common.{cond-true, cond-false, false_from_ne_true, get_or_past, All-tail, All-head, most_connections, ConnectionId, NetworkModel, IsValid, count, run_of, IsScanOrder}
-use Rattle.merged_runs.proofs.Common.{has_each_id, rank, in_order, rest_of, IsStart, AreStarts, AreStretches, key_of, key_between}
-use Rattle.merged_runs.proofs.ScanLemmas.{IsScanOrder-in_order, All-in_order, AllPairs-in_order}
+use Rattle.merged_runs.proofs.Common.{◌≡◌, ℕ, zero, suc, ◌+◌, ◌-◌, ◌<◌, ◌≤◌, ⊎_elim, Bool, true, false, cond, ltb, List, [], ◌∷◌, ◌++◌, length, get_or, set, take, drop, add-one, All, AllPairs}
+use Rattle.merged_runs.proofs.Common.{arith, refl, sym, ap, ◌∙◌, subst, Contains, filter, lt-ltb, le-ltb, ltb-true, get_or-set_same, get_or-set_other, take_all, nat_tests, common_steps, cases_lt}
+use Rattle.merged_runs.proofs.Common.{cases_eq, cond-true, cond-false, false_from_ne_true, get_or_past, All-tail, All-head, most_connections, ConnectionId, NetworkModel, IsValid, count, run_of}
+use Rattle.merged_runs.proofs.{Common.{IsScanOrder, has_each_id, rank, in_order, rest_of, IsStart, AreStarts, AreStretches, key_of, key_between}, ScanLemmas.{IsScanOrder-in_order, All-in_order}}
+use Rattle.merged_runs.proofs.ScanLemmas.{AllPairs-in_order}
 
 -- a run is one of those that have a start, and its connections lie from there to the next start
 pub record IsOfRun (n : NetworkModel) (starts : List ℕ) (i : ℕ) : Type 0 where

@@ -1,8 +1,7 @@
 -- A tournament over the runs of a network.
 use Rattle.merged_runs.proofs.Common.{◌≡◌, ℕ, zero, suc, ◌+◌, ◌-◌, ◌*◌, ◌/◌, ◌%◌, ◌<◌, ◌≤◌, ◌⊎◌, inl, inr, ⊎_elim, List, [], ◌∷◌, ◌++◌, length, get_or, set, max, arith, refl, sym, ap, ◌∙◌}
 use Rattle.merged_runs.proofs.Common.{get_or-set_same, get_or-set_other, length-set, cases_lt, cases_eq, most_connections, NetworkModel, count, run_of, rank, key_of, above, IsOver, IsWinner}
-use Rattle.merged_runs.proofs.Common.{IsTournament, IsMerge, rest_of}
-use Rattle.merged_runs.proofs.StretchLemmas.{run_between, within_count, key_of-set_other, key_of-none, key_of-some, rest_of-none, rest_of-last}
+use Rattle.merged_runs.proofs.{Common.{IsTournament, IsMerge, rest_of}, StretchLemmas.{run_between, within_count, key_of-set_other, key_of-none, key_of-some, rest_of-none, rest_of-last}}
 
 above_le : (rounds k : ℕ) → above rounds k ≤ k
 above_le zero k = omega arith

@@ -1,10 +1,9 @@
 -- A graph of the rides that were walked is ready, where what is chosen is kept.
 use Rattle.plan_graph.proofs.Common.{arith, ◌≡◌, ◌≢◌, ℕ, List, Option, Some, Contains, All, AllPairs, sym, subst, inl, inr, ◌∙◌, ap, cases_eq, All-contains, Leg, Outcome, Query, NetworkModel}
-use Rattle.plan_graph.proofs.Common.{IsValid, arr_of, Tree, limit_of, end_of, arrival_of, outcomes_of, unfolding_of, GraphRow, Ride, pick_row, IsLegOf, IsReady, IsReadyRide, IsReadyRow, MayPrecede}
-use Rattle.plan_graph.proofs.Common.{IsBusy, IsPickedAfter, IsSafeForSome, IsFirstInTime, Stands, pick_in_time, row_by, table_after, IsWalked, AllPairs-nil, All-from_contains}
+use Rattle.plan_graph.proofs.Common.{IsValid, arr_of, Tree, limit_of, end_of, arrival_of, outcomes_of, unfolding_of, GraphRow, Ride, pick_row, IsLegOf, IsReady, IsReadyRide, IsReadyRow}
+use Rattle.plan_graph.proofs.Common.{MayPrecede, IsBusy, IsPickedAfter, IsSafeForSome, IsFirstInTime, Stands, pick_in_time, row_by, table_after, IsWalked, AllPairs-nil, All-from_contains}
+use Rattle.plan_graph.proofs.{Tables.{IsChosenAt, IsTableRow, Sooner, table_row, table_away, table_there, first_in_table, first_pick, in_time_for, before_for, one_found}, Walks.delays_rise}
 use Rattle.plan_graph.specs.declared.ExpandedGraph.{ExpandedGraph}
-use Rattle.plan_graph.proofs.Tables.{IsChosenAt, IsTableRow, Sooner, table_row, table_away, table_there, first_in_table, first_pick, in_time_for, before_for, one_found}
-use Rattle.plan_graph.proofs.Walks.{delays_rise}
 
 -- what is chosen after an outcome of a leg can be reached, and is kept at the later outcomes up to its limit
 abbrev pub IsKeptAfter : NetworkModel → ℕ → (Leg → ℕ → Option Leg) → Leg → Type 0

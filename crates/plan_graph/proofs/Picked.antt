@@ -1,8 +1,7 @@
 -- What is picked is the leg of a row.
-use Rattle.plan_graph.proofs.Common.{◌≡◌, ℕ, ◌<◌, ◌≤◌, true, false, List, [], ◌∷◌, Some, All, arith, sym, subst, refl, inl, inr, ◌∙◌, nat_le, cases_lt, cases_eq, nat_tests, All-nil, All-tail, Leg}
-use Rattle.plan_graph.proofs.Common.{Query, NetworkModel, GraphRow, PlaceTable, pick_row, pick_at, rows_of_place, is_table_of, HasRisingTables, IsLegOf}
-use Rattle.plan_graph.specs.declared.PlanGraph.{PlanGraph}
-use Rattle.plan_graph.specs.Tidy.{IsFitRow, IsFitTable, IsFit}
+use Rattle.plan_graph.proofs.Common.{◌≡◌, ℕ, ◌<◌, ◌≤◌, true, false, List, [], ◌∷◌, Some, All, arith, sym, subst, refl, inl, inr, ◌∙◌, nat_le, cases_lt, cases_eq, nat_tests, All-nil, All-tail}
+use Rattle.plan_graph.proofs.Common.{Leg, Query, NetworkModel, GraphRow, PlaceTable, pick_row, pick_at, rows_of_place, is_table_of, HasRisingTables, IsLegOf}
+use Rattle.plan_graph.specs.{declared.PlanGraph.PlanGraph, Tidy.{IsFitRow, IsFitTable, IsFit}}
 
 pub pick_here : (row : GraphRow) (rows : List GraphRow) (x : ℕ) → x ≤ row.by.0 → pick_row (row ∷ rows) x ≡ Some row.leg
 pick_here row rows x soon = let e : nat_le x row.by.0 ≡ true = grind (arith, nat_tests) in rw e refl

@@ -1,13 +1,10 @@
 -- What is kept while legs are reached.
 use Rattle.plan_graph.proofs.Common.{◌≡◌, ◌≢◌, ℕ, ◌<◌, ◌⊎◌, Bool, true, false, List, [], ◌∷◌, ◌++◌, map, length, Option, Some, Contains, arith, sym, subst, refl, inl, inr, ◌∙◌, ap, MatchBool}
 use Rattle.plan_graph.proofs.Common.{nat_tests, common_steps, list_any, Contains-append_left, Contains-append_right, Contains-append_cases, Contains-push, Contains-push_cases, Contains-from_any}
-use Rattle.plan_graph.proofs.Common.{tells_apart, Leg, Query, NetworkModel, count, Tree, arrival_of, unfolding_of, GraphRow, IsSafeForSome, table_after, leg_cmp, with_leg, StandsSafely, Contains-nil}
-use Rattle.plan_graph.proofs.Common.{Contains-map, Contains-from_map}
+use Rattle.plan_graph.proofs.Common.{tells_apart, Leg, Query, NetworkModel, count, Tree, arrival_of, unfolding_of, GraphRow, IsSafeForSome, table_after, leg_cmp, with_leg, StandsSafely}
+use Rattle.plan_graph.proofs.{Common.{Contains-nil, Contains-map, Contains-from_map}, Sets.{Contains-insert_key, Contains-insert_key_cases, Contains-inserted_key}, Orders.leg_cmp-exact}
+use Rattle.plan_graph.proofs.{Places.next_after, Tables.{one_found, table_row}}
 use Rattle.std.specs.BTreeMap.{is_at}
-use Rattle.plan_graph.proofs.Sets.{Contains-insert_key, Contains-insert_key_cases, Contains-inserted_key}
-use Rattle.plan_graph.proofs.Orders.{leg_cmp-exact}
-use Rattle.plan_graph.proofs.Places.{next_after}
-use Rattle.plan_graph.proofs.Tables.{one_found, table_row}
 
 -- the leg is to do, or was seen
 abbrev pub Known : List Leg → List Leg → Leg → Type 0

@@ -1,7 +1,6 @@
 -- The rides of legs.
 use Rattle.plan_graph.proofs.Common.{arith, ◌≡◌, ℕ, List, [], ◌∷◌, Some, AllPairs, Contains, inl, inr, ◌∙◌, ap, Leg, Ride, pick_after, rows_after, Precedes, Contains-nil, Contains-head}
-use Rattle.plan_graph.proofs.Common.{Contains-tail, Contains-cons_cases, AllPairs-head, AllPairs-tail}
-use Rattle.plan_graph.proofs.Searches.{leg_test, rows_here, rows_further, precedes_itself}
+use Rattle.plan_graph.proofs.{Common.{Contains-tail, Contains-cons_cases, AllPairs-head, AllPairs-tail}, Searches.{leg_test, rows_here, rows_further, precedes_itself}}
 
 -- a ride of the leg, with its rows
 pub record IsRideOf (rides : List Ride) (leg : Leg) : Type 0 where

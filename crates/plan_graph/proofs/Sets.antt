@@ -1,7 +1,7 @@
 -- The keys of a set, with one key more.
 use Rattle.plan_graph.proofs.Common.{◌≡◌, ◌⊎◌, List, [], ◌∷◌, Contains, arith, sym, refl, inl, inr, ◌∙◌, ap, Ordering, Less, Equal, Greater, IsTotalOrder, match_ordering, ordering_reverse}
-use Rattle.plan_graph.proofs.Common.{IsStrictlySortedBy, All-contains, All-weaker, All-from_recursion, recursion_from_All, sorted_head, sorted_tail, CmpEqualImpliesEq, All-insert_key, Contains-nil}
-use Rattle.plan_graph.proofs.Common.{Contains-head, Contains-tail, Contains-cons_cases, All-from_contains}
+use Rattle.plan_graph.proofs.Common.{IsStrictlySortedBy, All-contains, All-weaker, All-from_recursion, recursion_from_All, sorted_head, sorted_tail, CmpEqualImpliesEq, All-insert_key}
+use Rattle.plan_graph.proofs.Common.{Contains-nil, Contains-head, Contains-tail, Contains-cons_cases, All-from_contains}
 use Rattle.std.specs.BTreeSet.{insert_key}
 
 module _ {K : Type 0} (cmp : K → K → Ordering) where

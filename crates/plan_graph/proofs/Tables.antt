@@ -2,9 +2,8 @@
 use Rattle.plan_graph.proofs.Common.{nat_tests, common_steps, ◌≡◌, ◌≢◌, ℕ, ◌+◌, ◌≤◌, ◌<◌, List, [], ◌∷◌, map, Option, Some, None, AllPairs, Contains, arith, sym, subst, refl, inl, inr, ◌∙◌, ap}
 use Rattle.plan_graph.proofs.Common.{cases_lt, cases_eq, eq-eqb, le-leb, lt-leb, Leg, Outcome, NetworkModel, arr_of, limit_of, end_of, outcomes_of, GraphRow, pick_row, IsFirstInTime, MayPrecede}
 use Rattle.plan_graph.proofs.Common.{pick_in_time, row_by, with_row, rows_for, table_after, Contains-nil, Contains-head, Contains-tail, Contains-cons_cases, AllPairs-nil, AllPairs-head}
-use Rattle.plan_graph.proofs.Common.{AllPairs-tail, AllPairs-with}
+use Rattle.plan_graph.proofs.{Common.{AllPairs-tail, AllPairs-with}, Picked.{pick_here, pick_further}}
 use Rattle.std.proofs.lemmas.Bool.{ne_eqb}
-use Rattle.plan_graph.proofs.Picked.{pick_here, pick_further}
 
 -- what is found is one thing
 pub one_found : {A : Type 0} (found : Option A) (a b : A) → found ≡ Some a → found ≡ Some b → a ≡ b

@@ -1,7 +1,6 @@
 -- Two choices that take the same legs from a start leg on fix the same tree.
-use Rattle.plan_graph.proofs.Common.{◌≡◌, ◌≢◌, ℕ, Option, Some, Contains, sym, subst, refl, ◌∙◌, Leg, Outcome, NetworkModel, end_of, arrival_of, outcomes_of, unfold_from}
+use Rattle.plan_graph.proofs.{Common.{◌≡◌, ◌≢◌, ℕ, Option, Some, Contains, sym, subst, refl, ◌∙◌, Leg, Outcome, NetworkModel, end_of, arrival_of, outcomes_of, unfold_from}, Tables.one_found}
 use Rattle.plan_model.proofs.SameTree.{unfold_from-same}
-use Rattle.plan_graph.proofs.Tables.{one_found}
 
 -- after a leg that arrives at a moment both choose one leg, of which Q holds
 pub record IsSameNext (choice other : Leg → ℕ → Option Leg) (Q : Leg → Type 0) (leg : Leg) (x : ℕ) : Type 0 where

@@ -1,14 +1,10 @@
 -- The rides of the legs that were reached.
-use Rattle.plan_graph.proofs.Common.{arith, ◌≡◌, ◌≢◌, ℕ, List, map, Option, Some, Contains, All, AllPairs, sym, subst, refl, ◌∙◌, ap, zero, suc, ◌+◌, [], ◌∷◌, None, inl, inr, slice_index_or, ne_eqb, eq-eqb}
-use Rattle.plan_graph.proofs.Common.{All-map, All-contains, Less-from_sorted, Leg, Outcome, Query, NetworkModel, IsValid, Tree, end_of, arrival_of, outcomes_of, unfolding_of, kids_after}
-use Rattle.plan_graph.proofs.Common.{ride_or_stuck, unfold_after, unfold_from, GraphRow, Ride, pick_row, pick_after, Precedes, IsLegOf, Stands, StandsIn, row_by, table_after, ride_of_leg, leg_cmp}
-use Rattle.plan_graph.proofs.Common.{IsReached, IsWalked, IsTaken, HasRideOf, Contains-map, AllPairs-map, All-from_contains, cases_eq}
-use Rattle.plan_graph.proofs.Orders.{leg_cmp-Less}
-use Rattle.plan_graph.proofs.Places.{IsPlacedNext, next_after}
-use Rattle.plan_graph.proofs.Tables.{first_pick, first_there, Sooner, first_in_table, one_found, picked_there}
-use Rattle.plan_graph.proofs.Together.{IsSameNext, unfold_from-together}
-use Rattle.plan_graph.proofs.Rides.{rows_after-own, ride_there}
-use Rattle.plan_graph.proofs.Searches.{same_leg}
+use Rattle.plan_graph.proofs.Common.{arith, ◌≡◌, ◌≢◌, ℕ, List, map, Option, Some, Contains, All, AllPairs, sym, subst, refl, ◌∙◌, ap, zero, suc, ◌+◌, [], ◌∷◌, None, inl, inr, slice_index_or}
+use Rattle.plan_graph.proofs.Common.{ne_eqb, eq-eqb, All-map, All-contains, Less-from_sorted, Leg, Outcome, Query, NetworkModel, IsValid, Tree, end_of, arrival_of, outcomes_of, unfolding_of}
+use Rattle.plan_graph.proofs.Common.{kids_after, ride_or_stuck, unfold_after, unfold_from, GraphRow, Ride, pick_row, pick_after, Precedes, IsLegOf, Stands, StandsIn, row_by, table_after}
+use Rattle.plan_graph.proofs.{Common.{ride_of_leg, leg_cmp, IsReached, IsWalked, IsTaken, HasRideOf, Contains-map, AllPairs-map, All-from_contains, cases_eq}, Orders.leg_cmp-Less}
+use Rattle.plan_graph.proofs.{Places.{IsPlacedNext, next_after}, Tables.{first_pick, first_there, Sooner, first_in_table, one_found, picked_there}, Together.{IsSameNext, unfold_from-together}}
+use Rattle.plan_graph.proofs.{Rides.{rows_after-own, ride_there}, Searches.same_leg}
 
 -- what comes after the outcomes of a ride comes after one of them
 stands_after : (leg : Leg) (f : ℕ → Tree) (scheduled : ℕ) (row : List Outcome) → StandsIn leg (kids_after f scheduled row) → (x : ℕ) × Stands leg (f x)

@@ -1,8 +1,6 @@
 -- What is safe from a gate is safe from its source a second later.
 use Rattle.plan_model.proofs.Common.{◌≡◌, ◌≢◌, ℕ, ◌+◌, ◌<◌, arith, Option, Some, length, ap, ◌∙◌, NetworkModel, IsValid, from_of, way_of, nat_tests, Tree, Done, Ride, Stuck, IsLeg, IsGate}
-use Rattle.plan_model.proofs.Common.{common_steps, IsSafe, IsSafeFromStart, deadline_later_by}
-use Rattle.plan_model.proofs.Later.{later_by-none, deadline-none}
-use Rattle.plan_model.proofs.Views.{leg_there, start_there, start_back}
+use Rattle.plan_model.proofs.{Common.{common_steps, IsSafe, IsSafeFromStart, deadline_later_by}, Later.{later_by-none, deadline-none}, Views.{leg_there, start_there, start_back}}
 
 module _ (n m : NetworkModel) (gate source : ℕ) (g : IsGate n m gate source) (valid : IsValid m) (target : ℕ) (by : Option ℕ) (inside : target < length m.change) (away : source ≢ target) where
   begins_inside : (i j : ℕ) → IsLeg n i j → from_of n i < length m.change

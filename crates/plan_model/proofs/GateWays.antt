@@ -1,13 +1,10 @@
 -- The network with gates is one, and each gate leads to its source.
-use Rattle.plan_model.proofs.Common.{◌≡◌, ◌≢◌, ℕ, zero, suc, ◌+◌, ◌-◌, ◌<◌, ◌≤◌, true, false, Some, None, List, [], ◌∷◌, ◌++◌, length, All, arith, refl, sym, ap, ◌∙◌, subst, inl, inr, length-append}
-use Rattle.plan_model.proofs.Common.{append-nil, append_assoc, cases_lt, cases_eq, nat_tests, slice_index_or, replicate, ◌==◌, if◌then◌else◌, NetworkModel, IsValid, AreLinksInto}
+use Rattle.plan_model.proofs.Common.{◌≡◌, ◌≢◌, ℕ, zero, suc, ◌+◌, ◌-◌, ◌<◌, ◌≤◌, true, false, Some, None, List, [], ◌∷◌, ◌++◌, length, All, arith, refl, sym, ap, ◌∙◌, subst, inl, inr}
+use Rattle.plan_model.proofs.Common.{length-append, append-nil, append_assoc, cases_lt, cases_eq, nat_tests, slice_index_or, replicate, ◌==◌, if◌then◌else◌, NetworkModel, IsValid, AreLinksInto}
 use Rattle.plan_model.proofs.Common.{PlaceId, Way, links_into, way_in, way_of, ways_into, own_way, HasGates, extended_by, links_with_gates, source_at, way_from, way_if_to, ways_from_gates}
-use Rattle.plan_model.proofs.Common.{get_or_append_left, get_or-append_right, get_or_past, All-cons, All-nil, change_of, connection, row_of, IsSeen, IsView}
-use Rattle.std.proofs.lemmas.List.{get_or-replicate, length-replicate}
-use Rattle.std.proofs.lemmas.List.FromFn.{length-map-range_with_len, get_or-map-range_with_len}
-use Rattle.plan_model.proofs.Boarding.{way_in-here, way_in-away}
-use Rattle.plan_model.proofs.Links.{AreLinksInto-none}
-use Rattle.plan_model.proofs.MoreLinks.{AreLinksInto-wider, AreLinksInto-push}
+use Rattle.plan_model.proofs.{Common.{get_or_append_left, get_or-append_right, get_or_past, All-cons, All-nil, change_of, connection, row_of, IsSeen, IsView}, Boarding.{way_in-here, way_in-away}}
+use Rattle.plan_model.proofs.{Links.AreLinksInto-none, MoreLinks.{AreLinksInto-wider, AreLinksInto-push}}
+use Rattle.std.proofs.lemmas.List.{get_or-replicate, length-replicate, FromFn.{length-map-range_with_len, get_or-map-range_with_len}}
 
 -- a way is looked for in the first list, and then in the second
 way_in-first : (ways more : List Way) (p : ℕ) → way_in more p ≡ None → way_in (ways ++ more) p ≡ way_in ways p

@@ -1,10 +1,8 @@
 -- Trees with all moments greater by a shift.
-use Rattle.plan_model.proofs.Common.{◌≡◌, ℕ, ◌+◌, ◌-◌, ◌*◌, ◌^◌, ◌<◌, ◌≤◌, arith, Option, List, [], ◌∷◌, length, refl, sym, ap, ◌∙◌, sum_by, mul_assoc, mul_comm, mul-add, add-mul}
-use Rattle.plan_model.proofs.Common.{nat_tests, sum_by-cons, Outcome, NetworkModel, IsValid, to_of, arr_of, outcomes, Tree, Done, Ride, Stuck, Kids, Nil, Kid, worst, worst_of, height, height_of}
-use Rattle.plan_model.proofs.Common.{IsSafe, AreSafe, weighted_by, weighted_kids, arrival, num, BelowBy, CoversBy, later_by, all_later_by, deadline_later_by}
+use Rattle.plan_model.proofs.Common.{◌≡◌, ℕ, ◌+◌, ◌-◌, ◌*◌, ◌^◌, ◌<◌, ◌≤◌, arith, Option, List, [], ◌∷◌, length, refl, sym, ap, ◌∙◌, sum_by, mul_assoc, mul_comm, mul-add, add-mul, nat_tests}
+use Rattle.plan_model.proofs.Common.{sum_by-cons, Outcome, NetworkModel, IsValid, to_of, arr_of, outcomes, Tree, Done, Ride, Stuck, Kids, Nil, Kid, worst, worst_of, height, height_of, IsSafe}
+use Rattle.plan_model.proofs.{Common.{AreSafe, weighted_by, weighted_kids, arrival, num, BelowBy, CoversBy, later_by, all_later_by, deadline_later_by}, Bounds.row_is, Laws.pow_down}
 use Rattle.plan_model.specs.Expected.{late}
-use Rattle.plan_model.proofs.Bounds.{row_is}
-use Rattle.plan_model.proofs.Laws.{pow_down}
 
 same_child : (w : ℕ) (t u : Tree) (ks us : Kids) → t ≡ u → ks ≡ us → Kid w t ks ≡ Kid w u us
 same_child w t u ks us e f = rw (e, f) refl

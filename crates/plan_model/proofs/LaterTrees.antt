@@ -1,7 +1,6 @@
 -- What choices unfold to in a network, and what the same choices unfold to in a view of it.
-use Rattle.plan_model.proofs.Common.{◌≡◌, ℕ, zero, suc, ◌+◌, Bool, Option, Some, List, [], ◌∷◌, refl, arith, if◌then◌else◌, Outcome, Leg, NetworkModel, IsValid, arr_of, Tree, Done}
-use Rattle.plan_model.proofs.Common.{IsLeg, end_of, outcomes_of, kids_after, ride_of, ride_or_stuck, unfold_after, unfold_from, later_by, all_later_by, IsView}
-use Rattle.plan_model.proofs.Views.{leg_there, arrives, seen, same_outcomes}
+use Rattle.plan_model.proofs.Common.{◌≡◌, ℕ, zero, suc, ◌+◌, Bool, Option, Some, List, [], ◌∷◌, refl, arith, if◌then◌else◌, Outcome, Leg, NetworkModel, IsValid, arr_of, Tree, Done, IsLeg, end_of}
+use Rattle.plan_model.proofs.{Common.{outcomes_of, kids_after, ride_of, ride_or_stuck, unfold_after, unfold_from, later_by, all_later_by, IsView}, Views.{leg_there, arrives, seen, same_outcomes}}
 
 kids_after-later : (shift : ℕ) (f g : ℕ → Tree) (a : ℕ) (row : List Outcome) → ((y : ℕ) → g (y + shift) ≡ later_by shift (f y)) → kids_after g (a + shift) row ≡ all_later_by shift (kids_after f a row)
 kids_after-later shift f g a [] same = refl

@@ -1,6 +1,6 @@
 -- How many links lead into a place: not more than there are other places.
-use Rattle.plan_model.proofs.Common.{ℕ, zero, suc, ◌+◌, ◌<◌, ◌≤◌, List, [], ◌∷◌, length, get_or, arith, inl, inr, cases_lt, Way, NetworkModel, AreLinksInto, AreLinks, IsValid, links_into, change_of}
-use Rattle.plan_model.proofs.Common.{row_of, connection}
+use Rattle.plan_model.proofs.Common.{ℕ, zero, suc, ◌+◌, ◌<◌, ◌≤◌, List, [], ◌∷◌, length, get_or, arith, inl, inr, cases_lt, Way, NetworkModel, AreLinksInto, AreLinks, IsValid, links_into}
+use Rattle.plan_model.proofs.Common.{change_of, row_of, connection}
 
 module _ (places r : ℕ) (links : List Way) (are : AreLinksInto places r links) (d : Way) where
   -- the k-th link comes from place k or a later one

@@ -1,7 +1,7 @@
 -- What is known of a chain of results is known of its parts.
 use Rattle.plan_model.proofs.Common.{◌≡◌, Option, Some, None, Result, Ok, Err, ap, arith}
-use Rattle.std.specs.Result.{result_err}
 use Rattle.plan_model.specs.Results.{and_then, require}
+use Rattle.std.specs.Result.{result_err}
 
 pub and_then-err : {A B E : Type 0} (r : Result A E) (fault : E) (next : A → Result B E) → r ≡ Err fault → and_then r next ≡ Err fault
 and_then-err r fault next is = ap (λ z. and_then z next) is

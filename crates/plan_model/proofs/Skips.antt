@@ -1,6 +1,6 @@
 -- What departs by a moment comes first in a scan order.
-use Rattle.plan_model.proofs.Common.{◌≡◌, ℕ, ◌+◌, ◌<◌, ◌≤◌, List, ◌++◌, length, get_or, take, drop, arith, sym, ap, ◌∙◌, length-drop, take-append-drop, get_or-drop, get_or-take}
-use Rattle.plan_model.proofs.Common.{length-take-le, cases_eq, ConnectionId, NetworkModel, dep_of, IsEarlier, IsScanOrder, IsPrefixUpTo, nat_tests, common_steps}
+use Rattle.plan_model.proofs.Common.{◌≡◌, ℕ, ◌+◌, ◌<◌, ◌≤◌, List, ◌++◌, length, get_or, take, drop, arith, sym, ap, ◌∙◌, length-drop, take-append-drop, get_or-drop, get_or-take, length-take-le}
+use Rattle.plan_model.proofs.Common.{cases_eq, ConnectionId, NetworkModel, dep_of, IsEarlier, IsScanOrder, IsPrefixUpTo, nat_tests, common_steps}
 
 take_take : {X : Type 0} (xs : List X) (i j : ℕ) → i ≤ j → take i (take j xs) ≡ take i xs
 take_take {X} xs i j h = grind (arith, common_steps, nat_tests)

@@ -1,8 +1,8 @@
 -- Texts that are there, and texts that are not.
-use Rattle.plan_model.proofs.Common.{◌≡◌, ℕ, ◌<◌, ◌-◌, ◌^◌, true, false, Option, Some, None, String, List, [], ◌∷◌, ◌++◌, length, get_or, ap, ◌∙◌, Contains, is_some, slice_get, IfSome, IfNone, arith}
-use Rattle.plan_model.proofs.Common.{Global, string_bytes, get_or_default, slice_get_within, get_or_from_slice_get, slice_get-get_or, texts}
+use Rattle.plan_model.proofs.Common.{◌≡◌, ℕ, ◌<◌, ◌-◌, ◌^◌, true, false, Option, Some, None, String, List, [], ◌∷◌, ◌++◌, length, get_or, ap, ◌∙◌, Contains, is_some, slice_get, IfSome, IfNone}
+use Rattle.plan_model.proofs.{Common.{arith, Global, string_bytes, get_or_default, slice_get_within, get_or_from_slice_get, slice_get-get_or, texts}, Texts.{IsNameList-adds, texts_are_utf8}}
+use Rattle.plan_model.proofs.Texts.{texts-push}
 use Rattle.plan_model.specs.NameLists.{AreTexts}
-use Rattle.plan_model.proofs.Texts.{IsNameList-adds, texts_are_utf8, texts-push}
 
 -- a text that has a number is there
 pub there_by_number : (texts : List (List ℕ)) (text : List ℕ) (number : Option ℕ) → true ≡ is_some number

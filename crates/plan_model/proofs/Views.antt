@@ -1,9 +1,7 @@
 -- What is safe in a network is safe in a view of it, and the other way round.
 use Rattle.plan_model.proofs.Common.{◌≡◌, ℕ, ◌+◌, ◌<◌, ◌≤◌, arith, Option, Some, List, [], ◌∷◌, length, refl, sym, ap, ◌∙◌, Outcome, NetworkModel, IsValid, count, connection, from_of, to_of}
 use Rattle.plan_model.proofs.Common.{dep_of, arr_of, row_of, outcomes, way_of, Tree, Done, Ride, Stuck, Kids, Nil, Kid, IsLeg, IsBoardable, IsBoardableAtStart, IsInTime, IsSafe, AreSafe}
-use Rattle.plan_model.proofs.Common.{IsSafeFromStart, later_by, all_later_by, deadline_later_by, IsSeen, IsView, SafeAlike, nat_tests, common_steps}
-use Rattle.plan_model.proofs.Bounds.{forward}
-use Rattle.plan_model.proofs.Later.{later_by-same}
+use Rattle.plan_model.proofs.{Common.{IsSafeFromStart, later_by, all_later_by, deadline_later_by, IsSeen, IsView, SafeAlike, nat_tests, common_steps}, Bounds.forward, Later.later_by-same}
 
 in_time_there : (shift : ℕ) (by : Option ℕ) (x : ℕ) → IsInTime by x → IsInTime (deadline_later_by shift by) (x + shift)
 in_time_there shift by x h = grind arith

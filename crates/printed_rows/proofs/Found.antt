@@ -1,9 +1,8 @@
 -- Where connections are found.
-use Rattle.printed_rows.proofs.Common.{◌≡◌, ℕ, suc, ◌+◌, ◌<◌, Bool, true, List, [], ◌∷◌, length, Option, Some, None, arith, sym, refl, inl, inr, ◌∙◌, ap, ◌==◌, ◌&&◌}
-use Rattle.printed_rows.proofs.Common.{slice_index_or, IfSome, IfNone, option_map, position_from, cases_Bool, nat_tests, Connection, NetworkModel, IsValid}
-use Rattle.printed_rows.proofs.Common.{count, no_connection, run_of, step_of, position_found, position_none, false_if, connection_of}
-use Rattle.plan_model.specs.declared.model.ConnectionId.{ConnectionId}
-use Rattle.plan_model.specs.Search.{connection_at}
+use Rattle.printed_rows.proofs.Common.{◌≡◌, ℕ, suc, ◌+◌, ◌<◌, Bool, true, List, [], ◌∷◌, length, Option, Some, None, arith, sym, refl, inl, inr, ◌∙◌, ap, ◌==◌, ◌&&◌, slice_index_or, IfSome}
+use Rattle.printed_rows.proofs.Common.{IfNone, option_map, position_from, cases_Bool, nat_tests, Connection, NetworkModel, IsValid, count, no_connection, run_of, step_of, position_found}
+use Rattle.printed_rows.proofs.Common.{position_none, false_if, connection_of}
+use Rattle.plan_model.specs.{declared.model.ConnectionId.ConnectionId, Search.connection_at}
 use Rattle.plan_model.proofs.Searches.{connection_is}
 
 -- where an index was found, the test holds

@@ -1,7 +1,6 @@
 -- The fields of printed rows, and texts one after another.
 use Rattle.printed_rows.proofs.Common.{◌≡◌, ℕ, ◌+◌, ◌<◌, List, [], ◌∷◌, ◌++◌, length, drop, Some, sym, ◌∙◌, ap, append_assoc, slice_get, slice_index_or}
-use Rattle.std.proofs.lemmas.List.{drop_more}
-use Rattle.std.proofs.lemmas.Option.{get_or_from_slice_get}
+use Rattle.std.proofs.lemmas.{List.drop_more, Option.get_or_from_slice_get}
 
 -- the name of this number
 pub name_is : (names : List (List ℕ)) (i : ℕ) (name : List ℕ) → slice_get names i ≡ Some name → name ≡ slice_index_or names i []

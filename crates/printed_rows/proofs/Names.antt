@@ -1,7 +1,6 @@
 -- The names of a network's places and runs in printed rows.
 use Rattle.printed_rows.proofs.Common.{◌≡◌, ℕ, ◌<◌, length, Some, arith, decimal, trimmed_text, NetworkModel, NameLists, NamesFit, AreNames, IsValid, count, run_of, step_of, number_of, whole_at}
-use Rattle.printed_rows.proofs.Common.{place_name, run_name}
-use Rattle.printed_rows.proofs.Plain.{decimal_kept, whole_back, name_back, name_kept}
+use Rattle.printed_rows.proofs.{Common.{place_name, run_name}, Plain.{decimal_kept, whole_back, name_back, name_kept}}
 
 module _ (n : NetworkModel) (names : NameLists) (fit : NamesFit names n) where
   pub place_kept : (place : ℕ) → place < length n.change → trimmed_text (place_name names place) ≡ place_name names place

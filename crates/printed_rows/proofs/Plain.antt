@@ -1,14 +1,10 @@
 -- Printed fields: no space is at their ends, and they give their numbers.
 use Rattle.printed_rows.proofs.Common.{◌≡◌, ℕ, ◌+◌, ◌-◌, ◌*◌, ◌/◌, ◌%◌, ◌<◌, ◌≤◌, ◌^◌, Bool, true, List, [], ◌∷◌, length, Some, All, arith, sym, refl, ap, ◌∙◌, nat_lt, decimal, slice_index_or}
-use Rattle.printed_rows.proofs.Common.{bytes_eq, IsUtf8, le-leb, list_all, false≢true, and_parts, nat_tests, moment_text, nanos_text, parts_of_day, AreDistinct, IsTrimmed, trimmed_text, number_of}
-use Rattle.printed_rows.proofs.Common.{whole_at, position_found, false_if, with_utf8}
-use Rattle.std.specs.Char.{is_ascii_digit}
-use Rattle.std.specs.Cmp.Lexicographic.{bytes_decides}
-use Rattle.std.proofs.lemmas.Fmt.{decimal_by_steps, decimal_nonempty, length-decimal-le}
-use Rattle.std.proofs.lemmas.List.Folds.{list_all-append}
-use Rattle.std.proofs.lemmas.List.Sums.{fold-append}
-use Rattle.clock_text.specs.Digits.{digits, value_of}
-use Rattle.clock_text.specs.Times.{Parts, text_of_parts}
+use Rattle.printed_rows.proofs.Common.{bytes_eq, IsUtf8, le-leb, list_all, false≢true, and_parts, nat_tests, moment_text, nanos_text, parts_of_day, AreDistinct, IsTrimmed, trimmed_text}
+use Rattle.printed_rows.proofs.Common.{number_of, whole_at, position_found, false_if, with_utf8}
+use Rattle.std.specs.{Char.is_ascii_digit, Cmp.Lexicographic.bytes_decides}
+use Rattle.std.proofs.lemmas.{Fmt.{decimal_by_steps, decimal_nonempty, length-decimal-le}, List.{Folds.list_all-append, Sums.fold-append}}
+use Rattle.clock_text.specs.{Digits.{digits, value_of}, Times.{Parts, text_of_parts}}
 use Rattle.csv_rows.proofs.SpaceLemmas.{trimmed_text-IsTrimmed}
 
 -- each byte is above the space

@@ -1,12 +1,10 @@
 -- The records of a printed text.
 use Rattle.printed_rows.proofs.Common.{◌≡◌, ℕ, zero, suc, ◌+◌, ◌≤◌, ◌==◌, false, List, [], ◌∷◌, ◌++◌, length, map, arith, refl, sym, ap, ◌∙◌, length-append, trimmed_text, row_of_fields}
 use Rattle.printed_rows.proofs.Common.{text_of_records}
-use Rattle.csv.specs.Machine.{next_record}
-use Rattle.csv.specs.Reading.{default_config, records_from, strip_bom}
-use Rattle.csv.specs.Writing.{default_writer, row_text, row_body, read_back}
-use Rattle.csv.specs.declared.parser.State.TheVariants as st
+use Rattle.csv.specs.{Machine.next_record, Reading.{default_config, records_from, strip_bom}, Writing.{default_writer, row_text, row_body, read_back}}
 use Rattle.csv.proofs.RoundTrip.{read-write, rows_text as text_of_rows}
 use Rattle.csv_rows.specs.Tables.{table_of}
+use Rattle.csv.specs.declared.parser.State.TheVariants as st
 
 -- each record's text has a byte
 last_byte : (front mid : List ℕ) → 1 ≤ length (front ++ (mid ++ 10 ∷ []))

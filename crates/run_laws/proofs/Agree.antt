@@ -1,9 +1,8 @@
 -- Two choices that fix one tree, which is safe, choose the same after each leg in it.
-use Rattle.run_laws.proofs.Common.{arith, ◌≡◌, ◌≢◌, ℕ, zero, suc, ◌+◌, List, [], ◌∷◌, Option, Some, None, Contains, sym, subst, inl, inr, ap, cases_eq, eq-eqb, Leg, Outcome, NetworkModel, arr_of, ne_eqb}
-use Rattle.run_laws.proofs.Common.{Tree, Done, Ride, Stuck, Kids, Nil, Kid, IsSafe, IsSafeFromStart, AreSafe, end_of, arrival_of, outcomes_of, kids_after, ride_of, ride_or_stuck, unfold_after}
-use Rattle.run_laws.proofs.Common.{unfold_from, Stands, StandsIn, Contains-nil, Contains-head, Contains-tail, Contains-cons_cases}
-use Rattle.plan_graph.proofs.Searches.{same_leg}
-use Rattle.plan_graph.proofs.Places.{safe_child}
+use Rattle.run_laws.proofs.Common.{arith, ◌≡◌, ◌≢◌, ℕ, zero, suc, ◌+◌, List, [], ◌∷◌, Option, Some, None, Contains, sym, subst, inl, inr, ap, cases_eq, eq-eqb, Leg, Outcome, NetworkModel, arr_of}
+use Rattle.run_laws.proofs.Common.{ne_eqb, Tree, Done, Ride, Stuck, Kids, Nil, Kid, IsSafe, IsSafeFromStart, AreSafe, end_of, arrival_of, outcomes_of, kids_after, ride_of, ride_or_stuck}
+use Rattle.run_laws.proofs.Common.{unfold_after, unfold_from, Stands, StandsIn, Contains-nil, Contains-head, Contains-tail, Contains-cons_cases}
+use Rattle.plan_graph.proofs.{Searches.same_leg, Places.safe_child}
 
 abbrev other_children : Kids → Kids
 other_children Nil = Nil

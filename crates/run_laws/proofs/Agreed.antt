@@ -1,18 +1,10 @@
 -- Two runs agree.
-use Rattle.run_laws.proofs.Common.{Limits, HasOneProblem, RunModel, IsRunWithin}
-use Rattle.journey_problem.specs.OneProblem.{KeepsOwnFiles, HasOneTimetable}
+use Rattle.run_laws.proofs.{Common.{Limits, HasOneProblem, RunModel, IsRunWithin}, Agreeing.{FaultsAreReported, accepted, replayed, punctual_accepted, punctual_replayed, certified, leave}}
+use Rattle.run_laws.proofs.Agreeing.{left_by_worst, never_left, search_alike, share_query, within, strategy, promise_is_sure, worst_is_kept, later_is_no_worse, latest_is_of_last_row}
+use Rattle.run_laws.proofs.{Agreeing.{reach_is_latest, reach_is_first_departure, later_reaches_more, first_fault}, Ends.{one_end, forms_end}, FirstLine.first_line, Greatest.greatest}
+use Rattle.run_laws.proofs.{MoreService.{more, more_latest, more_plans}, PlanRows.{row_of_plan, cut_row_of_plan}, Reordered.{keeps_worst, keeps_plans}, SamplePlans.sample_is_plan, Saving.saving}
 use Rattle.run_laws.specs.Pairs.{Agree}
-use Rattle.run_laws.proofs.Agreeing.{FaultsAreReported, accepted, replayed, punctual_accepted, punctual_replayed, certified, leave, left_by_worst, never_left, search_alike, share_query}
-use Rattle.run_laws.proofs.Agreeing.{within, strategy, promise_is_sure}
-use Rattle.run_laws.proofs.Agreeing.{worst_is_kept, later_is_no_worse, latest_is_of_last_row, reach_is_latest, reach_is_first_departure, later_reaches_more, first_fault}
-use Rattle.run_laws.proofs.Ends.{one_end, forms_end}
-use Rattle.run_laws.proofs.FirstLine.{first_line}
-use Rattle.run_laws.proofs.Greatest.{greatest}
-use Rattle.run_laws.proofs.MoreService.{more, more_latest, more_plans}
-use Rattle.run_laws.proofs.PlanRows.{row_of_plan, cut_row_of_plan}
-use Rattle.run_laws.proofs.Reordered.{keeps_worst, keeps_plans}
-use Rattle.run_laws.proofs.SamplePlans.{sample_is_plan}
-use Rattle.run_laws.proofs.Saving.{saving}
+use Rattle.journey_problem.specs.OneProblem.{KeepsOwnFiles, HasOneTimetable}
 
 module _ (limits : Limits) (r s : RunModel) (first : IsRunWithin limits r) (second : IsRunWithin limits s) (one_problem : HasOneProblem) where
   pub agree : KeepsOwnFiles → FaultsAreReported → HasOneTimetable → Agree limits r s

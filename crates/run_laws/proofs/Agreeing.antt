@@ -1,38 +1,26 @@
 -- What two runs of questions about a journey agree in.
 use Rattle.run_laws.proofs.Common.{◌≡◌, ℕ, ◌≤◌, List, length, Option, None, Some, Result, Ok, Err, arith, ◌↔◌, inl, inr, sym, subst, ap, ◌∙◌, Appends, FileMap, file_at, Limits, Moment, Query}
-use Rattle.run_laws.proofs.Common.{IsLeastWorst, PlanGraph, JobModel, JourneyModel, AskModel, Ask, Safe, Expand, Plan, Certify, CheckProof, CheckGraph, Punctual, Departures, Latest, Reach, job_of}
-use Rattle.run_laws.proofs.Common.{Fault, Problem, status_of, HasOneProblem, IsProblem, Findings, findings_of, Head, graph_of, NetworkModel, IsValid, graph_in, graph_as, trip_by, AnswersPlan, head_of}
-use Rattle.run_laws.proofs.Common.{AnswersCertify, query_until, AnswersAsk, EndsAsk, FailsJourney, FailsScore, EndsByGraphFile, EndsByWalk, AnswersJob, NamedParts, own_problem, WritesLine, Interval}
-use Rattle.run_laws.proofs.Common.{IsEnclosed, punctual_row, [], ◌++◌, RunModel, IsRunWithin, IsUntroubled, worst_kept, no_worse, of_last_row}
-use Rattle.std.proofs.Common.{IsSome}
-use Rattle.std.proofs.lemmas.List.{append_cancel_left}
+use Rattle.run_laws.proofs.Common.{IsLeastWorst, PlanGraph, JobModel, JourneyModel, AskModel, Ask, Safe, Expand, Plan, Certify, CheckProof, CheckGraph, Punctual, Departures, Latest, Reach}
+use Rattle.run_laws.proofs.Common.{job_of, Fault, Problem, status_of, HasOneProblem, IsProblem, Findings, findings_of, Head, graph_of, NetworkModel, IsValid, graph_in, graph_as, trip_by}
+use Rattle.run_laws.proofs.Common.{AnswersPlan, head_of, AnswersCertify, query_until, AnswersAsk, EndsAsk, FailsJourney, FailsScore, EndsByGraphFile, EndsByWalk, AnswersJob, NamedParts}
+use Rattle.run_laws.proofs.Common.{own_problem, WritesLine, Interval, IsEnclosed, punctual_row, [], ◌++◌, RunModel, IsRunWithin, IsUntroubled, worst_kept, no_worse, of_last_row}
+use Rattle.run_laws.proofs.{Reaches.{over_timetable, latest_by_row, begins_the_departures, keeps_rows}, Asks.{answer_of, outcome_of}, BySafety.{one_status, never_latest, by_safety, asked_by}}
+use Rattle.run_laws.proofs.{BySafety.one_asked, Certified.{printed_certificate, value_within}, Departing.{alike, by_worst}, OneFile.{one_ok, never_both}, Plans.one_strategy, Printed.IsSafeText}
+use Rattle.run_laws.proofs.{Printed.{IsAfterRow, of_plan, of_punctual, read_again, accepted as accept, not_stuck, there_is_a_trip, enclosed, keeps_upper}, Queries.{in_one_query, worst_is}}
+use Rattle.run_laws.specs.Pairs.{AskBoth, IsSaved, OrStatus9, PlanIsAccepted, PlanIsReplayed, IsReplayed, PunctualIsAccepted, PunctualIsReplayed, CertificateIsAccepted, LeaveAlike, LeaveByWorst}
+use Rattle.run_laws.specs.Pairs.{NeverLeave, SearchAlike, ShareQuery, CertificateIsWithin, ShareStrategy, PromiseIsSure, WorstIsKept, LaterIsNoWorse, LatestIsOfLastRow, FaultIsFirst}
+use Rattle.run_laws.specs.{Reaches.{from_stop, ReachesBoth, ReachIsLatest, ReachIsFirstDeparture, LaterReachesMore}, Printed.KeepsUpperBound}
+use Rattle.std.proofs.{Common.IsSome, lemmas.List.append_cancel_left}
 use Rattle.command_line.specs.Jobs.{Replay}
-use Rattle.journey_model.specs.declared.faults.Fault.TheVariants as fault
-use Rattle.graph_text.specs.declared.reader.TextFault.{TextFault}
-use Rattle.graph_text.specs.FirstFaults.{IsFirstFaultOf}
+use Rattle.graph_text.specs.{declared.reader.TextFault.TextFault, FirstFaults.IsFirstFaultOf}
 use Rattle.plan_model.specs.NameLists.{NameLists}
 use Rattle.meat_engine.specs.Received.{Outcome}
 use Rattle.meat_engine.proofs.Undisturbed.{fails as job_fails}
-use Rattle.run_laws.specs.Pairs.{AskBoth, IsSaved, OrStatus9, PlanIsAccepted, PlanIsReplayed, IsReplayed, PunctualIsAccepted, PunctualIsReplayed, CertificateIsAccepted, LeaveAlike, LeaveByWorst, NeverLeave, SearchAlike, ShareQuery}
-use Rattle.run_laws.specs.Pairs.{CertificateIsWithin, ShareStrategy, PromiseIsSure, WorstIsKept, LaterIsNoWorse, LatestIsOfLastRow, FaultIsFirst}
-use Rattle.run_laws.specs.Reaches.{from_stop, ReachesBoth, ReachIsLatest, ReachIsFirstDeparture, LaterReachesMore}
-use Rattle.departure_table.specs.declared.DepartureRow.{DepartureRow}
-use Rattle.departure_table.specs.declared.reach_rows.ReachRow.{ReachRow}
-use Rattle.departure_table.specs.Looked.{asked_at}
-use Rattle.journey_answers.specs.Departures.{AreByRules}
-use Rattle.journey_answers.specs.Reach.{AreReached}
+use Rattle.departure_table.specs.{declared.{DepartureRow.DepartureRow, reach_rows.ReachRow.ReachRow}, Looked.asked_at}
+use Rattle.journey_answers.specs.{Departures.AreByRules, Reach.AreReached}
 use Rattle.journey_problem.specs.OneProblem.{HasOneTimetable}
-use Rattle.run_laws.proofs.Reaches.{over_timetable, latest_by_row, begins_the_departures, keeps_rows}
 use Rattle.late_chance.proofs.Rounded.{no_chance}
-use Rattle.run_laws.proofs.Asks.{answer_of, outcome_of}
-use Rattle.run_laws.proofs.BySafety.{one_status, never_latest, by_safety, asked_by, one_asked}
-use Rattle.run_laws.proofs.Certified.{printed_certificate, value_within}
-use Rattle.run_laws.proofs.Departing.{alike, by_worst}
-use Rattle.run_laws.proofs.OneFile.{one_ok, never_both}
-use Rattle.run_laws.proofs.Plans.{one_strategy}
-use Rattle.run_laws.specs.Printed.{KeepsUpperBound}
-use Rattle.run_laws.proofs.Printed.{IsSafeText, IsAfterRow, of_plan, of_punctual, read_again, accepted as accept, not_stuck, there_is_a_trip, enclosed, keeps_upper}
-use Rattle.run_laws.proofs.Queries.{in_one_query, worst_is}
+use Rattle.journey_model.specs.declared.faults.Fault.TheVariants as fault
 
 -- what was written after the same bytes was one text
 pub one_text : (old : Option (List ℕ)) (text other : List ℕ) (new : Option (List ℕ)) → IsSome old → Appends old new text → Appends old new other → text ≡ other

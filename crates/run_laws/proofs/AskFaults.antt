@@ -3,12 +3,10 @@ use Rattle.run_laws.proofs.Common.{◌≡◌, ◌≢◌, ℕ, ◌<◌, ◌⊎◌
 use Rattle.run_laws.proofs.Common.{NetworkModel, IsValid, count, dep_of, IsEarlier, PlanGraph, Head, LowerBounds, ProofFault, IsLastFault, read_once, never_memory, AskModel, Safe, Expand, Plan}
 use Rattle.run_laws.proofs.Common.{Replays, Certify, CheckProof, CheckGraph, Punctual, Departures, Latest, Reach, Input, Fault, Problem, Findings, none_unread, bytes_of, AnswersReplay}
 use Rattle.run_laws.proofs.Common.{IsTripFault, trip_by, IsEnclosed, IsUnsafeGraph, IsHeld, IsBroken, graph_in, InGraphFile, FailsGraph, FailsText, FailsFile, FailsCertificate, InCertificateFile}
-use Rattle.run_laws.proofs.Common.{IsNoSafe, AnswersAsk, FailsAsk, FailsCheck, FailsReplay, FailsScore}
+use Rattle.run_laws.proofs.{Common.{IsNoSafe, AnswersAsk, FailsAsk, FailsCheck, FailsReplay, FailsScore}, FirstFaults.NotRead, OneFile.{one_err, never_both, read_graph, in_graph, read_bytes}}
+use Rattle.run_laws.proofs.{OneFile.{Reads, in_certificate}, Queries.not_none}
 use Rattle.lower_proof.specs.declared.reader.ProofFault.TheVariants.{NoMemory as NoRoom}
 use Rattle.journey_model.specs.declared.faults.Input.TheVariants as input
-use Rattle.run_laws.proofs.FirstFaults.{NotRead}
-use Rattle.run_laws.proofs.OneFile.{one_err, never_both, read_graph, in_graph, read_bytes, Reads, in_certificate}
-use Rattle.run_laws.proofs.Queries.{not_none}
 
 -- ---- of two failures one is first
 

@@ -1,18 +1,12 @@
 -- The answers of two runs are one.
-use Rattle.run_laws.proofs.Common.{arith, ◌≡◌, ℕ, List, None, Some, sym, subst, ◌∙◌, Appends, FileMap, Limits, Moment, Query, JobModel, Ask, Sample, AskModel, Safe, Expand, Plan, Certify, CheckProof}
-use Rattle.run_laws.proofs.Common.{CheckGraph, Punctual, Departures, Latest, Reach, Problem, HasOneProblem, agree_all, own_problem, Findings, findings_of, query_until, AnswersAsk, AnswersJob}
-use Rattle.run_laws.proofs.Common.{AnswersWords, HasAnswer, sample_journey, sample_alpha, AnswersSampled, IsSampled, WritesLine, IsOneAnswer, RunModel, IsRunWithin, HasOneRun}
+use Rattle.run_laws.proofs.Common.{arith, ◌≡◌, ℕ, List, None, Some, sym, subst, ◌∙◌, Appends, FileMap, Limits, Moment, Query, JobModel, Ask, Sample, AskModel, Safe, Expand, Plan, Certify}
+use Rattle.run_laws.proofs.Common.{CheckProof, CheckGraph, Punctual, Departures, Latest, Reach, Problem, HasOneProblem, agree_all, own_problem, Findings, findings_of, query_until, AnswersAsk}
+use Rattle.run_laws.proofs.Common.{AnswersJob, AnswersWords, HasAnswer, sample_journey, sample_alpha, AnswersSampled, IsSampled, WritesLine, IsOneAnswer, RunModel, IsRunWithin, HasOneRun}
+use Rattle.run_laws.proofs.{Framed.{CarriesWords, carried_bytes, framed_answer}, Plans.one_planned, Queries.in_one_query, Certificates.{one_certificate_answer, one_check_answer}}
+use Rattle.run_laws.proofs.{Departures.one_departures_answer, Reaches.one_reach_answer, Texts.{one_safe_answer, one_plan_answer, one_expanded_answer}, Punctuals.one_punctual_answer}
+use Rattle.run_laws.proofs.Files.{one_trip_answer, one_score_answer, one_latest_answer}
 use Rattle.command_line.specs.Jobs.{Replay}
 use Rattle.meat_engine.specs.Received.{Outcome}
-use Rattle.run_laws.proofs.Framed.{CarriesWords, carried_bytes, framed_answer}
-use Rattle.run_laws.proofs.Plans.{one_planned}
-use Rattle.run_laws.proofs.Queries.{in_one_query}
-use Rattle.run_laws.proofs.Certificates.{one_certificate_answer, one_check_answer}
-use Rattle.run_laws.proofs.Departures.{one_departures_answer}
-use Rattle.run_laws.proofs.Reaches.{one_reach_answer}
-use Rattle.run_laws.proofs.Texts.{one_safe_answer, one_plan_answer, one_expanded_answer}
-use Rattle.run_laws.proofs.Punctuals.{one_punctual_answer}
-use Rattle.run_laws.proofs.Files.{one_trip_answer, one_score_answer, one_latest_answer}
 
 module _ (found others : Findings) (text other : List ℕ) where
   abbrev One : Type 0

@@ -1,10 +1,8 @@
 -- What is asked by safe strategies has one status, one query and one least worst arrival.
-use Rattle.run_laws.proofs.Common.{◌≡◌, ℕ, subst, inl, inr, List, Some, FileMap, Limits, Moment, Query, IsQueryOf, reaches_from_safe, AskModel, Safe, Expand, Plan, Certify, arith}
-use Rattle.run_laws.proofs.Common.{Punctual, Problem, Findings, AnswersAsk, EndsAsk, HasNoSafe, query_until, EndsByLatest}
-use Rattle.meat_engine.specs.Ends.{EndsBySafety}
+use Rattle.run_laws.proofs.Common.{◌≡◌, ℕ, subst, inl, inr, List, Some, FileMap, Limits, Moment, Query, IsQueryOf, reaches_from_safe, AskModel, Safe, Expand, Plan, Certify, arith, Punctual}
+use Rattle.run_laws.proofs.{Common.{Problem, Findings, AnswersAsk, EndsAsk, HasNoSafe, query_until, EndsByLatest}, Departing.later_is_now, Queries.in_one_query}
 use Rattle.run_laws.specs.Pairs.{IsBySafety}
-use Rattle.run_laws.proofs.Departing.{later_is_now}
-use Rattle.run_laws.proofs.Queries.{in_one_query}
+use Rattle.meat_engine.specs.Ends.{EndsBySafety}
 
 module _ (p : Problem) (start : ℕ) where
   pub one_status : (status other : ℕ) → EndsBySafety p start status → EndsBySafety p start other → status ≡ other

@@ -1,9 +1,6 @@
 -- The answers about a certificate, and about a certificate file, follow from the problem and the files.
 use Rattle.run_laws.proofs.Common.{arith, ℕ, List, Some, FileMap, Limits, Moment, Query, LowerBounds, IsLeast-unique, Problem, Findings, IsHeld, InCertificateFile, InQuery, AnswersCertify}
-use Rattle.run_laws.proofs.Common.{IsOneAnswer}
-use Rattle.run_laws.proofs.Queries.{in_one_query}
-use Rattle.run_laws.proofs.OneFile.{in_certificate}
-use Rattle.run_laws.proofs.Tight.{one_tight}
+use Rattle.run_laws.proofs.{Common.IsOneAnswer, Queries.in_one_query, OneFile.in_certificate, Tight.one_tight}
 
 module _ (p : Problem) (found others : Findings) (text other : List ℕ) where
   abbrev One : Type 0

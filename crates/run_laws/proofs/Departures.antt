@@ -1,13 +1,11 @@
 -- The departures of a query follow from the problem.
-use Rattle.run_laws.proofs.Common.{◌≡◌, ℕ, ◌+◌, List, [], ◌∷◌, Option, sym, subst, refl, inl, inr, arith, cases_eq, Query, NetworkModel, one_found, Problem, Findings, AreDepartures, AnswersDepartures}
-use Rattle.run_laws.proofs.Common.{IsOneAnswer}
+use Rattle.run_laws.proofs.Common.{◌≡◌, ℕ, ◌+◌, List, [], ◌∷◌, Option, sym, subst, refl, inl, inr, arith, cases_eq, Query, NetworkModel, one_found, Problem, Findings, AreDepartures}
+use Rattle.run_laws.proofs.{Common.{AnswersDepartures, IsOneAnswer}, OneOrder.one_order}
 use Rattle.value_laws.specs.declared.MeanSpan.{MeanSpan}
 use Rattle.meat_scan.specs.ScanResult.{ScanResult}
-use Rattle.departure_table.specs.declared.DepartureRow.{DepartureRow}
+use Rattle.departure_table.specs.{declared.DepartureRow.DepartureRow, Looked.{asked_at, row_found, AreLooked}}
 use Rattle.plan_model.specs.Gates.{extended_by}
-use Rattle.departure_table.specs.Looked.{asked_at, row_found, AreLooked}
 use Rattle.journey_answers.specs.Departures.{IsRuled, AreByRules, added_query}
-use Rattle.run_laws.proofs.OneOrder.{one_order}
 
 -- rows that are looked up in the same way are the same
 one_looked : (look : ℕ → Option DepartureRow) (last next : ℕ) (xs ys : List DepartureRow) → AreLooked look last next xs → AreLooked look last next ys → xs ≡ ys

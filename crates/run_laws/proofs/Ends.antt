@@ -1,23 +1,16 @@
 -- Two runs that nothing disturbs end in one way.
-use Rattle.run_laws.proofs.Common.{arith, ◌≡◌, ◌≢◌, ℕ, ◌⊎◌, List, [], Option, None, Some, Ok, Err, inl, inr, refl, sym, subst, ap, ◌∙◌, Appends, Keeps, FileMap, file_at, Limits, JobModel, Ask, Sample}
-use Rattle.run_laws.proofs.Common.{JourneyModel, AskModel, Plan, job_of, Fault, Write, NoMemory, Problem, status_of, NamedParts, HasOneProblem, no_fault, agree_all, Findings, findings_of}
-use Rattle.run_laws.proofs.Common.{no_findings, FailsJourney, AnswersJob, AnswersWords, FailsJob, IsExplained, IsRefused, WritesLine, sample_journey, sample_alpha, RunModel, IsRunWithin, IsUntroubled}
-use Rattle.run_laws.proofs.Common.{IsOneEnd, EndAlike}
+use Rattle.run_laws.proofs.Common.{arith, ◌≡◌, ◌≢◌, ℕ, ◌⊎◌, List, [], Option, None, Some, Ok, Err, inl, inr, refl, sym, subst, ap, ◌∙◌, Appends, Keeps, FileMap, file_at, Limits, JobModel, Ask}
+use Rattle.run_laws.proofs.Common.{Sample, JourneyModel, AskModel, Plan, job_of, Fault, Write, NoMemory, Problem, status_of, NamedParts, HasOneProblem, no_fault, agree_all, Findings, findings_of}
+use Rattle.run_laws.proofs.Common.{no_findings, FailsJourney, AnswersJob, AnswersWords, FailsJob, IsExplained, IsRefused, WritesLine, sample_journey, sample_alpha, RunModel, IsRunWithin}
+use Rattle.run_laws.proofs.{Common.{IsUntroubled, IsOneEnd, EndAlike}, Asks.{one_answer, outcome_of}, AskFaults.{one_ask_fault, answered_or_not}, FirstFaults.{NotRead, one_first_fault}}
+use Rattle.run_laws.proofs.{Framed.{CarriesWords, carried_bytes, carried_records, by_bytes, journey_fails, framed_answer, framed_cause}, Queries.not_none}
+use Rattle.run_laws.specs.{OneRun.{EndAlikeOver, FormsEndAlike}, Runs.{AgreeOn, ReadAlikeOn}}
 use Rattle.std.proofs.Common.{append-nil}
-use Rattle.command_line.specs.declared.job.WordsFault.{WordsFault}
-use Rattle.journey_model.specs.Known.{parts_of}
-use Rattle.command_line.specs.Jobs.{SourceModel}
+use Rattle.command_line.specs.{declared.job.WordsFault.WordsFault, Jobs.SourceModel}
+use Rattle.journey_model.specs.{Known.parts_of, FaultLines.line_of}
 use Rattle.journey_problem.specs.FaultsBeforeSearch.{IsBeforeSearch}
-use Rattle.journey_model.specs.FaultLines.{line_of}
 use Rattle.journey_problem.proofs.OneProblem.{one_problem}
-use Rattle.run_laws.specs.OneRun.{EndAlikeOver, FormsEndAlike}
-use Rattle.run_laws.specs.Runs.{AgreeOn, ReadAlikeOn}
 use Rattle.meat_engine.specs.Received.{Outcome}
-use Rattle.run_laws.proofs.Asks.{one_answer, outcome_of}
-use Rattle.run_laws.proofs.AskFaults.{one_ask_fault, answered_or_not}
-use Rattle.run_laws.proofs.FirstFaults.{NotRead, one_first_fault}
-use Rattle.run_laws.proofs.Framed.{CarriesWords, carried_bytes, carried_records, by_bytes, journey_fails, framed_answer, framed_cause}
-use Rattle.run_laws.proofs.Queries.{not_none}
 
 -- a fault that comes before the search is at no site, so its line is one whatever timetable is known
 line_before : (known other : Option NamedParts) (timetable : SourceModel) (fault : Fault) → IsBeforeSearch timetable fault → line_of known fault ≡ line_of other fault

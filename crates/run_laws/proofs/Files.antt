@@ -1,7 +1,6 @@
 -- The answers about a graph file, and about the latest moment, follow from the files.
 use Rattle.run_laws.proofs.Common.{ℕ, List, Some, arith, cases_lt, FileMap, Limits, Moment, Query, PlanGraph, Head, Problem, Findings, AnswersReplay, IsEnclosed, InGraphFile, AnswersLatest}
-use Rattle.run_laws.proofs.Common.{IsOneAnswer}
-use Rattle.run_laws.proofs.OneFile.{in_graph}
+use Rattle.run_laws.proofs.{Common.IsOneAnswer, OneFile.in_graph}
 
 abbrev moment_of : ℕ → Moment
 moment_of m = record { 0 = m }

@@ -1,9 +1,8 @@
 -- The files of a journey have one first fault.
-use Rattle.run_laws.proofs.Common.{arith, ◌≡◌, ◌≢◌, ℕ, List, Option, None, Some, Result, Err, inl, inr, subst, ◌∙◌, FileMap, Limits, Table, FeedFault, unread_table, tables_in}
-use Rattle.run_laws.proofs.Common.{SourceModel, CutFile, FeedFolder, JourneyModel, Input, Fault, Read, NoMemory, unread_input, GtfsFolder, IsFolderFault, IsWindowFault}
-use Rattle.run_laws.proofs.Common.{IsFaultAfterFolder, IsFeedProblemFault, IsProblemFault, IsProblemFaultOver, none_unread, table_read, not_feed, no_folder_fault}
-use Rattle.journey_problem.proofs.OneFeed.{one_feed_of}
-use Rattle.journey_problem.proofs.OneFeedProblem.{SameGtfsFolder, one_folder, one_window_fault}
+use Rattle.run_laws.proofs.Common.{arith, ◌≡◌, ◌≢◌, ℕ, List, Option, None, Some, Result, Err, inl, inr, subst, ◌∙◌, FileMap, Limits, Table, FeedFault, unread_table, tables_in, SourceModel}
+use Rattle.run_laws.proofs.Common.{CutFile, FeedFolder, JourneyModel, Input, Fault, Read, NoMemory, unread_input, GtfsFolder, IsFolderFault, IsWindowFault, IsFaultAfterFolder, IsFeedProblemFault}
+use Rattle.run_laws.proofs.Common.{IsProblemFault, IsProblemFaultOver, none_unread, table_read, not_feed, no_folder_fault}
+use Rattle.journey_problem.proofs.{OneFeed.one_feed_of, OneFeedProblem.{SameGtfsFolder, one_folder, one_window_fault}}
 
 abbrev pub NotRead : Fault → Type 0
 NotRead fault = (i : Input) → fault ≡ Read i → ⊥

@@ -1,22 +1,15 @@
 -- What `punctual` wrote up to its first end of a line is the row of its chance.
-use Rattle.std.proofs.lemmas.Grind.{common_steps}
-use Rattle.run_laws.proofs.Common.{◌≡◌, ℕ, suc, zero, ◌+◌, List, [], ◌∷◌, ◌++◌, arith, refl, sym, ap, subst, ◌∙◌, cases_Bool, false, ne_eqb, Contains, Contains-head, Contains-tail, Limits, Punctual}
-use Rattle.run_laws.proofs.Common.{Interval, findings_of, RunModel, IsRunWithin}
-use Rattle.journey_report.specs.AnswerTexts.{punctual_row}
-use Rattle.std.proofs.Common.{Bool, true, ◌==◌, ◌||◌, ◌/◌, ◌%◌, append_assoc, codes}
-use Rattle.std.proofs.lemmas.Bool.{false≢true}
-use Rattle.std.proofs.lemmas.List.Folds.{list_any-append}
+use Rattle.std.proofs.{lemmas.{Grind.common_steps, Bool.false≢true, List.Folds.list_any-append}, Common.{Bool, true, ◌==◌, ◌||◌, ◌/◌, ◌%◌, append_assoc, codes}}
 use Rattle.std.specs.List.{list_any}
+use Rattle.run_laws.proofs.Common.{◌≡◌, ℕ, suc, zero, ◌+◌, List, [], ◌∷◌, ◌++◌, arith, refl, sym, ap, subst, ◌∙◌, cases_Bool, false, ne_eqb, Contains, Contains-head, Contains-tail, Limits}
+use Rattle.run_laws.proofs.{Common.{Punctual, Interval, findings_of, RunModel, IsRunWithin}, Agreeing.{answered, one_some, one_text}, Printed.of_punctual}
+use Rattle.run_laws.specs.Saved.{FirstLineIsItsRow}
+use Rattle.journey_report.specs.AnswerTexts.{punctual_row}
 use Rattle.csv.specs.Writing.{default_writer, escaped, field_text, fields_text, is_blank, row_body}
-use Rattle.clock_text.specs.Civil.{moment_text, parts_of_day}
-use Rattle.clock_text.specs.Digits.{digits}
-use Rattle.clock_text.specs.Times.{Parts, text_of_parts}
+use Rattle.clock_text.specs.{Civil.{moment_text, parts_of_day}, Digits.digits, Times.{Parts, text_of_parts}}
 use Rattle.late_chance.specs.Chances.{chance_text}
 use Rattle.plan_model.specs.Bounds.{certainty}
 use Rattle.printed_rows.specs.Records.{row_of_fields}
-use Rattle.run_laws.specs.Saved.{FirstLineIsItsRow}
-use Rattle.run_laws.proofs.Agreeing.{answered, one_some, one_text}
-use Rattle.run_laws.proofs.Printed.{of_punctual}
 
 -- no byte ends a line
 abbrev HasNoEnd : List ℕ → Type 0

@@ -1,17 +1,15 @@
 -- What is answered, and why it is not, depends on the records of the files at the paths that the words name, and on no others.
-use Rattle.run_laws.proofs.Common.{arith, ◌≡◌, ◌⊎◌, ℕ, List, Option, None, Some, Result, Ok, Err, inl, inr, sym, subst, ◌∙◌, FileMap, file_at, table_of, Limits}
-use Rattle.run_laws.proofs.Common.{JobModel, Ask, Sample, job_of, JourneyModel, AskModel, Replays, CheckProof, CheckGraph, Query}
-use Rattle.run_laws.proofs.Common.{PlanGraph, Head, LowerBounds, Fault, Input, unread_input, NamedParts, Problem, Findings, bytes_of, AgreeAt, AgreeFor, agree_sym, own_problem, own_fault}
-use Rattle.run_laws.proofs.Common.{file_path, own_paths, path_in, graph_in, graph_as, graph_of, InGraphFile, FailsGraph, FailsFile, FailsCertificate, InCertificateFile, IsProblem, IsProblemFault}
-use Rattle.run_laws.proofs.Common.{AnswersAsk, FailsAsk, FailsJourney, AnswersJob, AnswersWords, FailsJob, IsExplained, AgreeOn}
+use Rattle.run_laws.proofs.Common.{arith, ◌≡◌, ◌⊎◌, ℕ, List, Option, None, Some, Result, Ok, Err, inl, inr, sym, subst, ◌∙◌, FileMap, file_at, table_of, Limits, JobModel, Ask, Sample, job_of}
+use Rattle.run_laws.proofs.Common.{JourneyModel, AskModel, Replays, CheckProof, CheckGraph, Query, PlanGraph, Head, LowerBounds, Fault, Input, unread_input, NamedParts, Problem, Findings}
+use Rattle.run_laws.proofs.Common.{bytes_of, AgreeAt, AgreeFor, agree_sym, own_problem, own_fault, file_path, own_paths, path_in, graph_in, graph_as, graph_of, InGraphFile, FailsGraph, FailsFile}
+use Rattle.run_laws.proofs.Common.{FailsCertificate, InCertificateFile, IsProblem, IsProblemFault, AnswersAsk, FailsAsk, FailsJourney, AnswersJob, AnswersWords, FailsJob, IsExplained, AgreeOn}
+use Rattle.run_laws.specs.Runs.{ReadAlikeOn}
 use Rattle.std.proofs.Common.{IfSome}
 use Rattle.plan_model.specs.Results.{and_then}
 use Rattle.lower_proof.specs.Reading.{IsProofReported}
-use Rattle.journey_model.specs.declared.faults.Input.TheVariants as input
 use Rattle.journey_problem.proofs.SameFiles.{alike_sym, problem_of_records, fault_of_records}
-use Rattle.journey_problem.specs.Files.{OwnPaths, Records, ReadAlikeAt, HaveSameRecords, bytes_present}
-use Rattle.journey_problem.specs.Paths.{ReadAlike}
-use Rattle.run_laws.specs.Runs.{ReadAlikeOn}
+use Rattle.journey_problem.specs.{Files.{OwnPaths, Records, ReadAlikeAt, HaveSameRecords, bytes_present}, Paths.ReadAlike}
+use Rattle.journey_model.specs.declared.faults.Input.TheVariants as input
 
 -- the files of a journey are among those that are read for a question about it
 pub agree_for : (j : JourneyModel) (own : OwnPaths) (files other : FileMap) → AgreeAt (file_path j own) files other → AgreeFor j files other

@@ -1,7 +1,7 @@
 -- Where the certificate of `certify` has a value, one that `check` accepts has one that is no greater.
-use Rattle.run_laws.proofs.Common.{sym, ap, subst, ◌∙◌, Limits, Query, Certify, CheckProof, Findings, HasOneProblem, RunModel, IsRunWithin, IsAccepted}
+use Rattle.run_laws.proofs.{Common.{sym, ap, subst, ◌∙◌, Limits, Query, Certify, CheckProof, Findings, HasOneProblem, RunModel, IsRunWithin, IsAccepted}, Agreeing.{of_first, of_second}}
+use Rattle.run_laws.proofs.Agreeing.{second_over, one_some}
 use Rattle.run_laws.specs.Greatest.{CertificateIsGreatest}
-use Rattle.run_laws.proofs.Agreeing.{of_first, of_second, second_over, one_some}
 
 module _ (limits : Limits) (r s : RunModel) (first : IsRunWithin limits r) (second : IsRunWithin limits s) (one_problem : HasOneProblem) where
   pub greatest : CertificateIsGreatest r s

@@ -1,6 +1,6 @@
 -- A graph file has one graph, and a certificate file one certificate; what holds of one that was read holds of another.
-use Rattle.run_laws.proofs.Common.{arith, ◌≡◌, ℕ, List, None, Some, Result, Ok, Err, FileMap, file_at, Limits, Query, PlanGraph, Head, LowerBounds, ProofFault, read_once, Fault, Problem, bytes_of}
-use Rattle.run_laws.proofs.Common.{graph_in, InGraphFile, InCertificateFile}
+use Rattle.run_laws.proofs.Common.{arith, ◌≡◌, ℕ, List, None, Some, Result, Ok, Err, FileMap, file_at, Limits, Query, PlanGraph, Head, LowerBounds, ProofFault, read_once, Fault, Problem}
+use Rattle.run_laws.proofs.Common.{bytes_of, graph_in, InGraphFile, InCertificateFile}
 use Rattle.lower_proof.specs.Reading.{IsProofRead}
 use Rattle.journey_model.specs.declared.faults.Input.TheVariants as input
 

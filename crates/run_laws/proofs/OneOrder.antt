@@ -1,7 +1,6 @@
 -- A network has one scan order.
-use Rattle.run_laws.proofs.Common.{◌≡◌, ◌<◌, List, arith, All-contains, ConnectionId, NetworkModel, count, IsScanOrder, IsEarlier}
+use Rattle.run_laws.proofs.{Common.{◌≡◌, ◌<◌, List, arith, All-contains, ConnectionId, NetworkModel, count, IsScanOrder, IsEarlier}, Rising.{HasAll, one_rising}}
 use Rattle.plan_model.proofs.ScanOrders.{HasEachId, has_each_id}
-use Rattle.run_laws.proofs.Rising.{HasAll, one_rising}
 
 abbrev Before : NetworkModel → ConnectionId → ConnectionId → Type 0
 Before n a b = IsEarlier n a.0 b.0

@@ -1,9 +1,8 @@
 -- The strategy that the rules keep, and its value, follow from the network and the query.
-use Rattle.run_laws.proofs.Common.{arith, ◌≡◌, ◌≢◌, List, Some, ap, cases_eq, Interval, ConnectionId, Leg, Query, NetworkModel, IsSafeFor, Tree, Done, unfolding_of, by_place, mean_scoring, from_span}
-use Rattle.run_laws.proofs.Common.{Kept, IsByRules, kept_after, kept_leg}
+use Rattle.run_laws.proofs.Common.{arith, ◌≡◌, ◌≢◌, List, Some, ap, cases_eq, Interval, ConnectionId, Leg, Query, NetworkModel, IsSafeFor, Tree, Done, unfolding_of, by_place, mean_scoring}
+use Rattle.run_laws.proofs.{Common.{from_span, Kept, IsByRules, kept_after, kept_leg}, OneOrder.one_order}
 use Rattle.value_laws.specs.ScoreLaws.{Scoring}
 use Rattle.decision_graph.specs.GraphValues.{IsBest}
-use Rattle.run_laws.proofs.OneOrder.{one_order}
 
 -- where source and target are one place, to have arrived is the one safe strategy
 at_once : (n : NetworkModel) (q : Query) (tree : Tree) → q.source.0 ≡ q.target.0 → IsSafeFor n q tree → tree ≡ Done q.start.0

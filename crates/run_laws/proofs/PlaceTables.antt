@@ -1,14 +1,10 @@
 -- A tidy graph by place follows from its tree.
-use Rattle.run_laws.proofs.Common.{◌≡◌, ◌≢◌, ℕ, ◌<◌, ◌≤◌, List, [], ◌∷◌, length, Option, Some, None, MatchOption, All, AllPairs, Contains, arith, sym, subst, refl, inl, inr, ◌∙◌, ap, ap₂, cases_eq}
-use Rattle.run_laws.proofs.Common.{All-nil, All-contains, Leg, Query, NetworkModel, Tree, end_of, arrival_of, unfolding_of, by_place, GraphRow, PlanGraph, pick_row, pick_at, rows_of_place}
-use Rattle.run_laws.proofs.Common.{IsSafeForSome, unfold_plan, table_here, table_further, rows_of_place-by, one_found, first_pick, picked_there, Contains-nil, Contains-head, Contains-tail}
-use Rattle.run_laws.proofs.Common.{Contains-cons_cases, AllPairs-head, AllPairs-tail}
+use Rattle.run_laws.proofs.Common.{◌≡◌, ◌≢◌, ℕ, ◌<◌, ◌≤◌, List, [], ◌∷◌, length, Option, Some, None, MatchOption, All, AllPairs, Contains, arith, sym, subst, refl, inl, inr, ◌∙◌, ap, ap₂}
+use Rattle.run_laws.proofs.Common.{cases_eq, All-nil, All-contains, Leg, Query, NetworkModel, Tree, end_of, arrival_of, unfolding_of, by_place, GraphRow, PlanGraph, pick_row, pick_at}
+use Rattle.run_laws.proofs.Common.{rows_of_place, IsSafeForSome, unfold_plan, table_here, table_further, rows_of_place-by, one_found, first_pick, picked_there, Contains-nil, Contains-head}
+use Rattle.run_laws.proofs.{Common.{Contains-tail, Contains-cons_cases, AllPairs-head, AllPairs-tail}, Rising.{HasAll, one_rising}, Agree.{start_same, agree_from}}
 use Rattle.plan_model.specs.Ways.{limit_of}
-use Rattle.plan_graph.specs.declared.PlaceTable.{PlaceTable}
-use Rattle.plan_graph.specs.Tidy.{IsFitRow, IsFitTable, IsFitStart, IsPickedIn, IsTidy}
-use Rattle.plan_graph.specs.Walked.{row_by}
-use Rattle.run_laws.proofs.Rising.{HasAll, one_rising}
-use Rattle.run_laws.proofs.Agree.{start_same, agree_from}
+use Rattle.plan_graph.specs.{declared.PlaceTable.PlaceTable, Tidy.{IsFitRow, IsFitTable, IsFitStart, IsPickedIn, IsTidy}, Walked.row_by}
 
 -- a row is given by its moment and its leg
 pub row_same : (a b : GraphRow) → a.by.0 ≡ b.by.0 → a.leg ≡ b.leg → a ≡ b

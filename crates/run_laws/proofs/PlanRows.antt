@@ -1,15 +1,12 @@
 -- Over one network the first row of `departures` by a moment has the upper bound of the plan of who sets out then.
-use Rattle.run_laws.proofs.Common.{◌≡◌, ◌≢◌, ℕ, refl, sym, ap, subst, ◌∙◌, List, [], Option, Some, MatchOption, Limits, NetworkModel, Query, Departures, Plan, Problem, HasOneProblem, Findings, arith}
-use Rattle.run_laws.proofs.Common.{findings_of, FileMap, JourneyModel, SourceModel, own_problem, AnswersAsk, query_until, unfold_plan, Interval, RunModel, IsRunWithin}
-use Rattle.decision_graph.specs.GraphValues.{IsBest}
-use Rattle.departure_table.specs.Departures.{IsBestFrom, IsNoneSafeFrom, SafeFrom, first_row_by}
-use Rattle.departure_table.specs.declared.DepartureRow.{DepartureRow}
-use Rattle.journey_answers.specs.Departures.{SafeOf}
-use Rattle.journey_problem.specs.CutProblems.{IsCutProblem}
-use Rattle.journey_problem.specs.Problems.{IsProblemOver}
+use Rattle.run_laws.proofs.Common.{◌≡◌, ◌≢◌, ℕ, refl, sym, ap, subst, ◌∙◌, List, [], Option, Some, MatchOption, Limits, NetworkModel, Query, Departures, Plan, Problem, HasOneProblem, Findings}
+use Rattle.run_laws.proofs.{Common.{arith, findings_of, FileMap, JourneyModel, SourceModel, own_problem, AnswersAsk, query_until, unfold_plan, Interval, RunModel, IsRunWithin}, Agreeing.answered}
+use Rattle.run_laws.proofs.{Agreeing.one_some, RowBounds.row_upper}
 use Rattle.run_laws.specs.RowsOfPlans.{RowIsOfPlan, CutRowIsOfPlan, starting}
-use Rattle.run_laws.proofs.Agreeing.{answered, one_some}
-use Rattle.run_laws.proofs.RowBounds.{row_upper}
+use Rattle.decision_graph.specs.GraphValues.{IsBest}
+use Rattle.departure_table.specs.{Departures.{IsBestFrom, IsNoneSafeFrom, SafeFrom, first_row_by}, declared.DepartureRow.DepartureRow}
+use Rattle.journey_answers.specs.Departures.{SafeOf}
+use Rattle.journey_problem.specs.{CutProblems.IsCutProblem, Problems.IsProblemOver}
 
 no_row : (moment : ℕ) (rows : List DepartureRow) (row : DepartureRow) → rows ≡ [] → first_row_by moment rows ≡ Some row → ⊥
 no_row moment rows row none found = grind arith

@@ -1,11 +1,7 @@
 -- The graphs and the bounds of a query follow from the network and the query.
 use Rattle.run_laws.proofs.Common.{arith, ◌≡◌, ◌≢◌, Option, MatchOption, Interval, Leg, Query, NetworkModel, ExpandedGraph, PlanGraph, unfold_expanded, unfold_plan, IsPlanned, HasEveryRow}
-use Rattle.run_laws.proofs.Common.{IsOneStrategy}
+use Rattle.run_laws.proofs.{Common.IsOneStrategy, Agree.start_same, OneStrategy.{IsTheMean, the_best, one_best}, RideTables.one_reported, PlaceTables.one_tidy}
 use Rattle.decision_graph.specs.Planned.{IsExpanded}
-use Rattle.run_laws.proofs.Agree.{start_same}
-use Rattle.run_laws.proofs.OneStrategy.{IsTheMean, the_best, one_best}
-use Rattle.run_laws.proofs.RideTables.{one_reported}
-use Rattle.run_laws.proofs.PlaceTables.{one_tidy}
 
 module _ (n : NetworkModel) (q : Query) where
   of_plan : (graph : PlanGraph) (bounds : Interval) → IsPlanned n q graph bounds → IsTheMean n q (unfold_plan graph n q) bounds

@@ -1,18 +1,15 @@
 -- What `plan` prints, and what `punctual` prints after its row, is a graph file that is read, and whose graph is safe.
-use Rattle.run_laws.proofs.Common.{◌≡◌, ℕ, ◌≤◌, ap, sym, ◌∙◌, subst, arith, inl, inr, List, [], ◌++◌, None, Some, Result, Ok, Err, length, nat_lt, nat_tests, FileMap, file_at, Limits}
-use Rattle.run_laws.proofs.Common.{Interval, Query, IsSafeFor, PlanGraph, unfold_plan, Head, IsReadAs, Fault, Problem, Findings, graph_in, InGraphFile, IsEnclosed, InQuery, AnswersPlan, head_of}
+use Rattle.run_laws.proofs.Common.{◌≡◌, ℕ, ◌≤◌, ap, sym, ◌∙◌, subst, arith, inl, inr, List, [], ◌++◌, None, Some, Result, Ok, Err, length, nat_lt, nat_tests, FileMap, file_at, Limits, Interval}
+use Rattle.run_laws.proofs.Common.{Query, IsSafeFor, PlanGraph, unfold_plan, Head, IsReadAs, Fault, Problem, Findings, graph_in, InGraphFile, IsEnclosed, InQuery, AnswersPlan, head_of}
 use Rattle.run_laws.proofs.Common.{EndsByScore, EndsByGraphFile, trip_by, ReplayFault, plan_text, punctual_row}
+use Rattle.run_laws.specs.Printed.{ArrivesByFile, KeepsUpperBound}
 use Rattle.graph_text.proofs.Accepted.{text_read}
 use Rattle.graph_score.specs.Scores.{span_of}
 use Rattle.journey_answers.specs.Punctual.{AnswersPunctual}
 use Rattle.journey_answers.proofs.Bounds.{bounds_of_graph}
-use Rattle.run_laws.specs.Printed.{ArrivesByFile, KeepsUpperBound}
-use Rattle.trip_replay.specs.declared.Trace.{Trace}
+use Rattle.trip_replay.specs.{declared.Trace.Trace, Walk.{walk, IsAnswer, IsSafeAnswer}, Late.{ArePossible, Arrives}}
+use Rattle.trip_replay.proofs.{Walks.safe_answer, Arrivals.arrives}
 use Rattle.trip_replay.specs.declared.ReplayFault.TheVariants as stop
-use Rattle.trip_replay.specs.Walk.{walk, IsAnswer, IsSafeAnswer}
-use Rattle.trip_replay.specs.Late.{ArePossible, Arrives}
-use Rattle.trip_replay.proofs.Walks.{safe_answer}
-use Rattle.trip_replay.proofs.Arrivals.{arrives}
 
 -- a result has one value
 ok_is : {A : Type 0} (a b : A) (r : Result A Fault) → r ≡ Ok a → r ≡ Ok b → a ≡ b

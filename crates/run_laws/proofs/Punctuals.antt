@@ -1,13 +1,10 @@
 -- A problem, a start, a percentage and a promise have one answer.
 use Rattle.run_laws.proofs.Common.{arith, ◌≡◌, ℕ, List, ◌++◌, sym, ap, ap₂, ◌∙◌, Interval, Moment, Query, NetworkModel, PlanGraph, unfold_plan, plan_text, Problem, Findings, punctual_findings}
-use Rattle.run_laws.proofs.Common.{punctual_row, InQuery, head_of, IsOneAnswer}
+use Rattle.run_laws.proofs.{Common.{punctual_row, InQuery, head_of, IsOneAnswer}, OneStrategy.{IsThe, only_one}, PlaceTables.one_tidy, Queries.in_one_query}
 use Rattle.graph_score.specs.Scores.{span_of}
 use Rattle.late_chance.specs.Chances.{chance_scoring}
 use Rattle.decision_graph.specs.LeastChances.{IsLeastChance, IsSeenLater}
 use Rattle.journey_answers.specs.Punctual.{AnswersPunctual}
-use Rattle.run_laws.proofs.OneStrategy.{IsThe, only_one}
-use Rattle.run_laws.proofs.PlaceTables.{one_tidy}
-use Rattle.run_laws.proofs.Queries.{in_one_query}
 
 module _ (n : NetworkModel) (q : Query) where
   the : (graph : PlanGraph) (chance : Interval) → IsLeastChance n q graph chance

@@ -1,28 +1,17 @@
 -- From where one can reach a target follows from the problem, and agrees with the latest moment and the departures of each place.
 use Rattle.run_laws.proofs.Common.{◌≡◌, ◌≢◌, ℕ, ◌+◌, ◌<◌, ◌≤◌, List, [], ◌∷◌, length, All, MatchOption, Option, Some, None, sym, subst, refl, ap, ◌∙◌, inl, inr, arith, cases_eq, cases_lt}
-use Rattle.run_laws.proofs.Common.{cases_order, Moment, Query}
-use Rattle.std.proofs.Common.{slice_index_or}
-use Rattle.run_laws.proofs.Common.{NetworkModel, mean_scoring, Tree, one_found, Problem, Findings, query_until, IsOneAnswer, EndsByLatest, HasSafeFor, IsScanOrder, ConnectionId, reaches_from_safe}
-use Rattle.plan_model.specs.declared.model.PlaceId.{PlaceId}
-use Rattle.plan_model.specs.Gates.{FitGates, extended_by}
-unfoldable use Rattle.plan_model.specs.Network.{connection}
-use Rattle.plan_model.proofs.Laws.{safe_from_reaches}
-use Rattle.meat_scan.specs.Rules.{FollowsRules}
-use Rattle.departure_table.specs.declared.DepartureRow.{DepartureRow}
-use Rattle.departure_table.specs.declared.reach_rows.ReachRow.{ReachRow}
-use Rattle.departure_table.specs.Departures.{SafeFrom, IsNoneSafeFrom, IsGreatestMoment}
-use Rattle.departure_table.specs.Looked.{asked_at, row_found}
-use Rattle.departure_table.specs.Reach.{IsReach, IsReachRow, IsFoundAtGate, BeginsWithBounds, places_of, row_of_place}
-use Rattle.departure_table.proofs.EachRow.{of_place, none_of_place, same_rows, each_row}
-use Rattle.departure_table.proofs.ReachGrowth.{count_up_to}
-use Rattle.departure_table.proofs.SameGates.{first_departure}
-use Rattle.journey_answers.specs.Departures.{SafeOf}
-use Rattle.journey_answers.specs.Departures.{AreByRules, added_query}
-use Rattle.journey_answers.specs.Reach.{AreReached, AnswersReach}
-use Rattle.run_laws.proofs.Departures.{found_at}
-use Rattle.run_laws.proofs.Departing.{later_is_now}
-use Rattle.run_laws.proofs.OneOrder.{one_order}
+use Rattle.run_laws.proofs.Common.{cases_order, Moment, Query, NetworkModel, mean_scoring, Tree, one_found, Problem, Findings, query_until, IsOneAnswer, EndsByLatest, HasSafeFor, IsScanOrder}
+use Rattle.run_laws.proofs.{Common.{ConnectionId, reaches_from_safe}, Departures.found_at, Departing.later_is_now, OneOrder.one_order}
 use Rattle.run_laws.specs.Reaches.{KeepsRow}
+use Rattle.std.proofs.Common.{slice_index_or}
+use Rattle.plan_model.specs.{declared.model.PlaceId.PlaceId, Gates.{FitGates, extended_by}}
+use Rattle.plan_model.proofs.Laws.{safe_from_reaches}
+unfoldable use Rattle.plan_model.specs.Network.{connection}
+use Rattle.meat_scan.specs.Rules.{FollowsRules}
+use Rattle.departure_table.specs.{declared.{DepartureRow.DepartureRow, reach_rows.ReachRow.ReachRow}, Departures.{SafeFrom, IsNoneSafeFrom, IsGreatestMoment}, Looked.{asked_at, row_found}}
+use Rattle.departure_table.specs.Reach.{IsReach, IsReachRow, IsFoundAtGate, BeginsWithBounds, places_of, row_of_place}
+use Rattle.departure_table.proofs.{EachRow.{of_place, none_of_place, same_rows, each_row}, ReachGrowth.count_up_to, SameGates.first_departure}
+use Rattle.journey_answers.specs.{Departures.{SafeOf, AreByRules, added_query}, Reach.{AreReached, AnswersReach}}
 
 -- there is one greatest moment
 one_greatest : (Safe : ℕ → Tree → Type 0) (first : ℕ) (a b : Moment) → IsGreatestMoment Safe first (Some a) → IsGreatestMoment Safe first (Some b) → a ≡ b

@@ -1,12 +1,7 @@
 -- Over feeds of the same rows, in whatever order, two runs find one least worst arrival and one upper bound.
 use Rattle.run_laws.proofs.Common.{◌≡◌, ℕ, ◌≤◌, arith, refl, sym, ap, ◌∙◌, Option, None, FileMap, Limits, Moment, JourneyModel, AskModel, Plan, HasOneProblem, findings_of, RunModel, IsRunWithin}
-use Rattle.run_laws.proofs.Common.{status_of, deadline_of}
-use Rattle.run_laws.specs.MoreService.{AskWithMore, FindsNoLater}
-use Rattle.run_laws.specs.MoreService.{AskReordered, OrderKeepsWorst, OrderKeepsPlans}
-use Rattle.run_laws.specs.TwoRuns.{OrStatus9}
-use Rattle.run_laws.proofs.Agreeing.{answered, one_some}
-use Rattle.run_laws.proofs.BySafety.{asked_by}
-use Rattle.run_laws.proofs.MoreService.{more, more_plans}
+use Rattle.run_laws.proofs.{Common.{status_of, deadline_of}, Agreeing.{answered, one_some}, BySafety.asked_by, MoreService.{more, more_plans}}
+use Rattle.run_laws.specs.{MoreService.{AskWithMore, FindsNoLater, AskReordered, OrderKeepsWorst, OrderKeepsPlans}, TwoRuns.OrStatus9}
 
 -- each moment is no later than the other
 one_moment : (first second : Option Moment) → FindsNoLater first second → FindsNoLater second first → first ≡ second

@@ -2,13 +2,10 @@
 use Rattle.run_laws.proofs.Common.{◌≡◌, ◌≢◌, ℕ, List, [], ◌∷◌, map, Option, Some, None, MatchOption, All, AllPairs, Contains, arith, sym, subst, refl, inl, inr, ◌∙◌, ap, ap₂, cases_eq, ne_eqb}
 use Rattle.run_laws.proofs.Common.{eq-eqb, All-head, All-contains, Leg, Outcome, Query, NetworkModel, Tree, Done, end_of, arrival_of, outcomes_of, unfolding_of, GraphRow, ExpandedGraph, pick_row}
 use Rattle.run_laws.proofs.Common.{pick_after, Precedes, IsLegOf, IsReadyRide, Stands, unfold_expanded, pick_here, pick_further, one_found, Contains-nil, Contains-cons_cases, Contains-map}
-use Rattle.run_laws.proofs.Common.{Contains-from_map, AllPairs-head, AllPairs-tail, HasEveryRow}
+use Rattle.run_laws.proofs.{Common.{Contains-from_map, AllPairs-head, AllPairs-tail, HasEveryRow}, Rising.{HasAll, one_rising}, Agree.{start_same, agree_from}, PlaceTables.{Sooner, row_same}}
 use Rattle.plan_graph.specs.declared.Ride.{Ride}
 use Rattle.plan_graph.proofs.Rides.{rows_after-own}
 use Rattle.leg_extract.specs.Extracted.{HasArrivals}
-use Rattle.run_laws.proofs.Rising.{HasAll, one_rising}
-use Rattle.run_laws.proofs.Agree.{start_same, agree_from}
-use Rattle.run_laws.proofs.PlaceTables.{Sooner, row_same}
 
 -- among rows that rise each is picked at its own moment
 own_pick : (rows : List GraphRow) → AllPairs Sooner rows → (row : GraphRow) → Contains rows row → pick_row rows row.by.0 ≡ Some row.leg

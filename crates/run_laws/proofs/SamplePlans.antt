@@ -1,20 +1,15 @@
 -- `sample` ends as `plan` does over the made files.
-use Rattle.run_laws.proofs.Common.{◌≡◌, ◌⊎◌, ℕ, refl, sym, ap, ap₂, subst, ◌∙◌, inl, inr, List, [], Option, Some, Ok, Appends, FileMap, file_at, Limits, PlanGraph, Interval, Ask, Sample, count, Plan, arith}
-use Rattle.run_laws.proofs.Common.{job_of, JobModel, Fault, Problem, status_of, NamedParts, HasOneProblem, AgreeFor, own_problem, none_unread, Findings, findings_of, FailsJourney, AnswersJob}
-use Rattle.run_laws.proofs.Common.{FailsJob, AnswersWords, IsExplained, AnswersPlan, InQuery, sample_journey, sample_alpha, RunModel, IsRunWithin, agree_sym}
+use Rattle.run_laws.proofs.Common.{◌≡◌, ◌⊎◌, ℕ, refl, sym, ap, ap₂, subst, ◌∙◌, inl, inr, List, [], Option, Some, Ok, Appends, FileMap, file_at, Limits, PlanGraph, Interval, Ask, Sample, count}
+use Rattle.run_laws.proofs.Common.{Plan, arith, job_of, JobModel, Fault, Problem, status_of, NamedParts, HasOneProblem, AgreeFor, own_problem, none_unread, Findings, findings_of, FailsJourney}
+use Rattle.run_laws.proofs.{Common.{AnswersJob, FailsJob, AnswersWords, IsExplained, AnswersPlan, InQuery, sample_journey, sample_alpha, RunModel, IsRunWithin, agree_sym}, Agreeing.one_some}
+use Rattle.run_laws.proofs.{Ends.{Answers, Refuses, IsCalm, settled, one_journey_fault, journey_answered, job_answered, keeps_none, one_job, refused_or_not}, Framed.{by_bytes, journey_fails}}
+use Rattle.run_laws.proofs.{Plans.one_planned, Queries.in_one_query}
+use Rattle.run_laws.specs.SamplePlans.{IsPrintedPlan, SampleIsPlan}
 use Rattle.std.proofs.Common.{IfSome}
 use Rattle.feed_maker.specs.MadeTables.{made, SameFolder}
 use Rattle.journey_model.specs.FaultLines.{line_of}
-use Rattle.journey_problem.specs.Files.{path_of}
-use Rattle.journey_problem.specs.Paths.{no_path}
-use Rattle.journey_report.specs.AnswerTexts.{leg_count, sample_text}
-use Rattle.journey_report.specs.Findings.{sample_findings}
-use Rattle.run_laws.specs.SamplePlans.{IsPrintedPlan, SampleIsPlan}
-use Rattle.run_laws.proofs.Agreeing.{one_some}
-use Rattle.run_laws.proofs.Ends.{Answers, Refuses, IsCalm, settled, one_journey_fault, journey_answered, job_answered, keeps_none, one_job, refused_or_not}
-use Rattle.run_laws.proofs.Framed.{by_bytes, journey_fails}
-use Rattle.run_laws.proofs.Plans.{one_planned}
-use Rattle.run_laws.proofs.Queries.{in_one_query}
+use Rattle.journey_problem.specs.{Files.path_of, Paths.no_path}
+use Rattle.journey_report.specs.{AnswerTexts.{leg_count, sample_text}, Findings.sample_findings}
 
 -- files that have the made ones agree with others that have them
 agree_some : (path : Option (List ℕ)) (folder files others : FileMap) → SameFolder files folder → IfSome path (λ at. file_at files at ≡ file_at others at)

@@ -1,10 +1,9 @@
 -- A text that is saved beside the files of its journey is in the file, and keeps these.
 use Rattle.run_laws.proofs.Common.{◌≡◌, refl, ◌∙◌, ℕ, List, Option, Some, file_at, Limits, RunModel}
-use Rattle.std.specs.Prelude.{bytes_eq, if◌then◌else◌}
-use Rattle.std.proofs.Common.{true}
-use Rattle.std.specs.Cmp.Lexicographic.{bytes_decides}
-use Rattle.journey_problem.specs.OneProblem.{KeepsOwnFiles}
 use Rattle.run_laws.specs.Saved.{SavingKeeps}
+use Rattle.std.specs.{Prelude.{bytes_eq, if◌then◌else◌}, Cmp.Lexicographic.bytes_decides}
+use Rattle.std.proofs.Common.{true}
+use Rattle.journey_problem.specs.OneProblem.{KeepsOwnFiles}
 
 own_bytes : (path : List ℕ) (bytes file : Option (List ℕ)) → (if bytes_eq path path then bytes else file) ≡ bytes
 own_bytes path bytes file = let same : bytes_eq path path ≡ true = (bytes_decides path path).1 refl in rw same refl

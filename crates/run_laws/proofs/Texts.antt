@@ -1,8 +1,6 @@
 -- A problem, a start and a percentage have one answer.
-use Rattle.run_laws.proofs.Common.{arith, ℕ, List, sym, ap₂, ◌∙◌, Interval, Moment, Query, PlanGraph, plan_text, Problem, Findings, plan_findings, InQuery, AnswersSafe, AnswersExpand, AnswersPlan}
-use Rattle.run_laws.proofs.Common.{head_of, IsOneAnswer}
-use Rattle.run_laws.proofs.Plans.{one_planned, one_expanded}
-use Rattle.run_laws.proofs.Queries.{in_one_query}
+use Rattle.run_laws.proofs.Common.{arith, ℕ, List, sym, ap₂, ◌∙◌, Interval, Moment, Query, PlanGraph, plan_text, Problem, Findings, plan_findings, InQuery, AnswersSafe, AnswersExpand}
+use Rattle.run_laws.proofs.{Common.{AnswersPlan, head_of, IsOneAnswer}, Plans.{one_planned, one_expanded}, Queries.in_one_query}
 
 module _ (p : Problem) (found others : Findings) (text other : List ℕ) where
   abbrev One : Type 0

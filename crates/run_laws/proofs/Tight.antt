@@ -1,10 +1,8 @@
 -- A network and a query have one tight certificate.
 use Rattle.run_laws.proofs.Common.{◌≡◌, ℕ, zero, suc, ◌+◌, ◌<◌, ◌≤◌, List, [], ◌∷◌, Option, Some, None, IsTrue, arith, sym, ◌∙◌, ext_get_or, cases_Bool, both_ways, Outcome, Query, NetworkModel}
 use Rattle.run_laws.proofs.Common.{IsValid, count, connection, dep_of, IsLeg, IsBoardable, bound_of, Offers, IsLeastAt, AreLeast, IsVia, IsTight}
-use Rattle.plan_model.proofs.Boarding.{boards_later}
-use Rattle.plan_model.proofs.Bounds.{forward}
-use Rattle.lower_proof.proofs.Departures.{after, after_less, after_boards, after_le}
-use Rattle.lower_proof.proofs.Leasts.{least_same, IsLeastOf-unique}
+use Rattle.plan_model.proofs.{Boarding.boards_later, Bounds.forward}
+use Rattle.lower_proof.proofs.{Departures.{after, after_less, after_boards, after_le}, Leasts.{least_same, IsLeastOf-unique}}
 
 module _ (n : NetworkModel) (valid : IsValid n) (q : Query) where
   -- both have the same values at the connections after whose departure fewer than this number depart

@@ -1,17 +1,9 @@
 -- The best of the scan at the latest moment of arrival is the least worst arrival.
-use Rattle.std.proofs.Common.{◌≡◌, ℕ, ◌<◌, ◌≤◌, Option, Some, None, MatchOption, IfSome, arith, inl, inr}
-use Rattle.std.proofs.lemmas.Bool.{cases_lt}
-use Rattle.plan_model.specs.declared.model.Moment.{Moment}
-use Rattle.plan_model.specs.declared.model.Query.{Query}
-use Rattle.plan_model.specs.Network.{NetworkModel}
-use Rattle.plan_model.specs.Network.{IsValid}
-use Rattle.plan_model.specs.Bounds.{last_moment, end_of_time}
-use Rattle.plan_model.specs.Tree.{Tree, worst}
-use Rattle.plan_model.specs.Strategy.{IsSafeFor, Reaches, IsLeastWorst}
-use Rattle.plan_model.proofs.Bounds.{before_last, after_LeastWorst, before_LeastWorst}
-use Rattle.plan_model.proofs.Laws.{reaches_from_safe, safe_from_reaches}
-use Rattle.value_laws.specs.declared.WorstMoment.{WorstMoment}
-use Rattle.value_laws.specs.Worsts.{worst_scoring}
+use Rattle.std.proofs.{Common.{◌≡◌, ℕ, ◌<◌, ◌≤◌, Option, Some, None, MatchOption, IfSome, arith, inl, inr}, lemmas.Bool.cases_lt}
+use Rattle.plan_model.specs.{declared.model.{Moment.Moment, Query.Query}, Network.{NetworkModel, IsValid}, Bounds.{last_moment, end_of_time}, Tree.{Tree, worst}, Strategy.{IsSafeFor, Reaches}}
+use Rattle.plan_model.specs.Strategy.{IsLeastWorst}
+use Rattle.plan_model.proofs.{Bounds.{before_last, after_LeastWorst, before_LeastWorst}, Laws.{reaches_from_safe, safe_from_reaches}}
+use Rattle.value_laws.specs.{declared.WorstMoment.WorstMoment, Worsts.worst_scoring}
 use Rattle.meat_scan.specs.Solves.{IsStartValue}
 
 -- what is the best by a deadline is the best of all: what is not safe by it is worse

@@ -1,7 +1,7 @@
 -- Services run on the days on which they are active.
-use Rattle.service_days.proofs.Common.{◌≡◌, ℕ, ℤ, ◌<◌, ◌≤◌, false, List, length, Option, Some, None, refl, sym, ap, ◌∙◌, arith, slice_get-get_or, slice_get_past, ServiceId}
-use Rattle.service_days.proofs.Common.{Calendar, any_below, row_count, number_in, field, one_row, no_row, number-here, length-list_below, get-list_below, Exception, runs_in_period, period_of}
-use Rattle.service_days.proofs.Common.{service_ids, periods_of, runs_in_row, AreNumbered, runs_within, period_runs, runs_of_service, is_active_service, AreDistinctRows}
+use Rattle.service_days.proofs.Common.{◌≡◌, ℕ, ℤ, ◌<◌, ◌≤◌, false, List, length, Option, Some, None, refl, sym, ap, ◌∙◌, arith, slice_get-get_or, slice_get_past, ServiceId, Calendar, any_below}
+use Rattle.service_days.proofs.Common.{row_count, number_in, field, one_row, no_row, number-here, length-list_below, get-list_below, Exception, runs_in_period, period_of, service_ids, periods_of}
+use Rattle.service_days.proofs.Common.{runs_in_row, AreNumbered, runs_within, period_runs, runs_of_service, is_active_service, AreDistinctRows}
 
 -- the period of a service is that of its row
 runs_of : (t : List (List (List ℕ))) → AreDistinctRows t → (service : List ℕ) (day : ℤ) (o : Option ℕ) → number_in service (service_ids t) ≡ o

@@ -2,9 +2,9 @@
 use Rattle.service_days.proofs.Common.{◌≡◌, ℕ, ℤ, ◌+◌, ◌≤◌, ◌&&◌, ◌||◌, Bool, true, false, List, [], length, Option, Some, None, if◌then◌else◌, refl, sym, ap, ◌∙◌, All, subst, arith, bytes_eq}
 use Rattle.service_days.proofs.Common.{add-one, length-append, int_eq, ne_eqb, cases_Bool, Adds, IsTrimmed, All-push, any_below, number_in, false_from_ne_true, or_from, none-some, number-push}
 use Rattle.service_days.proofs.Common.{number-same, number-here, Exception, is_for, is_excepted, date_of, same, has, has_at, AddsDate, AreNumbered}
-use mathlib.Core.Bool.{beq}
 use Rattle.std.proofs.lemmas.Slice.Eq.{bytes_eq-Decides}
 use Rattle.std.specs.Option.{option_or}
+use mathlib.Core.Bool.{beq}
 
 asks_or : (asks : Option ℕ → Bool) (n : ℕ) (o : Option ℕ) (b : Bool) → asks None ≡ false → asks (Some n) ≡ false → asks (option_or o (if b then Some n else None)) ≡ asks o
 asks_or asks n (Some k) b h g = refl

@@ -1,6 +1,6 @@
 -- The rows of the calendar.
-use Rattle.service_days.proofs.Common.{◌≡◌, ℕ, ◌<◌, List, Some, None, sym, ap, ServiceId, first_below, name_in, row_count, field, none-each, name_is, period_columns, period_in, period_at, bad_period}
-use Rattle.service_days.proofs.Common.{result_err-require}
+use Rattle.service_days.proofs.Common.{◌≡◌, ℕ, ◌<◌, List, Some, None, sym, ap, ServiceId, first_below, name_in, row_count, field, none-each, name_is, period_columns, period_in, period_at}
+use Rattle.service_days.proofs.Common.{bad_period, result_err-require}
 use Rattle.service_days.specs.declared.periods.PeriodColumns.{PeriodColumns}
 
 -- the row by the indexes of the columns

@@ -1,17 +1,15 @@
 -- The calendars of a folder, by what was read of each table.
-use Rattle.service_days.proofs.Common.{arith, ◌≡◌, ℕ, ◌&&◌, Bool, true, false, List, None, Ok, Err, IsOkAnd, if◌then◌else◌, sym, ap, ap₂, ◌∙◌, subst, Result, FileMap}
-use Rattle.service_days.proofs.Common.{unread_table, IsFaultOf, load_in, loaded_rows, Exception, row_count, AreNumbered, ServiceParts, runs, service_ids, periods_of, Calendars, RunsBy, RunsBySome}
-use Rattle.service_days.proofs.Common.{both_of, has_no_record, fault_of_calendar, fault_of_dates, calendar_from, dates_from, calendars_from, calendars_in, AreDistinctRows, IsCalendar, AreDates}
-use Rattle.service_days.proofs.Common.{IsOfCalendar, AreOfDates}
-use Rattle.plan_model.specs.Results.{and_then}
-use Rattle.csv_rows.specs.declared.feed_tables.Table.TheVariants as table
-use Rattle.csv_rows.specs.declared.feed_tables.FeedFault.{FeedFault}
-use Rattle.csv_rows.specs.declared.feed_tables.FeedFault.TheVariants as fault
-use Rattle.table_files.specs.declared.loading.Loaded.{Loaded}
-use Rattle.csv_rows.specs.declared.limits.Limits.{Limits}
-use Rattle.service_days.specs.declared.periods.Period.{Period}
-use Rattle.table_files.proofs.LoadLemmas.{load_in-other}
+use Rattle.service_days.proofs.Common.{arith, ◌≡◌, ℕ, ◌&&◌, Bool, true, false, List, None, Ok, Err, IsOkAnd, if◌then◌else◌, sym, ap, ap₂, ◌∙◌, subst, Result, FileMap, unread_table, IsFaultOf}
+use Rattle.service_days.proofs.Common.{load_in, loaded_rows, Exception, row_count, AreNumbered, ServiceParts, runs, service_ids, periods_of, Calendars, RunsBy, RunsBySome, both_of, has_no_record}
+use Rattle.service_days.proofs.Common.{fault_of_calendar, fault_of_dates, calendar_from, dates_from, calendars_from, calendars_in, AreDistinctRows, IsCalendar, AreDates, IsOfCalendar, AreOfDates}
 use Rattle.service_days.proofs.ActiveLemmas.{runs_is}
+use Rattle.service_days.specs.declared.periods.Period.{Period}
+use Rattle.plan_model.specs.Results.{and_then}
+use Rattle.csv_rows.specs.declared.{feed_tables.FeedFault.FeedFault, limits.Limits.Limits}
+use Rattle.table_files.specs.declared.loading.Loaded.{Loaded}
+use Rattle.table_files.proofs.LoadLemmas.{load_in-other}
+use Rattle.csv_rows.specs.declared.feed_tables.Table.TheVariants as table
+use Rattle.csv_rows.specs.declared.feed_tables.FeedFault.TheVariants as fault
 
 -- the table of exceptions has a fault, after a calendar with none
 dates_stop : (c d : Result Loaded FeedFault) (missing : Bool) (ids : List (List ℕ)) (periods : List Period) (f : FeedFault) → IsCalendar c missing ids periods → d ≡ Err f

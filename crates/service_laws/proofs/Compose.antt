@@ -1,6 +1,6 @@
 -- A network in another, and that in a third.
-use Rattle.service_laws.proofs.Common.{◌≡◌, ℕ, ◌+◌, ◌≤◌, arith, List, [], ◌∷◌, ◌∙◌, All-contains, Contains, Outcome, NetworkModel, arr_of, outcomes, IsFound, Embeds, EmbedsBy}
-use Rattle.service_laws.proofs.Common.{EmbedsAlike, EmbedsNoLater, AreBeside}
+use Rattle.service_laws.proofs.Common.{◌≡◌, ℕ, ◌+◌, ◌≤◌, arith, List, [], ◌∷◌, ◌∙◌, All-contains, Contains, Outcome, NetworkModel, arr_of, outcomes, IsFound, Embeds, EmbedsBy, EmbedsAlike}
+use Rattle.service_laws.proofs.Common.{EmbedsNoLater, AreBeside}
 
 module _ (a b c : NetworkModel) (f g p q : ℕ → ℕ) where
   abbrev image : ℕ → ℕ

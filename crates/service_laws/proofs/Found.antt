@@ -1,9 +1,8 @@
 -- What is safe in a network is safe in one that offers no less.
-use Rattle.service_laws.proofs.Common.{◌≡◌, ℕ, ◌+◌, ◌<◌, ◌≤◌, arith, Option, Some, None, List, [], ◌∷◌, refl, sym, ap, subst, All, Contains, All-contains, All-tail, Contains-cons_cases, Contains-head, inl, inr}
-use Rattle.service_laws.proofs.Common.{Contains-nil, Outcome, Moment, NetworkModel, count, from_of, to_of, arr_of, outcomes, Tree, Done, Ride, Stuck, Kids, Nil, Kid, worst, worst_of}
-use Rattle.service_laws.proofs.Common.{IsLeg, IsBoardable, IsBoardableAtStart, IsInTime, IsSafe, AreSafe, IsSafeFromStart, IsLeastWorst, IsFound, Embeds, EmbedsBy, AreBeside, IsNoLaterThan}
-use Rattle.service_laws.proofs.Common.{IsSafeToo, EmbedsNoLater, EmbedsAlike, IsNoWorse, IsAsGood}
-use Rattle.service_laws.proofs.Trees.{Compare, CompareAll, NoLater, Same, no_worse, as_good}
+use Rattle.service_laws.proofs.Common.{◌≡◌, ℕ, ◌+◌, ◌<◌, ◌≤◌, arith, Option, Some, None, List, [], ◌∷◌, refl, sym, ap, subst, All, Contains, All-contains, All-tail, Contains-cons_cases}
+use Rattle.service_laws.proofs.Common.{Contains-head, inl, inr, Contains-nil, Outcome, Moment, NetworkModel, count, from_of, to_of, arr_of, outcomes, Tree, Done, Ride, Stuck, Kids, Nil, Kid}
+use Rattle.service_laws.proofs.Common.{worst, worst_of, IsLeg, IsBoardable, IsBoardableAtStart, IsInTime, IsSafe, AreSafe, IsSafeFromStart, IsLeastWorst, IsFound, Embeds, EmbedsBy, AreBeside}
+use Rattle.service_laws.proofs.{Common.{IsNoLaterThan, IsSafeToo, EmbedsNoLater, EmbedsAlike, IsNoWorse, IsAsGood}, Trees.{Compare, CompareAll, NoLater, Same, no_worse, as_good}}
 
 in_time_sooner : (by : Option ℕ) (x y : ℕ) → y ≤ x → IsInTime by x → IsInTime by y
 in_time_sooner by x y less h = grind arith

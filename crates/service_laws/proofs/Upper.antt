@@ -1,12 +1,11 @@
 -- The best strategies of a network and of one that offers no less.
-use Rattle.service_laws.proofs.Common.{ℕ, ◌≡◌, ◌≤◌, arith, mul-le-mul_left, NetworkModel, Tree, Done, Ride, Kids, Nil, Kid, EmbedsNoLater, Rises, Some}
+use Rattle.service_laws.proofs.{Common.{ℕ, ◌≡◌, ◌≤◌, arith, mul-le-mul_left, NetworkModel, Tree, Done, Ride, Kids, Nil, Kid, EmbedsNoLater, Rises, Some}, Found.compares, Trees.Compare}
+use Rattle.service_laws.proofs.Trees.{CompareAll, NoLater, weighed}
 use Rattle.plan_model.specs.declared.model.Query.{Query}
 use Rattle.plan_model.proofs.Laws.{reaches_from_safe, safe_from_reaches}
 use Rattle.interval_fixed.specs.Interval.{Interval}
 use Rattle.value_laws.specs.Spans.{rounded_up, sum_up}
 use Rattle.decision_graph.specs.GraphValues.{IsBest}
-use Rattle.service_laws.proofs.Found.{compares}
-use Rattle.service_laws.proofs.Trees.{Compare, CompareAll, NoLater, weighed}
 
 module _ (scale : ℕ) (leaf : ℕ → ℕ) (rises : Rises leaf) where
   mutual

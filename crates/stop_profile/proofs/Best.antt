@@ -1,8 +1,7 @@
 -- A look finds the best of all inserts.
 use Rattle.stop_profile.proofs.Common.{◌≡◌, ℕ, suc, ◌<◌, ◌≤◌, List, [], ◌∷◌, Option, Some, MatchOption, All, arith, subst, refl, AllByRecursion, All-cons, Tree, Scoring, ScoreLaws, Row}
-use Rattle.stop_profile.proofs.Common.{rows_with_new, RowsRise, row_in_time, rows_after_inserts, Carries, IsBestRow, LookLaw, none, same, holds, first, wins}
-use Rattle.stop_profile.proofs.Looks.{carries_trans, picked_holds}
-use Rattle.stop_profile.proofs.Inserted.{rises-rows_with_new, gaps-rows_with_new, look_step}
+use Rattle.stop_profile.proofs.{Common.{rows_with_new, RowsRise, row_in_time, rows_after_inserts, Carries, IsBestRow, LookLaw, none, same, holds, first, wins}, Looks.carries_trans}
+use Rattle.stop_profile.proofs.{Looks.picked_holds, Inserted.{rises-rows_with_new, gaps-rows_with_new, look_step}}
 
 module _ {V : Type 0} {scoring : Scoring V} (laws : ScoreLaws scoring) where
   rises_after : (inserts : List (Row V)) → RowsRise scoring.rank (rows_after_inserts scoring inserts)

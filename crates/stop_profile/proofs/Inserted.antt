@@ -1,10 +1,7 @@
 -- The rows with a new one are those that a walk along them gives.
-use Rattle.stop_profile.proofs.Common.{◌≡◌, ℕ, ◌<◌, ◌≤◌, Bool, true, false, cond, ltb, leb, List, [], ◌∷◌, map, Option, arith, refl, ap, filter, lt-ltb, le-ltb, le-leb, AllByRecursion}
-use Rattle.stop_profile.proofs.Common.{lt-leb, Scoring, ScoreLaws, Row, rows_with_new, rows_with_new_by, lower_row, RowsRise, row_in_time, LookStep}
-use Rattle.stop_profile.proofs.Along.{inserted_along}
-use Rattle.stop_profile.proofs.InsertCases.{insert_case}
-use Rattle.stop_profile.proofs.Rising.{AllAfter, All-inserted_along, rises-inserted_along}
-use Rattle.stop_profile.proofs.Looks.{picked_in_time, picked_holds, look_step_along}
+use Rattle.stop_profile.proofs.Common.{◌≡◌, ℕ, ◌<◌, ◌≤◌, Bool, true, false, cond, ltb, leb, List, [], ◌∷◌, map, Option, arith, refl, ap, filter, lt-ltb, le-ltb, le-leb, AllByRecursion, lt-leb}
+use Rattle.stop_profile.proofs.{Common.{Scoring, ScoreLaws, Row, rows_with_new, rows_with_new_by, lower_row, RowsRise, row_in_time, LookStep}, Along.inserted_along, InsertCases.insert_case}
+use Rattle.stop_profile.proofs.{Rising.{AllAfter, All-inserted_along, rises-inserted_along}, Looks.{picked_in_time, picked_holds, look_step_along}}
 
 -- where all fail a test, none is kept
 filter-none : {X : Type 0} (P : X → Type 0) (p : X → Bool) → ((x : X) → P x → p x ≡ false) → (xs : List X) → AllByRecursion P xs → filter p xs ≡ []

@@ -1,8 +1,8 @@
 -- Two kept rows of a trip that are beside each other: the first departs no later than the second arrives.
 use Rattle.stop_times.proofs.Common.{◌≡◌, ℕ, zero, suc, ◌+◌, ◌<◌, ◌≤◌, ◌==◌, nat_lt, Bool, true, false, ◌&&◌, List, length, slice_index_or, Some, None, if◌then◌else◌, sym, ap, ◌∙◌, arith, ⊎_elim}
 use Rattle.stop_times.proofs.Common.{is_some, eqb-true, eq-eqb, ltb-true, ltb-false, nat_tests, common_steps, cases_lt, cases_Bool, and_from, and_parts, or_parts, not_from_false, FeedFault}
-use Rattle.stop_times.proofs.Common.{BackwardTime, first_below, any_below, any-true, any-false, none-each, precedes, StopRow, TimedRow, row_at, trip_of, sequence_of, is_kept, times_in, stop_arrival}
-use Rattle.stop_times.proofs.Common.{departure_of, just_before, goes_back, backward_time, no_visit, AreStopTimes}
+use Rattle.stop_times.proofs.Common.{BackwardTime, first_below, any_below, any-true, any-false, none-each, precedes, StopRow, TimedRow, row_at, trip_of, sequence_of, is_kept, times_in}
+use Rattle.stop_times.proofs.Common.{stop_arrival, departure_of, just_before, goes_back, backward_time, no_visit, AreStopTimes}
 
 and_false : (a b : Bool) → a ≡ true → (a && b) ≡ false → b ≡ false
 and_false a b h k = grind (arith, cases_Bool a)

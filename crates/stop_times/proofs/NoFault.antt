@@ -1,10 +1,8 @@
 -- What holds of the kept rows of a trip, where the table has no fault.
 use Rattle.stop_times.proofs.Common.{◌≡◌, ℕ, ◌+◌, ◌-◌, ◌<◌, ◌≤◌, List, length, slice_index_or, Option, Some, None, IfSome, subst, arith, ⊎_elim, common_steps, cases_lt, first_below, row_count}
 use Rattle.stop_times.proofs.Common.{none-each, none-both, get-list_below, StopRow, TripsAndStops, timed_rows, row_at, bad_time, backward_time, stop_times_fault, no_visit, AreStopTimes}
+use Rattle.stop_times.proofs.{TimeLemmas.timed_count, RowForms.{IsAtStop, InForm, row_in_form}, Beside.{forward, onward, rises}}
 use Rattle.plan_model.specs.Bounds.{end_of_steps}
-use Rattle.stop_times.proofs.TimeLemmas.{timed_count}
-use Rattle.stop_times.proofs.RowForms.{IsAtStop, InForm, row_in_form}
-use Rattle.stop_times.proofs.Beside.{forward, onward, rises}
 
 -- no row has a fault by itself, and no time goes back
 record HasNone (named : TripsAndStops) (t : List (List (List ℕ))) : Type 0 where

@@ -1,9 +1,7 @@
 -- The records that remain are the first one and those after it.
 use Rattle.stop_times.proofs.Common.{Bor, ◌≡◌, ℕ, zero, suc, ◌+◌, ◌<◌, List, [], ◌∷◌, map, length, slice_index_or, Option, Some, None, true, false, refl, sym, ap, ◌∙◌, arith, common_steps}
 use Rattle.stop_times.proofs.Common.{field_at, ReadRecord, Reached, default_config, reader_state, records_from, records_next, took_first, trimmed_text, source, records_after, IsReading}
-use Rattle.csv.specs.Machine.{Read, next_record, ends_at_end}
-use Rattle.csv.specs.declared.parser.State.{State}
-use Rattle.csv.specs.declared.reader.Reader.{Reader}
+use Rattle.csv.specs.{Machine.{Read, next_record, ends_at_end}, declared.{parser.State.State, reader.Reader.Reader}}
 use Rattle.csv.proofs.ReadFacts.{rows-end, rows-more}
 use Rattle.csv_rows.proofs.ReachedRecords.{takes}
 

@@ -1,7 +1,6 @@
 -- Rows that rise by trip and sequence.
-use Rattle.stop_times.proofs.Common.{◌≡◌, ℕ, ◌+◌, ◌-◌, ◌<◌, false, List, length, None, inl, inr, arith, ap, sym, subst, ◌∙◌, eqb-true, cases_lt, and_parts}
-use Rattle.stop_times.proofs.Common.{Key, first_below, IsRising, key_at, no_key, any-false, first-none, AreKeys, IsOwn, key_of, TimedRow, row_at, trip_of}
-use Rattle.stop_times.proofs.Common.{sequence_of, repeated_time, is_taken, IsRowBefore, AreRowsRising}
+use Rattle.stop_times.proofs.Common.{◌≡◌, ℕ, ◌+◌, ◌-◌, ◌<◌, false, List, length, None, inl, inr, arith, ap, sym, subst, ◌∙◌, eqb-true, cases_lt, and_parts, Key, first_below, IsRising, key_at}
+use Rattle.stop_times.proofs.Common.{no_key, any-false, first-none, AreKeys, IsOwn, key_of, TimedRow, row_at, trip_of, sequence_of, repeated_time, is_taken, IsRowBefore, AreRowsRising}
 
 before_on : (a b c : TimedRow) → IsRowBefore a b → IsRowBefore b c → IsRowBefore a c
 before_on a b c h1 h2 = grind arith

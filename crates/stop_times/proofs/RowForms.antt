@@ -1,15 +1,12 @@
 -- What follows from the form of a row of stop times.
-use Rattle.stop_times.proofs.Common.{rules, ◌≡◌, ℕ, ◌+◌, ◌<◌, ◌≤◌, ◌-◌, ◌==◌, nat_eq, nat_le, ◌&&◌, Bool, List, [], length, slice_index, slice_index_or, Option, Some, None, IfSome}
-use Rattle.stop_times.proofs.Common.{subst, arith, Result, Ok, common_steps, nat_tests, and_parts, result_err, value_or, TripId, StopId, StopSequence, ArrivalTime, DepartureTime, PickupType}
-use Rattle.stop_times.proofs.Common.{DropOffType, StopTimes, FeedFault, BadField, UnknownKey, number_in, StopRow, TimedRow, TripsAndStops, time_columns, stop_number_in, times_of, visit_of, timed_from, timed_at}
-use Rattle.stop_times.proofs.Common.{no_row, optional-each, number_inside, end_of_times}
-use Rattle.clock_text.specs.Digits.{whole_of}
-use Rattle.clock_text.specs.Times.{time_at, time_of, seconds_of_time}
-use Rattle.clock_text.proofs.OneText.{if_cases, some_cases}
-use Rattle.csv_rows.specs.Ids.{name_in, text_in}
-use Rattle.csv_rows.specs.Tables.{field_of}
+use Rattle.stop_times.proofs.Common.{rules, ◌≡◌, ℕ, ◌+◌, ◌<◌, ◌≤◌, ◌-◌, ◌==◌, nat_eq, nat_le, ◌&&◌, Bool, List, [], length, slice_index, slice_index_or, Option, Some, None, IfSome, subst, arith}
+use Rattle.stop_times.proofs.Common.{Result, Ok, common_steps, nat_tests, and_parts, result_err, value_or, TripId, StopId, StopSequence, ArrivalTime, DepartureTime, PickupType, DropOffType}
+use Rattle.stop_times.proofs.Common.{StopTimes, FeedFault, BadField, UnknownKey, number_in, StopRow, TimedRow, TripsAndStops, time_columns, stop_number_in, times_of, visit_of, timed_from}
+use Rattle.stop_times.proofs.Common.{timed_at, no_row, optional-each, number_inside, end_of_times}
 use Rattle.stop_times.specs.StopTimes.{allows_in, time_in}
-use Rattle.clock_text.proofs.DigitLemmas.{whole_bound}
+use Rattle.clock_text.specs.{Digits.whole_of, Times.{time_at, time_of, seconds_of_time}}
+use Rattle.clock_text.proofs.{OneText.{if_cases, some_cases}, DigitLemmas.whole_bound}
+use Rattle.csv_rows.specs.{Ids.{name_in, text_in}, Tables.field_of}
 use Rattle.plan_model.proofs.Results.{require-each}
 
 -- a kept row is at the place of a stop, at times of at most 167 hours

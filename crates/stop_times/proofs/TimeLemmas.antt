@@ -1,11 +1,10 @@
 -- The rows of stop times.
-use Rattle.stop_times.proofs.Common.{rules, ◌≡◌, ◌≢◌, ℕ, ◌+◌, ◌<◌, ◌≤◌, nat_lt, Bool, false, List, [], length, slice_index_or, Option, Some, None, if◌then◌else◌, refl, sym, ap, ◌∙◌, arith, Result}
-use Rattle.stop_times.proofs.Common.{Ok, Err, common_steps, cases_Bool, nat_tests, and_then, unless, value_or, TripId, FeedFault, TooManyRows, NoMemory, StopTimes, loaded_from, row_count, TimedRow}
-use Rattle.stop_times.proofs.Common.{first_below, StopRow, stop_times_from, AreVisits, AreStopTimes, time_columns, timed_of, timed_in, timed_at, bad_time, timed_rows, no_row, counted_fault}
-use Rattle.stop_times.proofs.Common.{TripsAndStops, missing_time_column, order_fault, stop_times_fault, length-list_below, or_first, or_then}
-use Rattle.table_files.specs.declared.loading.Loaded.TheVariants.{NoRecord, Found}
+use Rattle.stop_times.proofs.Common.{rules, ◌≡◌, ◌≢◌, ℕ, ◌+◌, ◌<◌, ◌≤◌, nat_lt, Bool, false, List, [], length, slice_index_or, Option, Some, None, if◌then◌else◌, refl, sym, ap, ◌∙◌, arith}
+use Rattle.stop_times.proofs.Common.{Result, Ok, Err, common_steps, cases_Bool, nat_tests, and_then, unless, value_or, TripId, FeedFault, TooManyRows, NoMemory, StopTimes, loaded_from, row_count}
+use Rattle.stop_times.proofs.Common.{TimedRow, first_below, StopRow, stop_times_from, AreVisits, AreStopTimes, time_columns, timed_of, timed_in, timed_at, bad_time, timed_rows, no_row}
+use Rattle.stop_times.proofs.Common.{counted_fault, TripsAndStops, missing_time_column, order_fault, stop_times_fault, length-list_below, or_first, or_then}
 use Rattle.stop_times.specs.declared.rows.TimeColumns.{TimeColumns}
-use Rattle.table_files.specs.Loading.{Records, required}
+use Rattle.table_files.specs.{declared.loading.Loaded.TheVariants.{NoRecord, Found}, Loading.{Records, required}}
 
 -- the row by the indexes of its columns
 pub timed_is : (named : TripsAndStops) (t : List (List (List ℕ))) (c : TimeColumns) (i : ℕ) (r : Result TimedRow FeedFault) → c ≡ time_columns t → timed_in named t c i ≡ r → timed_at named t i ≡ r

@@ -1,9 +1,8 @@
 -- The kept rows of a trip, by the keys that are of it.
-use Rattle.stop_times.proofs.Common.{rules, ◌≡◌, ℕ, ◌+◌, ◌-◌, ◌<◌, ◌≤◌, true, List, [], ◌∷◌, ◌++◌, length, drop, slice_range, slice_index, slice_index_or, Option, Some, None, sym, ap, ◌∙◌}
-use Rattle.stop_times.proofs.Common.{arith, ⊎_elim, is_some, get_or-take, get_or-drop, length-take-le, length-drop, common_steps, cases_lt, get_or_append_left, get_or_push, first_below}
-use Rattle.stop_times.proofs.Common.{StopRow, TimedRow, Key, key_at, IsRising, list_below, row_at, trip_of, sequence_of, repeated_time, IsBounded, rows_between, parted, AreKeysOf, is_taken}
-use Rattle.stop_times.proofs.Common.{visit_or_none, visit_at, AreStopTimes, IsSpanOf, less_group, rises, length-list_below, get-list_below}
-use Rattle.stop_times.proofs.BackLemmas.{apart}
+use Rattle.stop_times.proofs.Common.{rules, ◌≡◌, ℕ, ◌+◌, ◌-◌, ◌<◌, ◌≤◌, true, List, [], ◌∷◌, ◌++◌, length, drop, slice_range, slice_index, slice_index_or, Option, Some, None, sym, ap, ◌∙◌, arith}
+use Rattle.stop_times.proofs.Common.{⊎_elim, is_some, get_or-take, get_or-drop, length-take-le, length-drop, common_steps, cases_lt, get_or_append_left, get_or_push, first_below, StopRow}
+use Rattle.stop_times.proofs.Common.{TimedRow, Key, key_at, IsRising, list_below, row_at, trip_of, sequence_of, repeated_time, IsBounded, rows_between, parted, AreKeysOf, is_taken, visit_or_none}
+use Rattle.stop_times.proofs.{Common.{visit_at, AreStopTimes, IsSpanOf, less_group, rises, length-list_below, get-list_below}, BackLemmas.apart}
 
 some_is : (o : Option StopRow) → is_some o ≡ true → o ≡ Some (visit_or_none o)
 some_is o h = grind arith

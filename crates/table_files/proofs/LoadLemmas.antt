@@ -1,11 +1,7 @@
 -- What is loaded where a table could not be read.
 use Rattle.std.proofs.Common.{◌≡◌, ◌==◌, false, List, ℕ, Err, None, refl, ap, ◌∙◌, if◌then◌else◌}
 use Rattle.file_ports.specs.Ports.{FileMap, file_at}
-use Rattle.csv_rows.specs.declared.feed_tables.Table.{Table}
-use Rattle.csv_rows.specs.declared.feed_tables.FeedFault.{FeedFault}
-use Rattle.csv_rows.specs.declared.feed_tables.FeedFault.TheVariants.{Read}
-use Rattle.csv_rows.specs.declared.limits.Limits.{Limits}
-use Rattle.csv_rows.specs.FeedTables.{path_of, rank_of, unread_table, IsFaultOf}
+use Rattle.csv_rows.specs.{declared.{feed_tables.{Table.Table, FeedFault.{FeedFault, TheVariants.Read}}, limits.Limits.Limits}, FeedTables.{path_of, rank_of, unread_table, IsFaultOf}}
 use Rattle.table_files.specs.Loading.{loaded_file, load_in}
 
 -- another table than the one that may not have been read

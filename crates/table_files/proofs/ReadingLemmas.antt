@@ -1,11 +1,8 @@
 -- Readings of tables, one after the other.
-use Rattle.std.proofs.Common.{◌≡◌, List, ℕ, Option, Some, None, IfSome, Result, Ok, Err, IsErr, IsErrAnd, sym, ap, subst}
-use Rattle.std.proofs.lemmas.Option.{IfSome_then}
+use Rattle.std.proofs.{Common.{◌≡◌, List, ℕ, Option, Some, None, IfSome, Result, Ok, Err, IsErr, IsErrAnd, sym, ap, subst}, lemmas.Option.IfSome_then}
 use Rattle.file_ports.proofs.CauseLemmas.{causes-next, causes-silent}
 use Rattle.file_ports.specs.Ports.{FileMap, FilesState}
-use Rattle.csv_rows.specs.declared.feed_tables.Table.{Table}
-use Rattle.csv_rows.specs.declared.feed_tables.FeedFault.{FeedFault}
-use Rattle.csv_rows.specs.FeedTables.{table_of_fault, unread_table, IsFaultOf}
+use Rattle.csv_rows.specs.{declared.feed_tables.{Table.Table, FeedFault.FeedFault}, FeedTables.{table_of_fault, unread_table, IsFaultOf}}
 use Rattle.table_files.specs.Reading.{Reads}
 
 -- what holds of known files holds of them after a step that keeps them

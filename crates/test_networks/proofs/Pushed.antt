@@ -1,15 +1,7 @@
 -- Links into a place, one put after the others, the lists of them, and names that fit with links too.
-use Rattle.std.proofs.Common.{◌≡◌, ◌≢◌, ℕ, ◌+◌, ◌<◌, ◌≤◌, List, [], ◌∷◌, ◌++◌, length, get_or, All, sym, ap, ◌∙◌, subst, arith, length-append, ⊎_elim}
-use Rattle.std.proofs.Common.{slice_index_or}
-use Rattle.std.proofs.Math.Logic.{∥∥₁_map}
-use Rattle.std.proofs.lemmas.Bool.{cases_lt}
-use Rattle.std.proofs.lemmas.List.{get_or_append_left, get_or_push}
-use Rattle.std.proofs.lemmas.List.Elements.{All-get_or, All-push}
-use Rattle.plan_model.specs.declared.model.Way.{Way}
-use Rattle.plan_model.specs.declared.model.Connection.{Connection}
-use Rattle.plan_model.specs.NameLists.{NameLists, NamesFit}
-use Rattle.plan_model.specs.Network.{AreLinksInto, connection, no_connection}
-use Rattle.plan_model.specs.Network.{NetworkModel}
+use Rattle.std.proofs.{Common.{◌≡◌, ◌≢◌, ℕ, ◌+◌, ◌<◌, ◌≤◌, List, [], ◌∷◌, ◌++◌, length, get_or, All, sym, ap, ◌∙◌, subst, arith, length-append, ⊎_elim, slice_index_or}, Math.Logic.∥∥₁_map}
+use Rattle.std.proofs.lemmas.{Bool.cases_lt, List.{get_or_append_left, get_or_push, Elements.{All-get_or, All-push}}}
+use Rattle.plan_model.specs.{declared.model.{Way.Way, Connection.Connection}, NameLists.{NameLists, NamesFit}, Network.{AreLinksInto, connection, no_connection, NetworkModel}}
 
 abbrev Rises : Way → Way → Type 0
 Rises a b = a.from.0 < b.from.0

@@ -1,8 +1,7 @@
 -- The keys of an index as texts.
 use Rattle.text_index.proofs.Common.{Bor, ◌≡◌, ℕ, ◌<◌, true, Some, List, [], length, get_or, take, length-take, get_or-take, sym, ap, ◌∙◌, arith, Contains, bytes_eq, slice_get, get_or-map}
 use Rattle.text_index.proofs.Common.{length-map, get_or_default, AreDistinct, key_texts}
-use Rattle.std.proofs.lemmas.Option.{slice_get-get_or, slice_get_within, get_or_from_slice_get}
-use Rattle.std.proofs.lemmas.Slice.Eq.{bytes_eq-Decides}
+use Rattle.std.proofs.lemmas.{Option.{slice_get-get_or, slice_get_within, get_or_from_slice_get}, Slice.Eq.bytes_eq-Decides}
 
 bytes : Bor (List ℕ) → List ℕ
 bytes k = k.now

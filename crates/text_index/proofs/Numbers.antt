@@ -1,11 +1,9 @@
 -- The number of a name.
 use Rattle.text_index.proofs.Common.{◌≡◌, ℕ, zero, suc, ◌+◌, ◌<◌, Bool, true, false, List, [], ◌∷◌, length, Contains, IsUtf8, Option, Some, None, arith, sym, refl, ◌∙◌, ap, slice_get}
 use Rattle.text_index.proofs.Common.{slice_index_or, IfSome, IfNone, if◌then◌else◌, bytes_eq, get_or_default, AreDistinct}
-use Rattle.std.specs.List.{position_from}
-use Rattle.std.specs.Str.{is_utf8}
-use Rattle.std.specs.Cmp.Lexicographic.{bytes_decides}
-use Rattle.std.proofs.lemmas.Str.{IsUtf8-from_is_utf8, is_utf8-from_IsUtf8}
 use Rattle.text_index.specs.Numbers.{number_of}
+use Rattle.std.specs.{List.position_from, Str.is_utf8, Cmp.Lexicographic.bytes_decides}
+use Rattle.std.proofs.lemmas.Str.{IsUtf8-from_is_utf8, is_utf8-from_IsUtf8}
 
 -- the first index where a test holds
 pub position_found : {X : Type 0} (t : X → Bool) (xs : List X) (from j : ℕ) (d : X) → ((k : ℕ) → k < j → t (slice_index_or xs k d) ≡ false)

@@ -1,9 +1,9 @@
 -- The rows of frequencies.
 use Rattle.trip_frequencies.proofs.Common.{◌≡◌, ℕ, ◌+◌, true, List, length, Option, option_map, sym, ap, ◌∙◌, value_or, DuplicateKey, Frequencies, Key, first_below, AreSorted, has_twin, twin_at}
-use Rattle.trip_frequencies.proofs.Common.{first-reported, length-list_below, TripFrequency, frequency_columns, frequency_in, frequency_at, frequency_rows, no_frequency, trip_of_row, start_of_row}
-use Rattle.trip_frequencies.proofs.Common.{repeated_start}
-use Rattle.csv_rows.specs.Tables.{row_count}
+use Rattle.trip_frequencies.proofs.Common.{first-reported, length-list_below, TripFrequency, frequency_columns, frequency_in, frequency_at, frequency_rows, no_frequency, trip_of_row}
+use Rattle.trip_frequencies.proofs.Common.{start_of_row, repeated_start}
 use Rattle.trip_frequencies.specs.declared.frequencies.FrequencyColumns.{FrequencyColumns}
+use Rattle.csv_rows.specs.Tables.{row_count}
 
 -- the row by the indexes of the columns
 pub frequency_is : (trips : List (List ℕ)) (t : List (List (List ℕ))) (c : FrequencyColumns) (i : ℕ) → c ≡ frequency_columns t → frequency_at trips t i ≡ frequency_in trips t c i

@@ -1,13 +1,9 @@
 -- The rows of a trip among rows by trip.
-use Rattle.trip_frequencies.proofs.Common.{◌≡◌, ℕ, zero, suc, ◌-◌, ◌<◌, ◌≤◌, ◌==◌, Bool, true, false, not, ◌&&◌, cond, List, [], ◌∷◌, map, length, take, drop, slice_range, if◌then◌else◌, leb, ltb}
-use Rattle.trip_frequencies.proofs.Common.{leb-true, leb-false, ltb-true, ltb-false, nat_cmp, is_lt, refl, sym, ap, ◌∙◌, arith, eq-eqb, ne_eqb, ties, IsStableByKey, IsPartitionPoint}
+use Rattle.trip_frequencies.proofs.Common.{◌≡◌, ℕ, zero, suc, ◌-◌, ◌<◌, ◌≤◌, ◌==◌, Bool, true, false, not, ◌&&◌, cond, List, [], ◌∷◌, map, length, take, drop, slice_range, if◌then◌else◌, leb}
+use Rattle.trip_frequencies.proofs.Common.{ltb, leb-true, leb-false, ltb-true, ltb-false, nat_cmp, is_lt, refl, sym, ap, ◌∙◌, arith, eq-eqb, ne_eqb, ties, IsStableByKey, IsPartitionPoint}
 use Rattle.trip_frequencies.proofs.Common.{IsNonDecreasing, IsNonDecreasingBy, list_below, TripFrequency, no_frequency, repeats_of, all_repeats_of}
-use Rattle.std.proofs.lemmas.Bool.{cases_lt}
-use Rattle.std.proofs.lemmas.Bool.Decides.{nat_tests}
-use Rattle.std.proofs.lemmas.List.{get_or-map, length-map}
-use Rattle.std.proofs.lemmas.List.Elements.{filter_agree}
-use Rattle.trip_frequencies.specs.declared.frequencies.FrequencyRow.{FrequencyRow}
-use Rattle.trip_frequencies.specs.Repeats.{IsTripSpan, repeats_in, all_repeats_in}
+use Rattle.trip_frequencies.specs.{declared.frequencies.FrequencyRow.FrequencyRow, Repeats.{IsTripSpan, repeats_in, all_repeats_in}}
+use Rattle.std.proofs.lemmas.{Bool.{cases_lt, Decides.nat_tests}, List.{get_or-map, length-map, Elements.filter_agree}}
 
 taken : (b : Bool) (x : TripFrequency) (rows : List FrequencyRow) (xs : List TripFrequency) → rows ≡ map (λ (r : TripFrequency). r.row) xs
     → (if b then x.row ∷ rows else rows) ≡ map (λ (r : TripFrequency). r.row) (cond b (x ∷ xs) xs)

@@ -4,15 +4,10 @@ use Rattle.trip_replay.proofs.Common.{ne_eqb, MatchOption, cases_eq, cases_lt, A
 use Rattle.trip_replay.proofs.Common.{IsSafe, AreSafe, IsSafeFor, end_of, arrival_of, outcomes_of, kids_after, ride_of, ride_or_stuck, unfold_after, unfolding_of, by_place, PlaceTable, pick_row}
 use Rattle.trip_replay.proofs.Common.{pick_at, rows_of_place, IsLegOf, Stands, StandsIn, IsFitRow, IsFitTable, IsFitStart, IsPickedIn, IsTidy, unfold_plan, pick_here, pick_further, row_of_pick}
 use Rattle.trip_replay.proofs.Common.{rows_of_place-by, table_here, table_further}
-use Rattle.plan_model.proofs.Boarding.{boards_later, limit_of-some}
-use Rattle.plan_model.proofs.Bounds.{forward}
-use Rattle.plan_model.proofs.Lists.{All-from_contains, Contains-nil, Contains-cons_cases, AllPairs-head, AllPairs-tail}
-use Rattle.plan_graph.specs.declared.GraphRow.{GraphRow}
-use Rattle.plan_graph.specs.declared.PlanGraph.{PlanGraph}
-use Rattle.plan_graph.specs.Walked.{StandsSafely, children_of}
-use Rattle.plan_graph.proofs.Places.{next_after, safe_child}
-use Rattle.plan_graph.proofs.Tables.{first_pick, one_found}
 use Rattle.trip_replay.specs.Onward.{AreUpTo, late_end, LeadsInTime, ArrivesByRows}
+use Rattle.plan_model.proofs.{Boarding.{boards_later, limit_of-some}, Bounds.forward, Lists.{All-from_contains, Contains-nil, Contains-cons_cases, AllPairs-head, AllPairs-tail}}
+use Rattle.plan_graph.specs.{declared.{GraphRow.GraphRow, PlanGraph.PlanGraph}, Walked.{StandsSafely, children_of}}
+use Rattle.plan_graph.proofs.{Places.{next_after, safe_child}, Tables.{first_pick, one_found}}
 
 -- what is picked for a later arrival, is there for a sooner one
 pick_sooner : (rows : List GraphRow) (y x : ℕ) (leg : Leg) → pick_row rows y ≡ Some leg → x ≤ y → (sooner : Leg) × (pick_row rows x ≡ Some sooner)

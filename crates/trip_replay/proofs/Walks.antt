@@ -1,10 +1,9 @@
 -- The rides so far with one more, and the walk down the tree of a graph.
-use Rattle.trip_replay.proofs.Common.{◌≡◌, ℕ, ◌+◌, List, [], ◌∷◌, ◌++◌, Some, None, Bool, true, false, refl, ◌≢◌, ◌-◌, ◌<◌, length, drop, Option, Ok, Err, Result, All, arith, sym, subst, inl, inr}
-use Rattle.trip_replay.proofs.Common.{◌∙◌, ap, if◌then◌else◌, ◌==◌, slice_index_or, IfSome, eq-eqb, ne_eqb, Leg, NetworkModel, arr_of, to_of, outcomes, outcomes_of, kids_after, unfold_after}
+use Rattle.trip_replay.proofs.Common.{◌≡◌, ℕ, ◌+◌, List, [], ◌∷◌, ◌++◌, Some, None, Bool, true, false, refl, ◌≢◌, ◌-◌, ◌<◌, length, drop, Option, Ok, Err, Result, All, arith, sym, subst, inl}
+use Rattle.trip_replay.proofs.Common.{inr, ◌∙◌, ap, if◌then◌else◌, ◌==◌, slice_index_or, IfSome, eq-eqb, ne_eqb, Leg, NetworkModel, arr_of, to_of, outcomes, outcomes_of, kids_after, unfold_after}
 use Rattle.trip_replay.proofs.Common.{IsLegOf, Ridden, has_delay, delayed_arrival, tree_at, IsRidden, arrival_after, place_after, cases_eq, drop_more, Outcome, Query, Tree, Done, Ride, Stuck}
 use Rattle.trip_replay.proofs.Common.{Kids, Nil, Kid, IsSafe, AreSafe, IsSafeFor, PlaceTable, pick_at, IsFitTable, picked_leg, Trace, ride_with_delay, walk, walk_child, IsAnswer, IsSafeAnswer}
-use Rattle.trip_replay.specs.declared.Position.{Position}
-use Rattle.trip_replay.specs.declared.ReplayFault.{ReplayFault}
+use Rattle.trip_replay.specs.declared.{Position.Position, ReplayFault.ReplayFault}
 use Rattle.trip_replay.specs.declared.ReplayFault.TheVariants as fault
 
 pub delay_some : (n : NetworkModel) (leg : Leg) (delay x : ℕ) (test : Bool) → has_delay (outcomes_of n leg) delay ≡ test

@@ -2,32 +2,19 @@
 use Rattle.std.proofs.Common.{arith, ◌≤◌, ◌≡◌, ℕ, ◌<◌, List, length, Option, None, Result, Ok, IsOkAnd, refl, sym, ap, ap₂, ◌∙◌, subst}
 use Rattle.plan_model.specs.Results.{and_then, unless}
 use Rattle.file_ports.specs.Ports.{FileMap}
-use Rattle.csv_rows.specs.declared.limits.Limits.{Limits}
-use Rattle.csv_rows.specs.declared.feed_tables.Table.{Table}
-use Rattle.csv_rows.specs.declared.feed_tables.Table.TheVariants.{Stops, Routes, Trips, StopTimes, Frequencies}
-use Rattle.csv_rows.specs.declared.feed_tables.FeedFault.{FeedFault}
-use Rattle.table_files.specs.declared.loading.Loaded.{Loaded}
-use Rattle.table_files.specs.Loading.{load_in}
-use Rattle.table_files.specs.Loading.{Records}
-use Rattle.feed_lists.specs.Lists.{stops_from, routes_from, trips_from}
-use Rattle.feed_lists.specs.Stops.{stop_ids, stop_places, stops_fault}
-use Rattle.feed_lists.specs.Routes.{route_ids, routes_fault}
-use Rattle.feed_lists.specs.Trips.{trip_ids, trips_fault}
-use Rattle.stop_times.specs.StopTimes.{stop_times_fault}
-use Rattle.stop_times.specs.Timetables.{stop_times_from}
+use Rattle.csv_rows.specs.declared.{limits.Limits.Limits, feed_tables.{Table.{Table, TheVariants.{Stops, Routes, Trips, StopTimes, Frequencies}}, FeedFault.FeedFault}}
+use Rattle.table_files.specs.{declared.loading.Loaded.Loaded, Loading.{load_in, Records}}
+use Rattle.feed_lists.specs.{Lists.{stops_from, routes_from, trips_from}, Stops.{stop_ids, stop_places, stops_fault}, Routes.{route_ids, routes_fault}, Trips.{trip_ids, trips_fault}}
+use Rattle.stop_times.specs.{StopTimes.stop_times_fault, Timetables.stop_times_from}
 use Rattle.trip_frequencies.specs.Frequencies.{frequencies_from, fault_of_frequencies}
 use Rattle.gtfs_tables.specs.Feeds.{FeedParts, Tables, IsFeed, IsFeedOf, IsSoundFeed, named_in, tables_from}
 unfoldable use Rattle.gtfs_tables.specs.Feeds.{tables_in}
-use Rattle.service_days.specs.Services.{ServiceParts, runs}
-use Rattle.service_days.specs.Calendars.{Calendars, RunsBy}
+use Rattle.service_days.specs.{Services.{ServiceParts, runs}, Calendars.{Calendars, RunsBy}}
 use Rattle.change_times.specs.Changes.{ChangeParts, AreCollectedChanges, place_seconds, links_of, change_time, links_in, transfers_from}
 unfoldable use Rattle.change_times.specs.Transfers.{transfer_at}
 use Rattle.journey_problem.specs.FeedProblems.{GtfsFolder, IsFolder}
-use Rattle.window_laws.specs.MoreTrips.{HasLinks, HasAllOf}
-use Rattle.window_laws.proofs.Inserted.{own_links}
-use Rattle.window_laws.specs.MoreFiles.{AreAmongTables, RunNoLess}
-use Rattle.window_laws.specs.MoreFiles.{HasMoreRows}
-use Rattle.window_laws.proofs.Tables.{trips_among, places_same}
+use Rattle.window_laws.specs.{MoreTrips.{HasLinks, HasAllOf}, MoreFiles.{AreAmongTables, RunNoLess, HasMoreRows}}
+use Rattle.window_laws.proofs.{Inserted.own_links, Tables.{trips_among, places_same}}
 
 no_more : {a b : ℕ} → a ≡ b → a ≤ b
 no_more same = omega (arith, same)

@@ -1,16 +1,14 @@
 -- A feed has its trips, also among others and in a longer window.
-use Rattle.std.proofs.Common.{◌≡◌, ℕ, zero, suc, ◌<◌, ◌≤◌, List, [], ◌∷◌, length, Contains, refl, ap, arith, get_or}
-use Rattle.std.proofs.lemmas.Bool.{cases_lt}
+use Rattle.std.proofs.{Common.{◌≡◌, ℕ, zero, suc, ◌<◌, ◌≤◌, List, [], ◌∷◌, length, Contains, refl, ap, arith, get_or}, lemmas.Bool.cases_lt}
 use Rattle.plan_model.proofs.Lists.{All-from_contains}
+use Rattle.plan_model.specs.declared.model.Way.{Way}
 use Rattle.trip_frequencies.specs.declared.frequencies.FrequencyRow.{FrequencyRow}
 use Rattle.csv_rows.proofs.ListLemmas.{length-list_below}
 use Rattle.gtfs_tables.specs.Feeds.{FeedParts, IsSoundFeed}
 use Rattle.service_days.specs.Services.{ServiceParts}
 use Rattle.connections.specs.TripRuns.{frequencies_of}
-use Rattle.plan_model.specs.declared.model.Way.{Way}
 use Rattle.journey_problem.specs.FeedProblems.{GtfsFolder}
-use Rattle.window_laws.specs.MoreTrips.{HasLinks, on_line, RepeatToo, IsTripOf, HasTrips, HasAllOf, IsPartOf}
-use Rattle.window_laws.specs.NewTrip.{insert, NewTrip, with_trip, HasAllOfTrips}
+use Rattle.window_laws.specs.{MoreTrips.{HasLinks, on_line, RepeatToo, IsTripOf, HasTrips, HasAllOf, IsPartOf}, NewTrip.{insert, NewTrip, with_trip, HasAllOfTrips}}
 
 module _ {A : Type 0} where
   length-insert : (n : ℕ) (x : A) (xs : List A) → length (insert n x xs) ≡ suc (length xs)

@@ -1,6 +1,5 @@
 -- Lists of which one has for each element of the other one beside it.
-use Rattle.std.proofs.Common.{◌≡◌, ℕ, ◌<◌, Bool, true, List, [], map, All, Contains}
-use Rattle.std.proofs.lemmas.List.Elements.{All-map, All-weaker}
+use Rattle.std.proofs.{Common.{◌≡◌, ℕ, ◌<◌, Bool, true, List, [], map, All, Contains}, lemmas.List.Elements.{All-map, All-weaker}}
 use Rattle.plan_model.proofs.Lists.{Contains-map, Contains-head}
 use Rattle.connections.specs.Joins.{only_if, join_below}
 use Rattle.connections.proofs.JoinLemmas.{All-join, All-only_if, Contains-join}

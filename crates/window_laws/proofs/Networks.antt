@@ -1,40 +1,23 @@
 -- The connections of a feed in a window are among those of one with more trips in a larger window.
-use Rattle.std.proofs.Common.{◌≡◌, ℕ, [], ◌<◌, ◌≤◌, Option, List, length, map, All, Contains, inl, inr, refl, sym, ap, ◌∙◌, subst, arith}
-use Rattle.std.proofs.lemmas.Bool.{cases_lt}
-use Rattle.std.proofs.lemmas.List.{get_or_default}
-use Rattle.std.proofs.lemmas.List.Elements.{All-weaker, All-map}
+use Rattle.std.proofs.{Common.{◌≡◌, ℕ, [], ◌<◌, ◌≤◌, Option, List, length, map, All, Contains, inl, inr, refl, sym, ap, ◌∙◌, subst, arith, slice_index_or}, lemmas.Bool.cases_lt}
+use Rattle.std.proofs.lemmas.List.{get_or_default, Elements.{All-weaker, All-map}}
 use Rattle.plan_model.proofs.Lists.{Contains-map}
-use Rattle.plan_model.specs.declared.model.Moment.{Moment}
-use Rattle.plan_model.specs.Strategy.{IsLeastWorst}
-use Rattle.plan_model.specs.Network.{NetworkModel}
+use Rattle.plan_model.specs.{declared.model.{Moment.Moment, Way.Way}, Strategy.IsLeastWorst, Network.{NetworkModel, IsValid}}
 use Rattle.stop_times.specs.declared.rows.StopRow.{StopRow}
-use Rattle.gtfs_tables.specs.Feeds.{FeedParts}
-use Rattle.gtfs_tables.specs.Timed.{rows_of}
+use Rattle.gtfs_tables.specs.{Feeds.FeedParts, Timed.rows_of}
 use Rattle.service_days.specs.Services.{ServiceParts}
 use Rattle.change_times.specs.Changes.{place_seconds, links_of}
 use Rattle.delay_table.specs.DelayLists.{DelayLists}
-use Rattle.connections.specs.Window.{window_of}
-use Rattle.connections.specs.Steps.{steps_of}
-use Rattle.connections.specs.TripRuns.{run_at, no_run, window_runs}
-use Rattle.connections.specs.FeedNetworks.{connection_from, class_of_trip, connections_in}
-unfoldable use Rattle.connections.specs.FeedNetworks.{connections_below, run_connections}
+use Rattle.connections.specs.{Window.window_of, Steps.steps_of, TripRuns.{run_at, no_run, window_runs}, FeedNetworks.{connection_from, class_of_trip, connections_in}}
 use Rattle.connections.proofs.JoinLemmas.{All-join, Contains-join}
-use Rattle.service_laws.specs.Changed.{own, renamed, AreAmong, AreShorter, AreNoFewer, with_connections, with_changes, with_links}
-use Rattle.service_laws.specs.Embeds.{EmbedsAlike, IsNoLaterThan}
-use Rattle.service_laws.specs.Embeds.{IsSafeToo, IsNoWorse, IsAsGood}
-use Rattle.service_laws.proofs.Changes.{connections_alike, changes_alike, links_alike, alike_no_later, no_later_embeds}
-use Rattle.service_laws.proofs.Compose.{alike_twice}
+unfoldable use Rattle.connections.specs.FeedNetworks.{connections_below, run_connections}
+use Rattle.service_laws.specs.{Changed.{own, renamed, AreAmong, AreShorter, AreNoFewer, with_connections, with_changes, with_links}, Embeds.{EmbedsAlike, IsNoLaterThan, IsSafeToo, IsNoWorse}}
+use Rattle.service_laws.specs.Embeds.{IsAsGood}
+use Rattle.service_laws.proofs.{Changes.{connections_alike, changes_alike, links_alike, alike_no_later, no_later_embeds}, Compose.alike_twice, Found.{safe_as_good, safe_no_worse, least_no_later}}
 use Rattle.csv_rows.proofs.ListLemmas.{length-list_below, get-list_below}
-use Rattle.plan_model.specs.declared.model.Way.{Way}
-use Rattle.plan_model.specs.Network.{IsValid}
 unfoldable use Rattle.plan_model.specs.Network.{connection, change_of, row_of}
-use Rattle.std.proofs.Common.{slice_index_or}
-use Rattle.service_laws.proofs.Found.{safe_as_good, safe_no_worse, least_no_later}
 use Rattle.window_laws.specs.MoreTrips.{HasTrips, HasLinks, IsTripOf, Timetable, IsPartOf, IsNetworkOf}
-use Rattle.window_laws.proofs.Lists.{Has}
-use Rattle.window_laws.proofs.Types.{Window, Origin, Run}
-use Rattle.window_laws.proofs.Within.{IsWithin, steps_too}
-use Rattle.window_laws.proofs.Runs.{IsRunOf, window_too}
+use Rattle.window_laws.proofs.{Lists.Has, Types.{Window, Origin, Run}, Within.{IsWithin, steps_too}, Runs.{IsRunOf, window_too}}
 
 module _ (start horizon at longer : ℕ) (within : IsWithin start horizon at longer) where
   abbrev w : Window

@@ -1,7 +1,6 @@
 -- A journey over a folder with more trips.
 use Rattle.std.proofs.Common.{◌≡◌, ℕ, List, Option, Some, unwrap_or, ap₂, subst, arith}
-use Rattle.plan_model.specs.declared.model.Moment.{Moment}
-use Rattle.plan_model.specs.Strategy.{IsLeastWorst}
+use Rattle.plan_model.specs.{declared.model.Moment.Moment, Strategy.IsLeastWorst}
 use Rattle.csv_rows.specs.declared.limits.Limits.{Limits}
 use Rattle.gtfs_tables.specs.Feeds.{FeedParts}
 use Rattle.change_times.specs.Transfers.{place_of_stop}
@@ -9,13 +8,9 @@ use Rattle.delay_table.specs.DelayLists.{DelayLists}
 use Rattle.command_line.specs.Jobs.{JourneyModel, source_or_target}
 use Rattle.journey_model.specs.declared.problem.Problem.{Problem}
 use Rattle.journey_problem.proofs.OneCutProblem.{delays_of_one}
-use Rattle.service_laws.specs.Changed.{own}
-use Rattle.service_laws.specs.Embeds.{EmbedsAlike, IsNoLaterThan}
-use Rattle.service_laws.specs.Embeds.{IsSafeToo, IsAsGood}
-use Rattle.window_laws.specs.MoreTrips.{HasAllOf, Timetable, IsPartOf, IsNetworkOf}
-use Rattle.window_laws.specs.MoreFiles.{AreMoreAndLess}
-use Rattle.window_laws.proofs.Folders.{has_all, stops_same, own_places}
-use Rattle.window_laws.proofs.Networks.{more_alike, as_good, no_later}
+use Rattle.service_laws.specs.{Changed.own, Embeds.{EmbedsAlike, IsNoLaterThan, IsSafeToo, IsAsGood}}
+use Rattle.window_laws.specs.{MoreTrips.{HasAllOf, Timetable, IsPartOf, IsNetworkOf}, MoreFiles.AreMoreAndLess}
+use Rattle.window_laws.proofs.{Folders.{has_all, stops_same, own_places}, Networks.{more_alike, as_good, no_later}}
 
 -- a stop has its place
 place_same : (f g : FeedParts) → g.stop_ids ≡ f.stop_ids → g.places ≡ f.places → (id other : List ℕ) → other ≡ id → (a b : ℕ) → place_of_stop f id ≡ Some a → place_of_stop g other ≡ Some b

@@ -1,34 +1,20 @@
 -- A trip repeats as it did where other trips have more rows of frequencies.
 use Rattle.std.proofs.Common.{◌≡◌, ℕ, ◌+◌, ◌<◌, ◌==◌, Bool, true, false, List, [], ◌∷◌, Option, Some, None, Result, Ok, Err, Contains, inl, inr, refl, sym, ap, ◌∙◌, subst, arith}
-use Rattle.std.specs.List.{filter}
-use Rattle.std.specs.Result.{result_err}
 use Rattle.std.proofs.lemmas.Bool.{cond_both, eqb-true, eq-eqb}
+use Rattle.std.specs.{List.filter, Result.result_err}
 use Rattle.plan_model.proofs.Lists.{All-from_contains, Contains-cons_cases, Contains-head, Contains-tail, Contains-nil, Contains-map, Contains-from_map}
-use Rattle.plan_model.specs.NameLists.{AreDistinct}
-use Rattle.plan_model.specs.Results.{require, value_or}
+use Rattle.plan_model.specs.{NameLists.AreDistinct, Results.{require, value_or}}
 use Rattle.clock_text.specs.Times.{time_at}
-use Rattle.csv_rows.specs.Ids.{name_in}
-use Rattle.csv_rows.specs.declared.columns.Column.TheVariants.{TripId, StartTime, EndTime, HeadwaySecs, ExactTimes}
-use Rattle.csv_rows.specs.declared.feed_tables.FeedFault.{FeedFault}
-use Rattle.csv_rows.specs.Tables.{row_count, number_in, field}
-use Rattle.csv_rows.proofs.IdLemmas.{number-here}
-use Rattle.csv_rows.proofs.RowLemmas.{name_text}
-use Rattle.csv_rows.proofs.FirstLemmas.{none-both, none-each}
-use Rattle.csv_rows.proofs.ListLemmas.{length-list_below, get-list_below}
-use Rattle.csv_rows.specs.Lists.{list_below}
-use Rattle.table_files.specs.Loading.{Records}
-use Rattle.table_files.specs.declared.loading.Loaded.{Loaded}
-use Rattle.table_files.specs.declared.loading.Loaded.TheVariants.{Absent, NoRecord, Found}
-use Rattle.table_files.specs.Loading.{loaded_rows}
+use Rattle.csv_rows.specs.{Ids.name_in, declared.{columns.Column.TheVariants.{TripId, StartTime, EndTime, HeadwaySecs, ExactTimes}, feed_tables.FeedFault.FeedFault}, Tables.row_count}
+use Rattle.csv_rows.specs.{Tables.{number_in, field}, Lists.list_below}
+use Rattle.csv_rows.proofs.{IdLemmas.number-here, RowLemmas.name_text, FirstLemmas.{none-both, none-each}, ListLemmas.{length-list_below, get-list_below}}
+use Rattle.table_files.specs.{Loading.{Records, loaded_rows}, declared.loading.Loaded.{Loaded, TheVariants.{Absent, NoRecord, Found}}}
 use Rattle.feed_lists.specs.Trips.{trip_ids}
-use Rattle.trip_frequencies.specs.declared.frequencies.FrequencyRow.{FrequencyRow}
-use Rattle.trip_frequencies.specs.Frequencies.{frequency_from, no_frequency, frequency_rows, repeats_of, fault_of_frequencies, bad_frequency}
-unfoldable use Rattle.trip_frequencies.specs.Frequencies.{frequency_at, frequencies_fault}
+use Rattle.trip_frequencies.specs.{declared.frequencies.FrequencyRow.FrequencyRow, Frequencies.{frequency_from, no_frequency, frequency_rows, repeats_of, fault_of_frequencies, bad_frequency}}
 use Rattle.trip_frequencies.specs.Frequencies.{headway_in, is_exact_in}
-use Rattle.window_laws.specs.MoreFiles.{IsSameRow, AddsRows}
-use Rattle.window_laws.specs.MoreTrips.{on_line, RepeatToo}
-use Rattle.window_laws.proofs.Types.{TripFrequency}
-use Rattle.window_laws.proofs.Rows.{turned, number_too, same_field}
+unfoldable use Rattle.trip_frequencies.specs.Frequencies.{frequency_at, frequencies_fault}
+use Rattle.window_laws.specs.{MoreFiles.{IsSameRow, AddsRows}, MoreTrips.{on_line, RepeatToo}}
+use Rattle.window_laws.proofs.{Types.TripFrequency, Rows.{turned, number_too, same_field}}
 
 module _ {A : Type 0} (p : A → Bool) where
   filter_has : (xs : List A) (x : A) → Contains xs x → p x ≡ true → Contains (filter p xs) x

@@ -1,18 +1,11 @@
 -- What is read of the same row under two numbers.
 use Rattle.std.proofs.Common.{◌≡◌, ℕ, ◌+◌, ◌-◌, ◌<◌, ◌++◌, inl, inr, length-append, List, [], length, slice_index_or, Option, Some, Result, Contains, refl, sym, ap, ◌∙◌, subst, arith}
-use Rattle.std.proofs.lemmas.Option.{slice_get-get_or}
-use Rattle.plan_model.specs.NameLists.{AreDistinct}
-use Rattle.plan_model.specs.Results.{require, value_or}
-use Rattle.csv_rows.specs.declared.columns.Column.{Column}
-use Rattle.csv_rows.specs.declared.columns.Column.TheVariants.{TripId}
-use Rattle.csv_rows.specs.Tables.{row_count, number_in, index_of, field_at, field}
-use Rattle.csv_rows.specs.Tables.{field_of}
-use Rattle.csv_rows.proofs.IdLemmas.{number-here, found}
-use Rattle.csv_rows.proofs.ListLemmas.{length-list_below, get-list_below}
+use Rattle.std.proofs.lemmas.{Option.slice_get-get_or, Bool.cases_lt, List.get_or_append_left}
+use Rattle.plan_model.specs.{NameLists.AreDistinct, Results.{require, value_or}}
+use Rattle.csv_rows.specs.{declared.columns.Column.{Column, TheVariants.TripId}, Tables.{row_count, number_in, index_of, field_at, field, field_of}}
+use Rattle.csv_rows.proofs.{IdLemmas.{number-here, found}, ListLemmas.{length-list_below, get-list_below}}
 use Rattle.table_files.specs.Loading.{Records}
 use Rattle.feed_lists.specs.Trips.{trip_ids}
-use Rattle.std.proofs.lemmas.Bool.{cases_lt}
-use Rattle.std.proofs.lemmas.List.{get_or_append_left}
 use Rattle.window_laws.specs.MoreFiles.{IsSameRow, HasRows, AddsRows}
 
 -- of two readings that differ in what follows, and in their faults

@@ -1,18 +1,11 @@
 -- The runs of a feed in a window are among those of one with more trips in a larger window.
-use Rattle.std.proofs.Common.{◌≡◌, ℕ, [], length, All, Contains, refl, sym, subst}
-use Rattle.std.proofs.lemmas.Bool.{cond_both}
-use Rattle.std.proofs.lemmas.List.Elements.{All-weaker, All-nil}
-use Rattle.gtfs_tables.specs.Feeds.{FeedParts}
-use Rattle.gtfs_tables.specs.Timed.{rows_of}
+use Rattle.std.proofs.{Common.{◌≡◌, ℕ, [], length, All, Contains, refl, sym, subst}, lemmas.{Bool.cond_both, List.Elements.{All-weaker, All-nil}}}
+use Rattle.gtfs_tables.specs.{Feeds.FeedParts, Timed.rows_of}
 use Rattle.service_days.specs.Services.{ServiceParts}
-use Rattle.connections.specs.Window.{window_of, day_at}
-use Rattle.connections.specs.Steps.{is_active_trip}
-use Rattle.connections.specs.TripRuns.{runs_of_trip, frequencies_of, trip_runs, window_runs, days}
+use Rattle.connections.specs.{Window.{window_of, day_at}, Steps.is_active_trip, TripRuns.{runs_of_trip, frequencies_of, trip_runs, window_runs, days}}
 unfoldable use Rattle.connections.specs.TripRuns.{day_runs, runs_below}
 use Rattle.window_laws.specs.MoreTrips.{HasTrips, IsTripOf}
-use Rattle.window_laws.proofs.Lists.{Has, has_joined}
-use Rattle.window_laws.proofs.Types.{Window, ServiceDay, Run}
-use Rattle.window_laws.proofs.Within.{IsWithin, SameRun, runs_too, same_day}
+use Rattle.window_laws.proofs.{Lists.{Has, has_joined}, Types.{Window, ServiceDay, Run}, Within.{IsWithin, SameRun, runs_too, same_day}}
 
 -- a run of the one feed is one of the other: its trip is one there, and its times count from the same moment
 pub record IsRunOf (less : FeedParts) (s : ServiceParts) (more : FeedParts) (t : ServiceParts) (a b : Run) : Type 0 where

@@ -1,30 +1,19 @@
 -- The kept rows of a trip are the same where other trips have more rows.
 use Rattle.std.proofs.Common.{◌≡◌, ℕ, ◌+◌, ◌<◌, ◌≤◌, List, [], length, slice_index_or, is_some, Option, Some, None, Result, inl, inr, refl, sym, ap, ap₂, ◌∙◌, subst, arith, ⊎_elim}
-use Rattle.std.proofs.lemmas.Bool.{cases_lt}
-use Rattle.std.proofs.lemmas.List.{ext_get_or}
-use Rattle.plan_model.specs.NameLists.{AreDistinct}
-use Rattle.plan_model.specs.Results.{require, value_or}
+use Rattle.std.proofs.lemmas.{Bool.cases_lt, List.ext_get_or}
+use Rattle.plan_model.specs.{NameLists.AreDistinct, Results.{require, value_or}}
 use Rattle.clock_text.specs.Digits.{whole_of}
-use Rattle.csv_rows.specs.Ids.{name_in, text_in}
-use Rattle.csv_rows.specs.declared.columns.Column.TheVariants.{TripId}
-use Rattle.csv_rows.specs.Tables.{header, row_count, number_in, field}
-use Rattle.csv_rows.specs.Tables.{field_of}
-use Rattle.csv_rows.proofs.IdLemmas.{number-here}
-use Rattle.csv_rows.proofs.RowLemmas.{name_text}
-use Rattle.csv_rows.proofs.ListLemmas.{length-list_below, get-list_below}
+use Rattle.csv_rows.specs.{Ids.{name_in, text_in}, declared.columns.Column.TheVariants.TripId, Tables.{header, row_count, number_in, field, field_of}}
+use Rattle.csv_rows.proofs.{IdLemmas.number-here, RowLemmas.name_text, ListLemmas.{length-list_below, get-list_below}}
 use Rattle.table_files.specs.Loading.{Records}
-use Rattle.feed_lists.specs.Stops.{stop_ids}
-use Rattle.feed_lists.specs.Trips.{trip_ids}
-use Rattle.stop_times.specs.declared.rows.StopRow.{StopRow}
-use Rattle.stop_times.specs.StopTimes.{TripsAndStops, stop_number_in, timed_from, timed_of, columns_of, time_columns, no_row, timed_rows, row_at}
+use Rattle.feed_lists.specs.{Stops.stop_ids, Trips.trip_ids}
+use Rattle.stop_times.specs.{declared.rows.StopRow.StopRow, StopTimes.{TripsAndStops, stop_number_in, timed_from, timed_of, columns_of, time_columns, no_row, timed_rows, row_at, allows_in}}
+use Rattle.stop_times.specs.{StopTimes.time_in, Visits.{no_visit, AreStopTimes}}
 unfoldable use Rattle.stop_times.specs.StopTimes.{timed_at}
-use Rattle.stop_times.specs.StopTimes.{allows_in, time_in}
-use Rattle.stop_times.specs.Visits.{no_visit, AreStopTimes}
 use Rattle.gtfs_tables.specs.Feeds.{named_in}
 use Rattle.journey_problem.proofs.OneOrder.{Enumerates, agree, same_size}
-use Rattle.window_laws.proofs.Types.{TimedRow}
+use Rattle.window_laws.proofs.{Types.TimedRow, Rows.{both, read_on, turned, number_too, same_field, field_of-at}}
 use Rattle.window_laws.specs.MoreFiles.{IsSameRow, AddsRows}
-use Rattle.window_laws.proofs.Rows.{both, read_on, turned, number_too, same_field, field_of-at}
 
 -- rows of two trips that are else the same
 abbrev Agree : (k l : ℕ) → TimedRow → TimedRow → Type 0

@@ -1,33 +1,18 @@
 -- The feed of some tables has the trips of that of fewer rows.
 use Rattle.std.proofs.Common.{◌≡◌, ℕ, ◌<◌, List, [], length, slice_index, slice_index_or, None, sym, ap, ap₂, ◌∙◌, subst, arith}
 use Rattle.plan_model.specs.NameLists.{AreDistinct}
-use Rattle.csv_rows.specs.declared.columns.Column.TheVariants.{TripId}
-use Rattle.csv_rows.specs.declared.feed_tables.Table.TheVariants.{Trips}
-use Rattle.csv_rows.specs.Lists.{first_below}
-use Rattle.csv_rows.specs.RowFaults.{repeated_id}
-use Rattle.csv_rows.specs.Tables.{row_count, field}
-use Rattle.csv_rows.proofs.IdLemmas.{ids_differ}
-use Rattle.csv_rows.proofs.FirstLemmas.{none-both}
-use Rattle.csv_rows.proofs.ListLemmas.{length-list_below, get-list_below}
-use Rattle.table_files.specs.Loading.{Records}
-use Rattle.table_files.specs.Loading.{loaded_rows}
-use Rattle.feed_lists.specs.Routes.{route_ids}
-use Rattle.feed_lists.specs.Stops.{stop_ids}
-use Rattle.feed_lists.specs.Trips.{Trip, trip_or_none, trip_ids}
+use Rattle.csv_rows.specs.{declared.{columns.Column.TheVariants.TripId, feed_tables.Table.TheVariants.Trips}, Lists.first_below, RowFaults.repeated_id, Tables.{row_count, field}}
+use Rattle.csv_rows.proofs.{IdLemmas.ids_differ, FirstLemmas.none-both, ListLemmas.{length-list_below, get-list_below}}
+use Rattle.table_files.specs.Loading.{Records, loaded_rows}
+use Rattle.feed_lists.specs.{Routes.route_ids, Stops.stop_ids, Trips.{Trip, trip_or_none, trip_ids}}
 unfoldable use Rattle.feed_lists.specs.Trips.{trip_at, trips_fault}
 use Rattle.trip_frequencies.specs.Frequencies.{repeats_of, frequency_rows}
-use Rattle.stop_times.specs.StopTimes.{timed_rows}
-use Rattle.stop_times.specs.Visits.{AreStopTimes}
-use Rattle.gtfs_tables.specs.Feeds.{FeedParts, IsSoundFeed, named_in}
-use Rattle.gtfs_tables.specs.Timed.{rows_of}
+use Rattle.stop_times.specs.{StopTimes.timed_rows, Visits.AreStopTimes}
+use Rattle.gtfs_tables.specs.{Feeds.{FeedParts, IsSoundFeed, named_in}, Timed.rows_of}
 use Rattle.service_days.specs.Services.{ServiceParts}
-use Rattle.connections.specs.TripRuns.{frequencies_of}
-use Rattle.connections.specs.FeedNetworks.{route_of}
-use Rattle.window_laws.specs.MoreFiles.{IsSameRow, AreAmongTables, RunNoLess}
-use Rattle.window_laws.specs.MoreTrips.{RepeatToo, HasTrips}
-use Rattle.window_laws.proofs.Rows.{both, same_field}
-use Rattle.window_laws.proofs.StopTimes.{same_visits}
-use Rattle.window_laws.proofs.Repeats.{repeats_too, read_of}
+use Rattle.connections.specs.{TripRuns.frequencies_of, FeedNetworks.route_of}
+use Rattle.window_laws.specs.{MoreFiles.{IsSameRow, AreAmongTables, RunNoLess}, MoreTrips.{RepeatToo, HasTrips}}
+use Rattle.window_laws.proofs.{Rows.{both, same_field}, StopTimes.same_visits, Repeats.{repeats_too, read_of}}
 
 -- no trip comes twice
 once_each : (routes : List (List ℕ)) (t : Records) → trips_fault routes t ≡ None → first_below (repeated_id Trips (field t TripId)) (row_count t) ≡ None

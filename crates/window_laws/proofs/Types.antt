@@ -1,7 +1,5 @@
 -- The types of what a window has, and of what is read of stop times and frequencies: those of values that the crates below name.
-use Rattle.connections.specs.Window.{window_of, day_at}
-use Rattle.connections.specs.TripRuns.{no_run}
-use Rattle.connections.specs.RepeatedRuns.{repeat_of}
+use Rattle.connections.specs.{Window.{window_of, day_at}, TripRuns.no_run, RepeatedRuns.repeat_of}
 use Rattle.gtfs_tables.specs.Timed.{repeat_at}
 use Rattle.stop_times.specs.StopTimes.{no_row}
 use Rattle.trip_frequencies.specs.Frequencies.{no_frequency}

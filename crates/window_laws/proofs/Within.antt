@@ -1,28 +1,17 @@
 -- The runs of a window are among those of a larger one.
 use Rattle.std.proofs.Common.{◌≡◌, ℕ, ℤ, pos, ◌-◌, ◌+◌, ◌*◌, ◌/◌, ◌≤◌, true, int_le, List, [], ◌∷◌, length, All, Contains, refl, sym, ap, subst, arith, inl, inr, ltb-true, lt-ltb, ◌∙◌}
-use Rattle.std.proofs.lemmas.Bool.{and_parts, and_from, cond_both}
-use Rattle.std.proofs.lemmas.List.{get_or_default}
-use Rattle.std.proofs.lemmas.List.Elements.{All-weaker}
+use Rattle.std.proofs.lemmas.{Bool.{and_parts, and_from, cond_both}, List.{get_or_default, Elements.All-weaker}, Int.ints}
 use Rattle.plan_model.proofs.Lists.{Contains-cons_cases, Contains-head, Contains-nil, Contains-tail}
-use Rattle.trip_frequencies.specs.Frequencies.{no_frequency}
-use Rattle.connections.specs.TripRuns.{own_run, repeat_run, runs_of_trip}
-use Rattle.std.proofs.lemmas.Int.{ints}
 use Rattle.plan_model.specs.Bounds.{seconds_per_day}
-use Rattle.stop_times.specs.declared.rows.StopRow.{StopRow}
-use Rattle.stop_times.specs.StopTimeBounds.{end_of_times}
-use Rattle.trip_frequencies.specs.declared.frequencies.FrequencyRow.{FrequencyRow}
-use Rattle.gtfs_tables.specs.Timed.{repeat_at}
-use Rattle.connections.specs.Window.{window_of, day_at, holds}
-use Rattle.connections.specs.Origins.{origin_of_day}
-use Rattle.connections.specs.Steps.{departs, steps_of, has_connection}
-unfoldable use Rattle.connections.specs.Steps.{steps_below}
+use Rattle.trip_frequencies.specs.{Frequencies.no_frequency, declared.frequencies.FrequencyRow.FrequencyRow}
+use Rattle.connections.specs.{TripRuns.{own_run, repeat_run, runs_of_trip}, Window.{window_of, day_at, holds}, Origins.origin_of_day, Steps.{departs, steps_of, has_connection}}
 use Rattle.connections.specs.RepeatedRuns.{repeat_of, origin_at, is_repeat, in_order, with_repeat, repeat_precedes}
-unfoldable use Rattle.connections.specs.RepeatedRuns.{row_repeats, rows_repeats}
-use Rattle.connections.proofs.StepLemmas.{holds_parts, leaves_some, some_step}
-use Rattle.connections.proofs.OrderLemmas.{All-in_order}
+use Rattle.connections.proofs.{StepLemmas.{holds_parts, leaves_some, some_step}, OrderLemmas.All-in_order}
+use Rattle.stop_times.specs.{declared.rows.StopRow.StopRow, StopTimeBounds.end_of_times}
+use Rattle.gtfs_tables.specs.Timed.{repeat_at}
+unfoldable use Rattle.connections.specs.{Steps.steps_below, RepeatedRuns.{row_repeats, rows_repeats}}
 use Rattle.window_laws.specs.MoreTrips.{on_line, RepeatToo}
-use Rattle.window_laws.proofs.Lists.{Has, has_only_if, has_joined, has_mapped}
-use Rattle.window_laws.proofs.Types.{Window, ServiceDay, Run, Origin, Repeat}
+use Rattle.window_laws.proofs.{Lists.{Has, has_only_if, has_joined, has_mapped}, Types.{Window, ServiceDay, Run, Origin, Repeat}}
 
 placed : (x : Repeat) (rs : List Repeat) → Contains (with_repeat x rs) x
 placed x [] = Contains-head x []

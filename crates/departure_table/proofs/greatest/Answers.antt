@@ -1,5 +1,4 @@
-use Rattle.departure_table.proofs.Common.{ap, MeanSpan, Connection, Leg}
-use Rattle.departure_table.proofs.Looks.{last_is_greatest, none_is_greatest, no_greatest}
+use Rattle.departure_table.proofs.{Common.{ap, MeanSpan, Connection, Leg}, Looks.{last_is_greatest, none_is_greatest, no_greatest}}
 use Rattle.departure_table.proofs.greatest.Goals as goal
 
 pub returns-in_err-leg : goal.returns-in_err-leg

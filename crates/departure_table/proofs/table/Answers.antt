@@ -1,8 +1,6 @@
-use Rattle.departure_table.proofs.Common.{◌≡◌, ◌-◌, ◌++◌, List, [], ◌∷◌, Some, append-nil, append_assoc, refl, sym, ap, subst, arith, inl, inr, ◌∙◌}
-use Rattle.departure_table.proofs.Common.{Connection, Leg, Moment, MeanSpan, DepartureRow, row_of_choice, row_found, AreLooked}
+use Rattle.departure_table.proofs.Common.{◌≡◌, ◌-◌, ◌++◌, List, [], ◌∷◌, Some, append-nil, append_assoc, refl, sym, ap, subst, arith, inl, inr, ◌∙◌, Connection, Leg, Moment, MeanSpan}
+use Rattle.departure_table.proofs.{Common.{DepartureRow, row_of_choice, row_found, AreLooked}, Growth.{grown, ends_after, ends_with_none}, Looks.{none_ahead, looks_ahead}}
 use Rattle.std.specs.Option.{option_map}
-use Rattle.departure_table.proofs.Growth.{grown, ends_after, ends_with_none}
-use Rattle.departure_table.proofs.Looks.{none_ahead, looks_ahead}
 use Rattle.departure_table.proofs.table.Goals as goal
 
 pub returns-in_default-clause-table : goal.returns-in_default-clause-table

@@ -1,5 +1,4 @@
-use Rattle.departure_table.proofs.Common.{◌+◌, ◌-◌, ◌++◌, List, DepartureRow, SafeAfter, row_found, AreLooked}
-use Rattle.departure_table.proofs.Growth.{IsTableTo}
+use Rattle.departure_table.proofs.{Common.{◌+◌, ◌-◌, ◌++◌, List, DepartureRow, SafeAfter, row_found, AreLooked}, Growth.IsTableTo}
 use Rattle.departure_table.proofs.table.Given as goal
 
 -- the rows so far, and then those that are looked up from the next moment on, are those from the first moment on

@@ -1,5 +1,4 @@
-use Rattle.graph_compact.proofs.Common.{◌∙◌, length-map, lists_of, arith, common_steps}
-use Rattle.graph_compact.proofs.Trees.{unfolds, tidy}
+use Rattle.graph_compact.proofs.{Common.{◌∙◌, length-map, lists_of, arith, common_steps}, Trees.{unfolds, tidy}}
 use Rattle.graph_compact.proofs.compact.Goals as goal
 
 pub returns-in_ok-tables-in-Some-clause-unfolds : goal.returns-in_ok-tables-in-Some-clause-unfolds

@@ -1,5 +1,4 @@
-use Rattle.graph_prune.proofs.Pruned.{unfolds, pruned, follows_on, between_ready}
-use Rattle.graph_prune.proofs.Sources.{rising}
+use Rattle.graph_prune.proofs.{Pruned.{unfolds, pruned, follows_on, between_ready}, Sources.rising}
 use Rattle.graph_prune.proofs.prune.Goals as goal
 
 pub invariant_of-choice : goal.invariant_of-choice

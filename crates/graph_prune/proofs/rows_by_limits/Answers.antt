@@ -1,6 +1,5 @@
-use Rattle.std.proofs.lemmas.Grind.{common_steps}
+use Rattle.std.proofs.lemmas.{Grind.common_steps, List.{drop_more, drop_all}}
 use Rattle.graph_prune.proofs.Common.{◌≡◌, ℕ, ◌<◌, ◌+◌, List, Option, length, get_or, ◌++◌, drop, append-nil, NetworkModel, limit_of, GraphRow, by_limits, with_limit, arith}
-use Rattle.std.proofs.lemmas.List.{drop_more, drop_all}
 use Rattle.graph_prune.proofs.rows_by_limits.Goals as goal
 
 -- one row more

@@ -1,5 +1,4 @@
-use Rattle.graph_score.proofs.Common.{legs_of}
-use Rattle.graph_score.proofs.GraphLegs.{fit_legs, none_wrong}
+use Rattle.graph_score.proofs.{Common.legs_of, GraphLegs.{fit_legs, none_wrong}}
 use Rattle.graph_score.proofs.fit_is_scored.Goals as goal
 
 pub returns-clause-legs : goal.returns-clause-legs

@@ -1,14 +1,13 @@
 -- The score of a graph whose legs fit, by what comes of it.
-use Rattle.std.proofs.lemmas.Result.{IfOk-weaker}
-use Rattle.graph_score.proofs.Common.{◌≡◌, ◌≢◌, ℕ, ◌-◌, Option, Some, None, All, arith, sym, subst, refl, inl, inr, cases_lt, cases_eq, Leg, Query, NetworkModel, IsValid, count, arr_of, Tree, Done, kids_after, outcomes_of, PlanGraph, IsFitStart, unfold_plan, Interval, Failure, Outlook, Safe, Failing, IsFitLeg, legs_of, Fails, IsScored, IsUnsafe, IsScoreOf, span_of, IsOutlook, ride_by_rows, ◌+◌, ◌*◌, ◌^◌, ◌<◌, ◌≤◌, List, [], ◌∷◌, map, length, All-cons, All-nil, Outcome, to_of, outcomes, EachKid, Ride, Stuck, Kids, Nil, Kid, height, height_of, IsSafe, AreSafe, spans_of}
-use Rattle.graph_score.proofs.GraphLegs.{rows_fit, start_fits}
-use Rattle.graph_score.proofs.Trees.{next_after, safe_never_fails, safe_ride, height_ridden, unfold-start, unfold-none, unfold-there}
-use Rattle.std.proofs.Math.Nat.{mul_assoc}
-use Rattle.plan_model.specs.Bounds.{nanos_per_second}
-use Rattle.plan_model.specs.Expected.{Below, Covers, Encloses, arrival}
+use Rattle.std.proofs.{lemmas.Result.IfOk-weaker, Math.Nat.mul_assoc}
+use Rattle.graph_score.proofs.Common.{◌≡◌, ◌≢◌, ℕ, ◌-◌, Option, Some, None, All, arith, sym, subst, refl, inl, inr, cases_lt, cases_eq, Leg, Query, NetworkModel, IsValid, count, arr_of, Tree}
+use Rattle.graph_score.proofs.Common.{Done, kids_after, outcomes_of, PlanGraph, IsFitStart, unfold_plan, Interval, Failure, Outlook, Safe, Failing, IsFitLeg, legs_of, Fails, IsScored, IsUnsafe}
+use Rattle.graph_score.proofs.Common.{IsScoreOf, span_of, IsOutlook, ride_by_rows, ◌+◌, ◌*◌, ◌^◌, ◌<◌, ◌≤◌, List, [], ◌∷◌, map, length, All-cons, All-nil, Outcome, to_of, outcomes, EachKid, Ride}
+use Rattle.graph_score.proofs.{Common.{Stuck, Kids, Nil, Kid, height, height_of, IsSafe, AreSafe, spans_of}, GraphLegs.{rows_fit, start_fits}, Trees.{next_after, safe_never_fails, safe_ride}}
+use Rattle.graph_score.proofs.Trees.{height_ridden, unfold-start, unfold-none, unfold-there}
+use Rattle.plan_model.specs.{Bounds.nanos_per_second, Expected.{Below, Covers, Encloses, arrival}}
 use Rattle.plan_model.proofs.Bounds.{row_is}
-use Rattle.interval_fixed.proofs.Sums.{mean_below, mean_covers}
-use Rattle.interval_fixed.proofs.Enclosed.{mean_gap_within}
+use Rattle.interval_fixed.proofs.{Sums.{mean_below, mean_covers}, Enclosed.mean_gap_within}
 use Rattle.graph_score.proofs.score_by_legs.Goals as goal
 
 -- ---- the bounds of a tree that is safe enclose its expected arrival, and are not farther apart than its rides are nested

@@ -1,5 +1,4 @@
-use Rattle.graph_text.proofs.Common.{arith}
-use Rattle.graph_text.proofs.Faults.{records_fail, records_back}
+use Rattle.graph_text.proofs.{Common.arith, Faults.{records_fail, records_back}}
 use Rattle.graph_text.proofs.read_fault_is_by_rows.Goals as goal
 
 pub returns : goal.returns

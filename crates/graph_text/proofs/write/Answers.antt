@@ -1,6 +1,5 @@
-use Rattle.graph_text.proofs.Common.{◌≡◌, ◌<◌, ◌≤◌, ◌^◌, ℕ, Vec, subst, sym, Global, IsFit, plan_text, IsReadAs}
+use Rattle.graph_text.proofs.{Common.{◌≡◌, ◌<◌, ◌≤◌, ◌^◌, ℕ, Vec, subst, sym, Global, IsFit, plan_text, IsReadAs}, ReadBack.reads_back}
 use Rattle.std.proofs.lemmas.Result.{IfOk-weaker}
-use Rattle.graph_text.proofs.ReadBack.{reads_back}
 use Rattle.graph_text.proofs.write.Goals as goal
 
 pub returns-clause-text : goal.returns-clause-text

@@ -1,6 +1,5 @@
-use Rattle.late_chance.proofs.Common.{shifted_parts}
+use Rattle.late_chance.proofs.{Common.shifted_parts, SeenFrom.{valid, view}}
 use Rattle.plan_model.proofs.Views.{alike}
-use Rattle.late_chance.proofs.SeenFrom.{valid, view}
 use Rattle.late_chance.proofs.shifted_is_view.Goals as goal
 
 pub returns-clause-valid : goal.returns-clause-valid

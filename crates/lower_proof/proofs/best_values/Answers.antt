@@ -1,7 +1,6 @@
-use Rattle.lower_proof.proofs.Common.{◌≡◌, ℕ, List, Option, length, arith, sym, ap, take_at, length-set, Connection, connection}
-use Rattle.lower_proof.proofs.Written.{given, written_first, written_there, written_next, written_last}
+use Rattle.lower_proof.proofs.{Common.{◌≡◌, ℕ, List, Option, length, arith, sym, ap, take_at, length-set, Connection, connection}, Written.{given, written_first, written_there, written_next}}
+use Rattle.lower_proof.proofs.{Written.written_last, best_values.Goals.{then-get, else-get}}
 use Rattle.lower_proof.proofs.best_values.Goals as goal
-use Rattle.lower_proof.proofs.best_values.Goals.{then-get, else-get}
 
 pub loop-departure-init : goal.loop-departure-init
 loop-departure-init c = grind (arith, written_first)

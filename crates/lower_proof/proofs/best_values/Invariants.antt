@@ -1,5 +1,4 @@
-use Rattle.lower_proof.proofs.Common.{length}
-use Rattle.lower_proof.proofs.Written.{Written}
+use Rattle.lower_proof.proofs.{Common.length, Written.Written}
 use Rattle.lower_proof.proofs.best_values.Given as goal
 
 abbrev pub invariant-loop-departure : goal.invariant-loop-departure

@@ -1,7 +1,6 @@
-use Rattle.lower_proof.proofs.Common.{◌≡◌, ℕ, List, Option, length, arith, rules, ap, take_at, length-set, connection}
-use Rattle.lower_proof.proofs.Exits.{check_first, check_there, check_next, check_fails, check_last}
-use Rattle.lower_proof.proofs.check.Goals as goal
+use Rattle.lower_proof.proofs.{Common.{◌≡◌, ℕ, List, Option, length, arith, rules, ap, take_at, length-set, connection}, Exits.{check_first, check_there, check_next, check_fails, check_last}}
 use Rattle.lower_proof.proofs.Best.{sound}
+use Rattle.lower_proof.proofs.check.Goals as goal
 
 pub loop-departure-init : goal.loop-departure-init
 loop-departure-init c = record {

@@ -1,5 +1,4 @@
-use Rattle.lower_proof.proofs.Common.{length, AreBoards}
-use Rattle.lower_proof.proofs.Exits.{CheckState}
+use Rattle.lower_proof.proofs.{Common.{length, AreBoards}, Exits.CheckState}
 use Rattle.lower_proof.proofs.check.Given as goal
 
 abbrev pub invariant-loop-departure : goal.invariant-loop-departure

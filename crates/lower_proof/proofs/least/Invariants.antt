@@ -1,5 +1,4 @@
-use Rattle.lower_proof.proofs.Common.{IsBoardableAtStart, IsLeastOf, Offers}
-use Rattle.lower_proof.proofs.Leasts.{Below}
+use Rattle.lower_proof.proofs.{Common.{IsBoardableAtStart, IsLeastOf, Offers}, Leasts.Below}
 use Rattle.lower_proof.proofs.least.Given as goal
 
 abbrev pub invariant-loop-i : goal.invariant-loop-i

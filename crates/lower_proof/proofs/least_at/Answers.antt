@@ -1,6 +1,4 @@
-use Rattle.lower_proof.proofs.Common.{◌≢◌, rules, get_or_default, arith}
-use Rattle.lower_proof.proofs.Entries.{no_board}
-use Rattle.lower_proof.proofs.Written.{board_least, boards_looked}
+use Rattle.lower_proof.proofs.{Common.{◌≢◌, rules, get_or_default, arith}, Entries.no_board, Written.{board_least, boards_looked}}
 use Rattle.lower_proof.proofs.least_at.Goals as goal
 
 pub returns-clause-least : goal.returns-clause-least

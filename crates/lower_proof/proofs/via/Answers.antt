@@ -1,5 +1,4 @@
-use Rattle.lower_proof.proofs.Common.{◌≤◌, arith, rules, IsTrue, take_all}
-use Rattle.lower_proof.proofs.Vias.{weighed_next, room_next, never_via, via_weighed}
+use Rattle.lower_proof.proofs.{Common.{◌≤◌, arith, rules, IsTrue, take_all}, Vias.{weighed_next, room_next, never_via, via_weighed}}
 use Rattle.lower_proof.proofs.via.Goals as goal
 
 pub returns-in-None-clause-via : goal.returns-in-None-clause-via

@@ -1,5 +1,4 @@
-use Rattle.lower_proof.proofs.Common.{ℕ, ◌+◌, ◌*◌, ◌≤◌, drop, take, sum_by, AreBoards, AllLate}
-use Rattle.lower_proof.proofs.Vias.{Weighed}
+use Rattle.lower_proof.proofs.{Common.{ℕ, ◌+◌, ◌*◌, ◌≤◌, drop, take, sum_by, AreBoards, AllLate}, Vias.Weighed}
 use Rattle.lower_proof.proofs.via.Given as goal
 
 -- the sum so far, and room for what remains at the greatest values

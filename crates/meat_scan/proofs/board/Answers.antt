@@ -1,5 +1,5 @@
-use Rattle.meat_scan.proofs.Common.{◌∙◌, ◌<◌, ◌≤◌, ◌≡◌, cond, length, arith, sym, ap, subst, from_of, ways_into, ways_into-distinct, has_way, spare_at}
-use Rattle.meat_scan.proofs.WaySteps.{from_in, room_remains, rows_next, spare_next}
+use Rattle.meat_scan.proofs.{Common.{◌∙◌, ◌<◌, ◌≤◌, ◌≡◌, cond, length, arith, sym, ap, subst, from_of, ways_into, ways_into-distinct, has_way, spare_at}, WaySteps.{from_in, room_remains}}
+use Rattle.meat_scan.proofs.WaySteps.{rows_next, spare_next}
 use Rattle.meat_scan.proofs.board.Goals as goal
 
 pub put_leg-requires : goal.put_leg-requires

@@ -1,5 +1,4 @@
-use Rattle.meat_scan.proofs.Common.{◌≡◌, ℕ, ◌+◌, ◌≤◌, length, take, ways_into, rows_of_profile, spare_at, capacity_at, with_way}
-use Rattle.meat_scan.proofs.WaySteps.{way_in, way_number}
+use Rattle.meat_scan.proofs.{Common.{◌≡◌, ℕ, ◌+◌, ◌≤◌, length, take, ways_into, rows_of_profile, spare_at, capacity_at, with_way}, WaySteps.{way_in, way_number}}
 use Rattle.meat_scan.proofs.board.Given as goal
 
 -- the rows of each place, and its room, after the ways so far

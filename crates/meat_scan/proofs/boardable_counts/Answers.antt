@@ -1,7 +1,5 @@
-use Rattle.meat_scan.proofs.Common.{nat_le, arith, nat_tests, written_back, connection}
-use Rattle.meat_scan.proofs.Reserves.{count_by-take_more}
+use Rattle.meat_scan.proofs.{Common.{nat_le, arith, nat_tests, written_back, connection}, Reserves.count_by-take_more, boardable_counts.Goals.{then-connection-last, else-connection-last}}
 use Rattle.meat_scan.proofs.boardable_counts.Goals as goal
-use Rattle.meat_scan.proofs.boardable_counts.Goals.{then-connection-last, else-connection-last}
 
 pub loop-id-preserved : goal.loop-id-preserved
 unfolding connection

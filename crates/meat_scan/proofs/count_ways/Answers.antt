@@ -1,5 +1,4 @@
-use Rattle.meat_scan.proofs.Common.{◌∙◌, arith, length-set, ways_into, ways_into-distinct}
-use Rattle.meat_scan.proofs.WaySteps.{from_in, count_next}
+use Rattle.meat_scan.proofs.{Common.{◌∙◌, arith, length-set, ways_into, ways_into-distinct}, WaySteps.{from_in, count_next}}
 use Rattle.meat_scan.proofs.count_ways.Goals as goal
 
 pub bounds-room-way : goal.bounds-room-way

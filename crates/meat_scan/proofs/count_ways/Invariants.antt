@@ -1,5 +1,4 @@
-use Rattle.meat_scan.proofs.Common.{◌≡◌, ℕ, ◌+◌, ◌<◌, length, get_or, take, ways_into}
-use Rattle.meat_scan.proofs.WaySteps.{way_in, way_number}
+use Rattle.meat_scan.proofs.{Common.{◌≡◌, ℕ, ◌+◌, ◌<◌, length, get_or, take, ways_into}, WaySteps.{way_in, way_number}}
 use Rattle.meat_scan.proofs.count_ways.Given as goal
 
 -- the counts after the ways so far

@@ -1,5 +1,5 @@
-use Rattle.meat_scan.proofs.Common.{◌∙◌, sym, subst, arith, refl, written_back, FitsTablesBy, common_steps}
-use Rattle.meat_scan.proofs.States.{next_state, last_state, rules_end, id_there, room_for_run, room_for_rows, room_next, found_rows-profiles, skipped_state}
+use Rattle.meat_scan.proofs.{Common.{◌∙◌, sym, subst, arith, refl, written_back, FitsTablesBy, common_steps}, States.{next_state, last_state, rules_end, id_there, room_for_run, room_for_rows}}
+use Rattle.meat_scan.proofs.States.{room_next, found_rows-profiles, skipped_state}
 use Rattle.meat_scan.proofs.scan_all.Goals as goal
 
 pub loop-id-init : goal.loop-id-init

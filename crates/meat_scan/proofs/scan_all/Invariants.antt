@@ -1,5 +1,4 @@
-use Rattle.meat_scan.proofs.Common.{◌≡◌, ℕ, length, IsValid, capacity_at, HasRoom}
-use Rattle.meat_scan.proofs.States.{ScanState}
+use Rattle.meat_scan.proofs.{Common.{◌≡◌, ℕ, length, IsValid, capacity_at, HasRoom}, States.ScanState}
 use Rattle.meat_scan.proofs.scan_all.Given as goal
 
 abbrev pub invariant-loop-id : goal.invariant-loop-id

@@ -1,6 +1,4 @@
-use Rattle.meat_scan.proofs.Common.{◌∙◌, arith}
-use Rattle.meat_scan.proofs.Ends.{value_solved}
-use Rattle.meat_scan.proofs.Reserves.{fits_again, fits_any}
+use Rattle.meat_scan.proofs.{Common.{◌∙◌, arith}, Ends.value_solved, Reserves.{fits_again, fits_any}}
 use Rattle.meat_scan.proofs.start_value.Goals as goal
 
 pub returns-clause-solves : goal.returns-clause-solves

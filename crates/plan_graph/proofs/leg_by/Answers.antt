@@ -1,5 +1,4 @@
-use Rattle.plan_graph.proofs.Common.{arith, rules, sym, GraphRow}
-use Rattle.plan_graph.proofs.RisingTables.{parted_at, pick_row-at, pick_row-none}
+use Rattle.plan_graph.proofs.{Common.{arith, rules, sym, GraphRow}, RisingTables.{parted_at, pick_row-at, pick_row-none}}
 use Rattle.plan_graph.proofs.leg_by.Goals as goal
 
 pub returns-then-at-rows : goal.returns-then-at-rows

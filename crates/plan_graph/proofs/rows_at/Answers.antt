@@ -1,5 +1,4 @@
-use Rattle.plan_graph.proofs.Common.{arith, rules, sym, ap, ◌∙◌, get_or_default, PlaceTable}
-use Rattle.plan_graph.proofs.RisingTables.{parted_at, rows_of_place-at, rows_of_place-none}
+use Rattle.plan_graph.proofs.{Common.{arith, rules, sym, ap, ◌∙◌, get_or_default, PlaceTable}, RisingTables.{parted_at, rows_of_place-at, rows_of_place-none}}
 use Rattle.plan_graph.proofs.rows_at.Goals as goal
 
 pub returns-then-at-tables : goal.returns-then-at-tables

@@ -1,8 +1,7 @@
-use Rattle.trip_replay.proofs.Common.{◌≡◌, ◌∙◌, ℕ, ◌+◌, List, length, drop, Option, Err, sym, ap, arith, subst, All, eqb-true, option_map, eqb-false, All-push, length_push}
-use Rattle.trip_replay.proofs.Common.{Tree, by_place, unfold_after, pick_at, Ridden, walk, IsRidden}
+use Rattle.trip_replay.proofs.Common.{◌≡◌, ◌∙◌, ℕ, ◌+◌, List, length, drop, Option, Err, sym, ap, arith, subst, All, eqb-true, option_map, eqb-false, All-push, length_push, Tree, by_place}
+use Rattle.trip_replay.proofs.{Common.{unfold_after, pick_at, Ridden, walk, IsRidden}, Walks.{is_ride, arrival_after-push, place_after-push, too_many, not_a_delay, after_ride, next_step}}
 use Rattle.plan_model.specs.declared.model.Moment.{Moment}
 use Rattle.trip_replay.specs.declared.ReplayFault.TheVariants as fault
-use Rattle.trip_replay.proofs.Walks.{is_ride, arrival_after-push, place_after-push, too_many, not_a_delay, after_ride, next_step}
 use Rattle.trip_replay.proofs.follow.Goals as goal
 
 pub returns-then-eq-clause-walk : goal.returns-then-eq-clause-walk

@@ -1,6 +1,6 @@
 use Rattle.trip_replay.proofs.Common.{◌≡◌, ℕ, suc, ◌-◌, Option, arith, ap, refl, ◌==◌, if◌then◌else◌, Leg, NetworkModel, Done, end_of, by_place, ride_or_stuck, unfold_after, pick_at, fit_rises}
-use Rattle.plan_model.specs.declared.model.Connection.{Connection}
 use Rattle.trip_replay.proofs.Walks.{next_leg}
+use Rattle.plan_model.specs.declared.model.Connection.{Connection}
 use Rattle.trip_replay.proofs.position_after.Goals as goal
 
 pub pick_rising-requires : goal.pick_rising-requires

@@ -1,5 +1,4 @@
-use Rattle.trip_replay.proofs.Common.{arith}
-use Rattle.trip_replay.proofs.Walks.{safe_answer}
+use Rattle.trip_replay.proofs.{Common.arith, Walks.safe_answer}
 use Rattle.trip_replay.proofs.replay.Goals as goal
 
 pub returns-clause-safe : goal.returns-clause-safe

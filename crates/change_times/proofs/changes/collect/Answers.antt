@@ -1,11 +1,9 @@
-use Rattle.change_times.proofs.Common.{◌≡◌, ◌+◌, None, refl, is_none, nat_eq, sym, ap, ◌∙◌, arith, match_raised, fault-at, bad_transfer, transfer_reported_by, seconds_between}
-use Rattle.change_times.proofs.Common.{link_between, walks_of, most_to, greatest_link}
-use Rattle.std.specs.HashMap.{get}
-use Rattle.std.specs.Result.{result_err}
+use Rattle.change_times.proofs.Common.{◌≡◌, ◌+◌, None, refl, is_none, nat_eq, sym, ap, ◌∙◌, arith, match_raised, fault-at, bad_transfer, transfer_reported_by, seconds_between, link_between}
+use Rattle.change_times.proofs.{Common.{walks_of, most_to, greatest_link}, ChangeLemmas.{transfer_is, count-next, one_at_most, short_between, short_link}, GreatestLemmas.greatest-next}
+use Rattle.change_times.proofs.GreatestLemmas.{short_next}
+use Rattle.std.specs.{HashMap.get, Result.result_err}
 use Rattle.plan_model.specs.Results.{value_or}
 use Rattle.csv_rows.proofs.FirstLemmas.{first-zero, first-next}
-use Rattle.change_times.proofs.ChangeLemmas.{transfer_is, count-next, one_at_most, short_between, short_link}
-use Rattle.change_times.proofs.GreatestLemmas.{greatest-next, short_next}
 use Rattle.change_times.proofs.changes.collect.Goals as goal
 
 pub loop-i-init : goal.loop-i-init

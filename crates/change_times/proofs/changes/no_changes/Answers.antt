@@ -1,5 +1,4 @@
-use Rattle.change_times.proofs.Common.{refl, All-nil, arith}
-use Rattle.change_times.proofs.ChangeLemmas.{no_rows}
+use Rattle.change_times.proofs.{Common.{refl, All-nil, arith}, ChangeLemmas.no_rows}
 use Rattle.change_times.proofs.changes.no_changes.Goals as goal
 
 pub returns-clause-changes : goal.returns-clause-changes

@@ -1,5 +1,4 @@
-use Rattle.change_times.proofs.Common.{sym, ◌∙◌, refl}
-use Rattle.change_times.proofs.ChangeLemmas.{reported_none}
+use Rattle.change_times.proofs.{Common.{sym, ◌∙◌, refl}, ChangeLemmas.reported_none}
 use Rattle.change_times.proofs.changes.nothing_reported.Goals as goal
 
 pub returns : goal.returns

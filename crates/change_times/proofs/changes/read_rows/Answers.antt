@@ -1,8 +1,8 @@
 -- Ways that rise, come from others and take a second to a day.
-use Rattle.change_times.proofs.Common.{◌≡◌, ◌<◌, ℕ, List, length, ap, ◌∙◌, arith, Way, Records, FeedParts, row_count, TransfersSoFar, Walk, ways_at, ways_below, AreCollected, walks_of, most_to, zero, suc, ◌+◌, ◌≤◌, [], ◌++◌, All, Option, Some, None, sym, subst, length-append, ⊎_elim, cases_lt, append-nil, get_or_append_left, get_or_past, get_or_push, All-get_or, All-nil, All-push, link_from, AreLinksInto, transfer_reported_by, link_between}
-use Rattle.change_times.proofs.LinkLemmas.{ways-same, ways-zero, ways-next, ways_before}
-use Rattle.change_times.proofs.ChangeLemmas.{no_own_link}
-use Rattle.change_times.proofs.GreatestLemmas.{IsShort, greatest-none}
+use Rattle.change_times.proofs.Common.{◌≡◌, ◌<◌, ℕ, List, length, ap, ◌∙◌, arith, Way, Records, FeedParts, row_count, TransfersSoFar, Walk, ways_at, ways_below, AreCollected, walks_of, most_to}
+use Rattle.change_times.proofs.Common.{zero, suc, ◌+◌, ◌≤◌, [], ◌++◌, All, Option, Some, None, sym, subst, length-append, ⊎_elim, cases_lt, append-nil, get_or_append_left, get_or_past}
+use Rattle.change_times.proofs.{Common.{get_or_push, All-get_or, All-nil, All-push, link_from, AreLinksInto, transfer_reported_by, link_between}, LinkLemmas.{ways-same, ways-zero, ways-next}}
+use Rattle.change_times.proofs.{LinkLemmas.ways_before, ChangeLemmas.no_own_link, GreatestLemmas.{IsShort, greatest-none}}
 use Rattle.change_times.proofs.changes.read_rows.Goals as goal
 
 abbrev Rises : Way → Way → Type 0

@@ -1,5 +1,4 @@
-use Rattle.change_times.proofs.Common.{arith}
-use Rattle.change_times.proofs.LinkLemmas.{add-walk, by_ok}
+use Rattle.change_times.proofs.{Common.arith, LinkLemmas.{add-walk, by_ok}}
 use Rattle.change_times.proofs.links.add_walk.Goals as goal
 
 pub returns-clause-walks : goal.returns-clause-walks

@@ -1,5 +1,4 @@
-use Rattle.change_times.proofs.Common.{arith, get_or_default}
-use Rattle.change_times.proofs.LinkLemmas.{ways-zero, ways-next, ways_before}
+use Rattle.change_times.proofs.{Common.{arith, get_or_default}, LinkLemmas.{ways-zero, ways-next, ways_before}}
 use Rattle.change_times.proofs.links.links_of.Goals as goal
 
 pub loop-from-init : goal.loop-from-init

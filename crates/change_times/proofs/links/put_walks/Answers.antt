@@ -1,5 +1,4 @@
-use Rattle.change_times.proofs.Common.{◌++◌, ◌<◌, Option, ℕ, length, take, sym, ap, ◌∙◌, arith, take_all, link_from, most_to}
-use Rattle.change_times.proofs.LinkLemmas.{most-next}
+use Rattle.change_times.proofs.{Common.{◌++◌, ◌<◌, Option, ℕ, length, take, sym, ap, ◌∙◌, arith, take_all, link_from, most_to}, LinkLemmas.most-next}
 use Rattle.change_times.proofs.links.put_walks.Goals as goal
 
 pub loop-walk-preserved : goal.loop-walk-preserved

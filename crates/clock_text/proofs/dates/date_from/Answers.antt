@@ -1,7 +1,6 @@
-use Rattle.clock_text.proofs.Common.{arith, ◌≡◌, ◌∙◌, pos, ◌+ℤ◌, FitsSigned, w32, w64, to_z-of_z, signed_arith, epoch_day}
+use Rattle.clock_text.proofs.{Common.{arith, ◌≡◌, ◌∙◌, pos, ◌+ℤ◌, FitsSigned, w32, w64, to_z-of_z, signed_arith, epoch_day}, DateFacts.{epoch_day_zero, day_size}}
 use Rattle.std.proofs.lemmas.Result.{IfOk-at_ok}
 use Rattle.jiff.proofs.SpanFacts.{date_add-days, can_add-days}
-use Rattle.clock_text.proofs.DateFacts.{epoch_day_zero, day_size}
 use Rattle.clock_text.proofs.dates.date_from.Goals as goal
 
 pub days-requires : goal.days-requires

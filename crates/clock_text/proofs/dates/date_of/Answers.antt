@@ -1,5 +1,4 @@
-use Rattle.clock_text.proofs.Common.{w32, ◌∙◌, to_z-of_z}
-use Rattle.clock_text.proofs.OneDate.{in_range, year_of}
+use Rattle.clock_text.proofs.{Common.{w32, ◌∙◌, to_z-of_z}, OneDate.{in_range, year_of}}
 use Rattle.clock_text.proofs.dates.date_of.Goals as goal
 
 pub date_from-requires : goal.date_from-requires

@@ -1,5 +1,4 @@
-use Rattle.clock_text.proofs.Common.{arith, ◌≡◌, ◌∙◌, pos, w32, to_z_pos, signed_arith, epoch_day}
-use Rattle.clock_text.proofs.DateFacts.{year_from}
+use Rattle.clock_text.proofs.{Common.{arith, ◌≡◌, ◌∙◌, pos, w32, to_z_pos, signed_arith, epoch_day}, DateFacts.year_from}
 use Rattle.clock_text.proofs.moments.date_since_1970.Goals as goal
 
 pub returns-clause-year : goal.returns-clause-year

@@ -1,5 +1,4 @@
-use Rattle.clock_text.proofs.Common.{arith, ◌≡◌, pos, FitsSigned, w8, w32, ◌∙◌, ap, w16, to_z_pos, to_z-of_z, signed_arith, epoch_day}
-use Rattle.clock_text.proofs.DateFacts.{day_is, after_epoch}
+use Rattle.clock_text.proofs.{Common.{arith, ◌≡◌, pos, FitsSigned, w8, w32, ◌∙◌, ap, w16, to_z_pos, to_z-of_z, signed_arith, epoch_day}, DateFacts.{day_is, after_epoch}}
 use Rattle.clock_text.proofs.moments.day_of.Goals as goal
 
 pub returns-in-Ok-clause-value : goal.returns-in-Ok-clause-value

@@ -1,5 +1,4 @@
-use Rattle.clock_text.proofs.Common.{arith}
-use Rattle.clock_text.proofs.NanosLemmas.{no_fraction, no_moment_reported, moment_reported}
+use Rattle.clock_text.proofs.{Common.arith, NanosLemmas.{no_fraction, no_moment_reported, moment_reported}}
 use Rattle.clock_text.proofs.moments.read_nanos.Goals as goal
 
 pub returns-in_err-fraction : goal.returns-in_err-fraction

@@ -1,5 +1,4 @@
-use Rattle.command_line.proofs.Common.{ℕ, List, sym, ◌∙◌, Bor, arith}
-use Rattle.command_line.proofs.Pairs.{IsPair, are_settings-short, are_settings-unknown, are_settings-known}
+use Rattle.command_line.proofs.{Common.{ℕ, List, sym, ◌∙◌, Bor, arith}, Pairs.{IsPair, are_settings-short, are_settings-unknown, are_settings-known}}
 use Rattle.command_line.proofs.settings.+are_settings.Goals as goal
 
 pub returns-in_default : goal.returns-in_default

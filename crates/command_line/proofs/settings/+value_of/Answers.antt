@@ -1,5 +1,4 @@
-use Rattle.command_line.proofs.Common.{sym, arith}
-use Rattle.command_line.proofs.Pairs.{IsPair, value_of-short, value_of-found, value_of-other}
+use Rattle.command_line.proofs.{Common.{sym, arith}, Pairs.{IsPair, value_of-short, value_of-found, value_of-other}}
 use Rattle.command_line.proofs.settings.+value_of.Goals as goal
 
 pub returns-in_default : goal.returns-in_default

@@ -1,5 +1,4 @@
-use Rattle.command_line.proofs.Common.{◌≡◌, ℕ, List, IsTrue, sym, ◌∙◌, subst, flat_map, OptionName, spelled, value_of, value_in, are_settings, arith}
-use Rattle.command_line.proofs.Lines.{settings_hold, read_settings}
+use Rattle.command_line.proofs.{Common.{◌≡◌, ℕ, List, IsTrue, sym, ◌∙◌, subst, flat_map, OptionName, spelled, value_of, value_in, are_settings, arith}, Lines.{settings_hold, read_settings}}
 use Rattle.command_line.proofs.settings.line_is_a_command_and_its_settings.Goals as goal
 
 pub returns-clause-accepted : goal.returns-clause-accepted

@@ -1,7 +1,6 @@
-use Rattle.command_line.proofs.Common.{◌≡◌, ℕ, ◌≤◌, ◌<◌, length, List, Bool, true, false, arith, rules, tests, lit<, nat_le, list_all, count_from_yields_List, YieldsList-from_str_split}
-use Rattle.command_line.proofs.Common.{is_delay, are_delays, pieces}
-use Rattle.std.proofs.lemmas.Bool.Decides.{nat_tests}
-use Rattle.std.proofs.lemmas.Iterator.Search.{all_from_yields_List}
+use Rattle.command_line.proofs.Common.{◌≡◌, ℕ, ◌≤◌, ◌<◌, length, List, Bool, true, false, arith, rules, tests, lit<, nat_le, list_all, count_from_yields_List, YieldsList-from_str_split, is_delay}
+use Rattle.command_line.proofs.Common.{are_delays, pieces}
+use Rattle.std.proofs.lemmas.{Bool.Decides.nat_tests, Iterator.Search.all_from_yields_List}
 use Rattle.command_line.proofs.values.are_delays.Goals as goal
 
 few : (texts : List (List ℕ)) (n : ℕ) (b : Bool) → n ≡ length texts → n ≤ 4096 → b ≡ list_all is_delay texts → b ≡ are_delays texts

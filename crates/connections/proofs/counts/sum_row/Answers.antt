@@ -1,8 +1,7 @@
 -- What the connections of the runs of a row that leave one kept row add up to.
-use Rattle.connections.proofs.Common.{◌-◌, arith, ◌≡◌, ℕ, ◌*◌, ◌&&◌, min, nat_lt, Bool, List, ap, ◌∙◌, ltb-true, lt-ltb, and_parts, and_from, FrequencyRow, StopRow, end_of_times, IsFrequency, kept_at, PlaceId, departure, ServiceDay, Window, holds, DepartOnDay, departs, origin_at, leaving_sum}
-use Rattle.connections.proofs.CountLemmas.{sum-next}
-use Rattle.connections.proofs.SumLemmas.{row_sum-leaving, between-sum}
-use Rattle.connections.proofs.RepeatLemmas.{AreLeaving, between, inside, to_few}
+use Rattle.connections.proofs.Common.{◌-◌, arith, ◌≡◌, ℕ, ◌*◌, ◌&&◌, min, nat_lt, Bool, List, ap, ◌∙◌, ltb-true, lt-ltb, and_parts, and_from, FrequencyRow, StopRow, end_of_times, IsFrequency}
+use Rattle.connections.proofs.{Common.{kept_at, PlaceId, departure, ServiceDay, Window, holds, DepartOnDay, departs, origin_at, leaving_sum}, CountLemmas.sum-next, SumLemmas.row_sum-leaving}
+use Rattle.connections.proofs.{SumLemmas.between-sum, RepeatLemmas.{AreLeaving, between, inside, to_few}}
 use Rattle.connections.proofs.counts.sum_row.Goals as goal
 
 pub leaving_sum-is : (each : PlaceId → ℕ) (w : Window) (rows : List StopRow) (deps : DepartOnDay rows) (day : ServiceDay) (row : FrequencyRow) (is : IsFrequency row) (k from to : ℕ)

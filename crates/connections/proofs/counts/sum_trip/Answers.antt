@@ -1,5 +1,4 @@
-use Rattle.connections.proofs.Common.{◌-◌, arith}
-use Rattle.connections.proofs.SumLemmas.{active-sum}
+use Rattle.connections.proofs.{Common.{◌-◌, arith}, SumLemmas.active-sum}
 use Rattle.connections.proofs.counts.sum_trip.Goals as goal
 
 pub returns : goal.returns

@@ -1,5 +1,4 @@
-use Rattle.connections.proofs.Common.{◌-◌, ◌^◌, min, length, ap, ◌∙◌, arith, ServiceDay, day_at, each_of, day_sum, days_sum}
-use Rattle.connections.proofs.CountLemmas.{sum-next}
+use Rattle.connections.proofs.{Common.{◌-◌, ◌^◌, min, length, ap, ◌∙◌, arith, ServiceDay, day_at, each_of, day_sum, days_sum}, CountLemmas.sum-next}
 use Rattle.connections.proofs.counts.sum_window.Goals as goal
 
 pub loop-d-preserved : goal.loop-d-preserved

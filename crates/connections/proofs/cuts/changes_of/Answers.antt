@@ -1,6 +1,5 @@
 -- The change seconds of places, one after the other.
-use Rattle.connections.proofs.Common.{arith, ◌≡◌, ℕ, ◌≤◌, List, [], ◌∷◌, ◌++◌, length-append, cases_lt, get_or_append_left, get_or_push, AreChanges}
-use Rattle.connections.proofs.JoinLemmas.{list_steps}
+use Rattle.connections.proofs.{Common.{arith, ◌≡◌, ℕ, ◌≤◌, List, [], ◌∷◌, ◌++◌, length-append, cases_lt, get_or_append_left, get_or_push, AreChanges}, JoinLemmas.list_steps}
 use Rattle.connections.proofs.cuts.changes_of.Goals as goal
 
 pub changes-next : (old new : List ℕ) (x : ℕ) → AreChanges old → new ≡ old ++ x ∷ [] → 1 ≤ x → x ≤ 86400 → AreChanges new

@@ -1,8 +1,7 @@
 -- The links of a network, and its names with them.
-use Rattle.connections.proofs.Common.{◌≡◌, ◌≤◌, [], DelayLists, connections_below, most_connections, length, ap, sym, subst, ◌∙◌, arith, slice_index_or, list_below, length-list_below, AreLinksInto, place_seconds, links_of, ℕ, ◌<◌, List, get_or, get-list_below, Connection, Way, NameLists, NamesFit, connection, no_connection, NetworkModel, ChangeParts, LinksComeFrom}
-use Rattle.connections.proofs.ConnectionLemmas.{few_runs}
-use Rattle.connections.proofs.CountLemmas.{connections_counted}
-use Rattle.connections.proofs.RunLemmas.{runs_are}
+use Rattle.connections.proofs.Common.{◌≡◌, ◌≤◌, [], DelayLists, connections_below, most_connections, length, ap, sym, subst, ◌∙◌, arith, slice_index_or, list_below, length-list_below}
+use Rattle.connections.proofs.Common.{AreLinksInto, place_seconds, links_of, ℕ, ◌<◌, List, get_or, get-list_below, Connection, Way, NameLists, NamesFit, connection, no_connection, NetworkModel}
+use Rattle.connections.proofs.{Common.{ChangeParts, LinksComeFrom}, ConnectionLemmas.few_runs, CountLemmas.connections_counted, RunLemmas.runs_are}
 use Rattle.std.proofs.Math.Logic.{∥∥₁_map}
 use Rattle.connections.proofs.cuts.network_of.Goals as goal
 

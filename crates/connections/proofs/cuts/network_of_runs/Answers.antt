@@ -1,5 +1,4 @@
-use Rattle.connections.proofs.Common.{arith, length, ap, ◌∙◌, length-list_below, place_seconds}
-use Rattle.connections.proofs.ConnectionLemmas.{valid, fits}
+use Rattle.connections.proofs.{Common.{arith, length, ap, ◌∙◌, length-list_below, place_seconds}, ConnectionLemmas.{valid, fits}}
 use Rattle.connections.proofs.cuts.network_of_runs.Goals as goal
 
 pub from_parts-requires : goal.from_parts-requires

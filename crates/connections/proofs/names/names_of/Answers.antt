@@ -1,5 +1,4 @@
-use Rattle.connections.proofs.Common.{ℕ, ◌<◌, ◌+◌, arith, sym, subst, cases_lt, Run, run_at, IsSmallRepeat, IsRunName, List, common_steps}
-use Rattle.connections.proofs.NameLemmas.{run_new, run_pushes}
+use Rattle.connections.proofs.{Common.{ℕ, ◌<◌, ◌+◌, arith, sym, subst, cases_lt, Run, run_at, IsSmallRepeat, IsRunName, List, common_steps}, NameLemmas.{run_new, run_pushes}}
 use Rattle.connections.proofs.names.names_of.Goals as goal
 
 -- the runs below a number and the next one

@@ -1,6 +1,5 @@
-use Rattle.connections.proofs.Common.{[], ℤ, w32, SFits, Some, sym, ap, ◌∙◌, subst, rules, append_assoc, to_z-of_z, HasDate, get_or_from_slice_get, arith}
+use Rattle.connections.proofs.{Common.{[], ℤ, w32, SFits, Some, sym, ap, ◌∙◌, subst, rules, append_assoc, to_z-of_z, HasDate, get_or_from_slice_get, arith}, DateLemmas.{has_date, date_is_ascii}}
 use Rattle.std.proofs.lemmas.Str.{IsUtf8-from_ascii}
-use Rattle.connections.proofs.DateLemmas.{has_date, date_is_ascii}
 use Rattle.connections.proofs.names.run_name.Goals as goal
 
 pub write_date-date-requires : goal.write_date-date-requires

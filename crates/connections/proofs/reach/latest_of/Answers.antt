@@ -1,5 +1,4 @@
-use Rattle.connections.proofs.Common.{◌<◌, length, sym, subst, arith, nat_tests, nil_from_length, rows_of, DepartOnDay}
-use Rattle.connections.proofs.ReachLemmas.{departures_are, over-next}
+use Rattle.connections.proofs.{Common.{◌<◌, length, sym, subst, arith, nat_tests, nil_from_length, rows_of, DepartOnDay}, ReachLemmas.{departures_are, over-next}}
 use Rattle.connections.proofs.reach.latest_of.Goals as goal
 
 pub last_departure-requires : goal.last_departure-requires

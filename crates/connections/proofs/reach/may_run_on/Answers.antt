@@ -1,5 +1,4 @@
-use Rattle.connections.proofs.Common.{arith, common_steps}
-use Rattle.connections.proofs.ReachLemmas.{none_run_early, none_run_late}
+use Rattle.connections.proofs.{Common.{arith, common_steps}, ReachLemmas.{none_run_early, none_run_late}}
 use Rattle.connections.proofs.reach.may_run_on.Goals as goal
 
 pub returns-then-not-ends_before : goal.returns-then-not-ends_before

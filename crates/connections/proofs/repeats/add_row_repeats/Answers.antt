@@ -1,6 +1,5 @@
 use Rattle.connections.proofs.Common.{◌≡◌, ℕ, ◌+◌, ◌-◌, ◌<◌, ◌++◌, max, Bool, false, List, length, sym, ap, ◌∙◌, subst, arith, append_assoc, append-nil, list_below, Repeat, only_if, repeat_of}
-use Rattle.connections.proofs.JoinLemmas.{join-zero}
-use Rattle.connections.proofs.RepeatLemmas.{AreTaken, AreLeaving, taken_runs, more, none_taken, step_taken, step_list, all_taken}
+use Rattle.connections.proofs.{JoinLemmas.join-zero, RepeatLemmas.{AreTaken, AreLeaving, taken_runs, more, none_taken, step_taken, step_list, all_taken}}
 use Rattle.connections.proofs.repeats.add_row_repeats.Goals as goal
 
 pub loop-step-init : goal.loop-step-init

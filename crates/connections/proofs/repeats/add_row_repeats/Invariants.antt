@@ -1,5 +1,4 @@
-use Rattle.connections.proofs.Common.{◌≡◌, ℕ, Bool, ◌++◌}
-use Rattle.connections.proofs.RepeatLemmas.{AreTaken, taken_runs}
+use Rattle.connections.proofs.{Common.{◌≡◌, ℕ, Bool, ◌++◌}, RepeatLemmas.{AreTaken, taken_runs}}
 use Rattle.connections.proofs.repeats.add_row_repeats.Given as goal
 
 abbrev pub invariant-loop-step : goal.invariant-loop-step

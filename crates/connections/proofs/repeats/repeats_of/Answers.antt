@@ -1,5 +1,4 @@
-use Rattle.connections.proofs.Common.{◌≡◌, length, ap, ◌∙◌, arith, repeat_at, join_below, row_repeats, rows_repeats, in_order}
-use Rattle.connections.proofs.OrderLemmas.{in_order_is}
+use Rattle.connections.proofs.{Common.{◌≡◌, length, ap, ◌∙◌, arith, repeat_at, join_below, row_repeats, rows_repeats, in_order}, OrderLemmas.in_order_is}
 use Rattle.connections.proofs.repeats.repeats_of.Goals as goal
 
 pub returns : goal.returns

@@ -1,5 +1,4 @@
-use Rattle.connections.proofs.Common.{All-get_or, arith}
-use Rattle.connections.proofs.RepeatLemmas.{repeats_early, repeats_some}
+use Rattle.connections.proofs.{Common.{All-get_or, arith}, RepeatLemmas.{repeats_early, repeats_some}}
 use Rattle.connections.proofs.runs.add_repeats.Goals as goal
 
 pub origin_at-requires : goal.origin_at-requires

@@ -1,5 +1,4 @@
-use Rattle.connections.proofs.Common.{sym, ◌∙◌, arith}
-use Rattle.connections.proofs.ReachLemmas.{has_connection_true, has_connection_false}
+use Rattle.connections.proofs.{Common.{sym, ◌∙◌, arith}, ReachLemmas.{has_connection_true, has_connection_false}}
 use Rattle.connections.proofs.runs.has_connection.Goals as goal
 
 pub returns-then-leaves : goal.returns-then-leaves

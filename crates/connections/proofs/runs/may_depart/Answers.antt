@@ -1,7 +1,6 @@
-use Rattle.connections.proofs.Common.{◌-◌, arith}
-use Rattle.connections.proofs.ReachLemmas.{none_at_all, none_late, none_early}
+use Rattle.connections.proofs.{Common.{◌-◌, arith}, ReachLemmas.{none_at_all, none_late, none_early}, runs.may_depart.Goals.then-connections-eq0-via-then-connections-eq0}
+use Rattle.connections.proofs.runs.may_depart.Goals.{then-connections-eq0-via-else-connections-eq0+then-ends_before}
 use Rattle.connections.proofs.runs.may_depart.Goals as goal
-use Rattle.connections.proofs.runs.may_depart.Goals.{then-connections-eq0-via-then-connections-eq0, then-connections-eq0-via-else-connections-eq0+then-ends_before}
 
 pub returns-then-connections-eq0 : goal.returns-then-connections-eq0
 returns-then-connections-eq0 c =

@@ -1,8 +1,8 @@
 -- What is made of the steps of a run in a window, one more at a time.
-use Rattle.connections.proofs.Common.{Option, IfSome, sym, ap, ◌∙◌, subst, class_of_trip, connection_from, IsClassOfHour, arith, ◌≡◌, ℕ, ◌+◌, true, false, List, [], ◌∷◌, ◌++◌, map, append_assoc, append-nil, map-append, StopRow, Origin, Window, holds, steps_below, departs}
+use Rattle.connections.proofs.Common.{Option, IfSome, sym, ap, ◌∙◌, subst, class_of_trip, connection_from, IsClassOfHour, arith, ◌≡◌, ℕ, ◌+◌, true, false, List, [], ◌∷◌, ◌++◌, map, append_assoc}
+use Rattle.connections.proofs.{Common.{append-nil, map-append, StopRow, Origin, Window, holds, steps_below, departs}, window_connections.add_connections.Goals.then-leaves+in_ok-push}
+use Rattle.connections.proofs.{window_connections.add_connections.Goals.else-leaves, StepLemmas.steps-next}
 use Rattle.connections.specs.declared.window_connections.HourClass.{HourClass}
-use Rattle.connections.proofs.window_connections.add_connections.Goals.{then-leaves+in_ok-push, else-leaves}
-use Rattle.connections.proofs.StepLemmas.{steps-next}
 use Rattle.connections.proofs.window_connections.add_connections.Goals as goal
 
 module _ {A : Type 0} (f : ℕ → A) (w : Window) (rows : List StopRow) (o : Origin) (k : ℕ) (first old new : List A) (e : old ≡ first ++ map f (steps_below w rows o k)) where

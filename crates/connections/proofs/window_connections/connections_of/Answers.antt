@@ -1,6 +1,4 @@
-use Rattle.connections.proofs.Common.{slice_index_or, arith, length-list_below, get-list_below}
-use Rattle.connections.proofs.Common.{connections_below, run_connections}
-use Rattle.connections.proofs.JoinLemmas.{join-next}
+use Rattle.connections.proofs.{Common.{slice_index_or, arith, length-list_below, get-list_below, connections_below, run_connections}, JoinLemmas.join-next}
 use Rattle.connections.proofs.window_connections.connections_of.Goals as goal
 
 pub index-requires : goal.index-requires

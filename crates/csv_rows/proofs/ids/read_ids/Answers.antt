@@ -1,10 +1,7 @@
-use Rattle.csv_rows.proofs.Common.{Bor, ◌≡◌, List, ℕ, Contains, false, Some, refl, sym, ap, ◌∙◌, arith, subst, true, DuplicateKey, row_count, field, field_at}
-use Rattle.csv_rows.proofs.Common.{repeated_id}
+use Rattle.csv_rows.proofs.Common.{Bor, ◌≡◌, List, ℕ, Contains, false, Some, refl, sym, ap, ◌∙◌, arith, subst, true, DuplicateKey, row_count, field, field_at, repeated_id}
+use Rattle.csv_rows.proofs.{FirstLemmas.{first-zero, first-next, first-at}, ListLemmas.{list_below-zero, list_below-next, length-list_below}, IdLemmas.{not_repeated, repeated}, KeyTexts.has_key}
+use Rattle.csv_rows.proofs.KeyTexts.{key_there, key_absent, key_last, key_texts}
 use Rattle.std.proofs.lemmas.Bool.{not-true, not-false}
-use Rattle.csv_rows.proofs.FirstLemmas.{first-zero, first-next, first-at}
-use Rattle.csv_rows.proofs.ListLemmas.{list_below-zero, list_below-next, length-list_below}
-use Rattle.csv_rows.proofs.IdLemmas.{not_repeated, repeated}
-use Rattle.csv_rows.proofs.KeyTexts.{has_key, key_there, key_absent, key_last, key_texts}
 use Rattle.csv_rows.proofs.ids.read_ids.Goals as goal
 
 absent_in : (keys : List (Bor (List ℕ))) (ids : List (List ℕ)) (name : List ℕ) → key_texts keys ≡ ids → has_key name keys ≡ false → ¬ Contains ids name

@@ -1,5 +1,4 @@
-use Rattle.csv_rows.proofs.Common.{◌≡◌, None, first_below, field, repeated_id, list_below}
-use Rattle.csv_rows.proofs.KeyTexts.{key_texts}
+use Rattle.csv_rows.proofs.{Common.{◌≡◌, None, first_below, field, repeated_id, list_below}, KeyTexts.key_texts}
 use Rattle.csv_rows.proofs.ids.read_ids.Given as goal
 
 abbrev pub invariant-loop-i : goal.invariant-loop-i

@@ -1,6 +1,4 @@
-use Rattle.csv_rows.proofs.Common.{ℕ, true, ap, sym, ◌∙◌, arith, option_map, twin_at}
-use Rattle.csv_rows.proofs.SoonestLemmas.{soonest-next, soonest-first}
-use Rattle.csv_rows.proofs.KeyLemmas.{twin_is}
+use Rattle.csv_rows.proofs.{Common.{ℕ, true, ap, sym, ◌∙◌, arith, option_map, twin_at}, SoonestLemmas.{soonest-next, soonest-first}, KeyLemmas.twin_is}
 use Rattle.csv_rows.proofs.keys.first_repeat.Goals as goal
 
 pub loop-k-preserved : goal.loop-k-preserved

@@ -1,5 +1,4 @@
-use Rattle.csv_rows.proofs.Common.{ℕ, true, AreSorted, twin_at}
-use Rattle.csv_rows.proofs.SoonestLemmas.{IsSoonest}
+use Rattle.csv_rows.proofs.{Common.{ℕ, true, AreSorted, twin_at}, SoonestLemmas.IsSoonest}
 use Rattle.csv_rows.proofs.keys.first_repeat.Given as goal
 
 abbrev pub invariant-loop-k : goal.invariant-loop-k

@@ -1,5 +1,4 @@
-use Rattle.csv_rows.proofs.Common.{sym, ◌∙◌}
-use Rattle.csv_rows.proofs.FormLemmas.{read_as_written}
+use Rattle.csv_rows.proofs.{Common.{sym, ◌∙◌}, FormLemmas.read_as_written}
 use Rattle.csv_rows.proofs.laws.forms_are_one_table.Goals as goal
 
 pub returns : goal.returns

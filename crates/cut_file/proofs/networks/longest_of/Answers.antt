@@ -1,5 +1,4 @@
-use Rattle.cut_file.proofs.Common.{arith, length-set, get_or_default, get_or-replicate}
-use Rattle.cut_file.proofs.ChangeFacts.{longest-zero, longest_next}
+use Rattle.cut_file.proofs.{Common.{arith, length-set, get_or_default, get_or-replicate}, ChangeFacts.{longest-zero, longest_next}}
 use Rattle.cut_file.proofs.networks.longest_of.Goals as goal
 
 pub loop-i-init : goal.loop-i-init

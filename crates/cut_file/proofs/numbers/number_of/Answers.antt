@@ -1,6 +1,5 @@
-use Rattle.cut_file.proofs.Common.{bytes_eq-Decides, arith}
+use Rattle.cut_file.proofs.{Common.{bytes_eq-Decides, arith}, NumberFacts.{add_new-from_adds, add_new_there}}
 use Rattle.std.proofs.lemmas.Result.{on_ok_weaker}
-use Rattle.cut_file.proofs.NumberFacts.{add_new-from_adds, add_new_there}
 use Rattle.cut_file.proofs.numbers.number_of.Goals as goal
 
 pub returns-then-eq-clause-names : goal.returns-then-eq-clause-names

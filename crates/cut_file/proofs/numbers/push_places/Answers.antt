@@ -1,5 +1,4 @@
-use Rattle.cut_file.proofs.Common.{◌∙◌}
-use Rattle.cut_file.proofs.NumberFacts.{next_taken}
+use Rattle.cut_file.proofs.{Common.◌∙◌, NumberFacts.next_taken}
 use Rattle.cut_file.proofs.numbers.push_places.Goals as goal
 
 pub loop-number-preserved : goal.loop-number-preserved

@@ -1,5 +1,4 @@
-use Rattle.cut_file.proofs.Common.{◌+◌, option_map, ap, ◌∙◌, option_or, first_below, row_count, DuplicateStep, run_fault}
-use Rattle.cut_file.proofs.Repeats.{repeats_first}
+use Rattle.cut_file.proofs.{Common.{◌+◌, option_map, ap, ◌∙◌, option_or, first_below, row_count, DuplicateStep, run_fault}, Repeats.repeats_first}
 use Rattle.cut_file.proofs.order.run_fault.Goals as goal
 
 pub returns-in-Some : goal.returns-in-Some

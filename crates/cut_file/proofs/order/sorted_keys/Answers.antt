@@ -1,6 +1,5 @@
 use Rattle.cut_file.proofs.Common.{◌≡◌, ℕ, length, true, subst, refl, arith, AreKeys, key_of, sorted_are, keys-none, keys-taken, run_of, step_of}
-use Rattle.std.proofs.lemmas.Grind.{common_steps}
-use Rattle.std.proofs.lemmas.List.Sorted.{length_permutation}
+use Rattle.std.proofs.lemmas.{Grind.common_steps, List.Sorted.length_permutation}
 use Rattle.cut_file.proofs.order.sorted_keys.Goals as goal
 
 pub loop-i-init : goal.loop-i-init

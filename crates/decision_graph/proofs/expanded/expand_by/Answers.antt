@@ -1,6 +1,4 @@
-use Rattle.decision_graph.proofs.Common.{◌≡◌, None, MatchOption-at_some, arith}
-use Rattle.decision_graph.proofs.AtOnce.{in_time, expanded_at_once, steady_at_once}
-use Rattle.decision_graph.proofs.BestStrategies.{IsOfStart, expanded, steady_choice}
+use Rattle.decision_graph.proofs.{Common.{◌≡◌, None, MatchOption-at_some, arith}, AtOnce.{in_time, expanded_at_once, steady_at_once}, BestStrategies.{IsOfStart, expanded, steady_choice}}
 use Rattle.decision_graph.proofs.expanded.expand_by.Goals as goal
 
 pub returns-then-query-clause-plan : goal.returns-then-query-clause-plan

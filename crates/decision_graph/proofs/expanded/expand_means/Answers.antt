@@ -1,6 +1,5 @@
-use Rattle.decision_graph.proofs.Common.{ap, arith}
+use Rattle.decision_graph.proofs.{Common.{ap, arith}, AtOnce.{in_time, expanded_at_once, steady_at_once}}
 use Rattle.value_laws.specs.Means.{mean_scoring, mean_laws, from_span}
-use Rattle.decision_graph.proofs.AtOnce.{in_time, expanded_at_once, steady_at_once}
 use Rattle.decision_graph.proofs.expanded.expand_means.Goals as goal
 
 pub returns-then-query-clause-plan : goal.returns-then-query-clause-plan

@@ -1,5 +1,4 @@
-use Rattle.delay_table.proofs.Common.{arith}
-use Rattle.delay_table.proofs.LineFacts.{line_here, field_is, line_is_formed}
+use Rattle.delay_table.proofs.{Common.arith, LineFacts.{line_here, field_is, line_is_formed}}
 use Rattle.delay_table.proofs.lines.line_at.Goals as goal
 
 pub returns-clause-line : goal.returns-clause-line

@@ -1,6 +1,4 @@
-use Rattle.delay_table.proofs.Common.{sym, subst, Bor, List, ℕ, Option, Some, option_map, IsNumber, arith}
-use Rattle.delay_table.proofs.RouteFacts.{with_route-adds}
-use Rattle.delay_table.proofs.NumberedFacts.{number-is}
+use Rattle.delay_table.proofs.{Common.{sym, subst, Bor, List, ℕ, Option, Some, option_map, IsNumber, arith}, RouteFacts.with_route-adds, NumberedFacts.number-is}
 use Rattle.delay_table.proofs.other_groups.number_of.Goals as goal
 
 pub returns-clause-routes : goal.returns-clause-routes

@@ -1,7 +1,6 @@
 use Rattle.std.proofs.lemmas.Grind.{common_steps}
-use Rattle.delay_table.proofs.Common.{◌≡◌, ◌∙◌, ◌+◌, ◌++◌, ◌∷◌, [], ap, arith, sym, subst, false, List, others, Group, group_in, is_plain, IsNumbering, line_group}
-use Rattle.delay_table.proofs.NumberedFacts.{numbering-none, numbering-new, numbering-next}
-use Rattle.delay_table.proofs.Others.{others-zero, others-new, others-plain, others-other}
+use Rattle.delay_table.proofs.{Common.{◌≡◌, ◌∙◌, ◌+◌, ◌++◌, ◌∷◌, [], ap, arith, sym, subst, false, List, others, Group, group_in, is_plain, IsNumbering, line_group}, NumberedFacts.numbering-none}
+use Rattle.delay_table.proofs.{NumberedFacts.{numbering-new, numbering-next}, Others.{others-zero, others-new, others-plain, others-other}}
 use Rattle.delay_table.proofs.other_groups.numbering_of.Goals as goal
 
 pub loop-index-init : goal.loop-index-init

@@ -1,5 +1,4 @@
-use Rattle.delay_table.proofs.Common.{◌≡◌, ℕ, None, subst, arith, first_below, row_count, line_fault, IsReadTo, if_raised, first-zero, first-next, first-at}
-use Rattle.delay_table.proofs.ReadFacts.{read-nothing}
+use Rattle.delay_table.proofs.{Common.{◌≡◌, ℕ, None, subst, arith, first_below, row_count, line_fault, IsReadTo, if_raised, first-zero, first-next, first-at}, ReadFacts.read-nothing}
 use Rattle.delay_table.proofs.Sound.{is-read}
 use Rattle.delay_table.proofs.reading.read_rows.Goals as goal
 

@@ -1,5 +1,4 @@
-use Rattle.delay_table.proofs.Common.{arith, first-zero, first-next, first-at}
-use Rattle.delay_table.proofs.Common.{group_sum_at, line_at, read_outcomes}
+use Rattle.delay_table.proofs.Common.{arith, first-zero, first-next, first-at, group_sum_at, line_at, read_outcomes}
 use Rattle.delay_table.proofs.sums.group_fault.Goals as goal
 
 pub loop-index-init : goal.loop-index-init

@@ -1,5 +1,4 @@
-use Rattle.delay_table.proofs.Common.{append-nil, arith}
-use Rattle.delay_table.proofs.Others.{others-zero, other-rows-next}
+use Rattle.delay_table.proofs.{Common.{append-nil, arith}, Others.{others-zero, other-rows-next}}
 use Rattle.delay_table.proofs.table.add_others.Goals as goal
 
 pub loop-index-init : goal.loop-index-init

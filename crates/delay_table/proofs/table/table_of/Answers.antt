@@ -1,6 +1,4 @@
-use Rattle.delay_table.proofs.Common.{◌≡◌, sym, ap, subst, length, ℕ, plain_types, AreDelays, arith}
-use Rattle.delay_table.proofs.Counted.{reported-count}
-use Rattle.delay_table.proofs.Sound.{made-is, delays_valid, classes-are}
+use Rattle.delay_table.proofs.{Common.{◌≡◌, sym, ap, subst, length, ℕ, plain_types, AreDelays, arith}, Counted.reported-count, Sound.{made-is, delays_valid, classes-are}}
 use Rattle.delay_table.proofs.table.table_of.Goals as goal
 
 pub returns-in-Some-clause-count : goal.returns-in-Some-clause-count

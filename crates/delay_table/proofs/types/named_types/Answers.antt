@@ -1,5 +1,4 @@
-use Rattle.delay_table.proofs.Common.{◌∙◌, ap, length, subst, List, ℕ, IsPermutation, length_permutation}
-use Rattle.delay_table.proofs.PlainTypes.{sorted-are-route_types_below}
+use Rattle.delay_table.proofs.{Common.{◌∙◌, ap, length, subst, List, ℕ, IsPermutation, length_permutation}, PlainTypes.sorted-are-route_types_below}
 use Rattle.delay_table.proofs.types.named_types.Goals as goal
 
 pub returns-clause-named : goal.returns-clause-named

@@ -1,5 +1,4 @@
-use Rattle.delay_table.proofs.Common.{◌++◌, ◌∙◌, append-nil, Option, ℕ, List, listed, arith}
-use Rattle.delay_table.proofs.PlainTypes.{plain-none, plain-next}
+use Rattle.delay_table.proofs.{Common.{◌++◌, ◌∙◌, append-nil, Option, ℕ, List, listed, arith}, PlainTypes.{plain-none, plain-next}}
 use Rattle.delay_table.proofs.types.plain_types.Goals as goal
 
 abbrev add_listed : List ℕ → Option ℕ → List ℕ

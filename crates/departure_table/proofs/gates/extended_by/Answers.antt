@@ -1,11 +1,6 @@
-use Rattle.std.proofs.lemmas.Grind.{common_steps}
-use Rattle.departure_table.proofs.Common.{◌∙◌, arith, append-nil, slice_index_or}
-use Rattle.departure_table.proofs.Common.{extended_by}
-use Rattle.std.proofs.lemmas.List.{length-set, get_or_default}
-use Rattle.std.proofs.lemmas.List.FromFn.{length-map-range_with_len}
-use Rattle.plan_model.proofs.SameParts.{same_parts}
-use Rattle.plan_model.proofs.GateWays.{has_gates}
-use Rattle.departure_table.proofs.GateLists.{led_to_more, all_led_to, plain_valid, as_many_links, are_links}
+use Rattle.std.proofs.lemmas.{Grind.common_steps, List.{length-set, get_or_default, FromFn.length-map-range_with_len}}
+use Rattle.departure_table.proofs.{Common.{◌∙◌, arith, append-nil, slice_index_or, extended_by}, GateLists.{led_to_more, all_led_to, plain_valid, as_many_links, are_links}}
+use Rattle.plan_model.proofs.{SameParts.same_parts, GateWays.has_gates}
 use Rattle.departure_table.proofs.gates.extended_by.Goals as goal
 
 pub loop-k-init : goal.loop-k-init

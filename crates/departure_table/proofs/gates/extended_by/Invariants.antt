@@ -1,5 +1,4 @@
-use Rattle.departure_table.proofs.Common.{◌≡◌, length, take, places_with}
-use Rattle.departure_table.proofs.GateLists.{LedTo, own_links}
+use Rattle.departure_table.proofs.{Common.{◌≡◌, length, take, places_with}, GateLists.{LedTo, own_links}}
 use Rattle.departure_table.proofs.gates.extended_by.Given as goal
 
 abbrev pub invariant-loop-k : goal.invariant-loop-k

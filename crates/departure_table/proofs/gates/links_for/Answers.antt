@@ -1,5 +1,4 @@
-use Rattle.departure_table.proofs.Common.{links_into}
-use Rattle.departure_table.proofs.GateLists.{lists_more}
+use Rattle.departure_table.proofs.{Common.links_into, GateLists.lists_more}
 use Rattle.departure_table.proofs.gates.links_for.Goals as goal
 
 pub loop-place-preserved : goal.loop-place-preserved

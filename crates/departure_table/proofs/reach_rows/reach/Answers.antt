@@ -1,15 +1,12 @@
 -- What is said of each gate is said of each place.
-use Rattle.departure_table.proofs.Common.{◌∙◌, ◌+◌, ap, sym, subst, arith, ℕ, Option, refl, MeanSpan, Leg, PlaceId, DepartureRow, row_of_choice, row_found, IsGate, ◌≡◌, ◌≢◌, ◌-◌, ◌<◌, ◌≤◌, Some, None, length, MatchOption, Query, Moment, NetworkModel, IsValid, Tree, SafeAfter, SafeFrom, IsASecondAway, IsNoneSafeFrom, IsBestFrom, IsGreatestMoment, IsExtendedFor, SolvesArrivals}
+use Rattle.departure_table.proofs.Common.{◌∙◌, ◌+◌, ap, sym, subst, arith, ℕ, Option, refl, MeanSpan, Leg, PlaceId, DepartureRow, row_of_choice, row_found, IsGate, ◌≡◌, ◌≢◌, ◌-◌, ◌<◌, ◌≤◌, Some}
+use Rattle.departure_table.proofs.Common.{None, length, MatchOption, Query, Moment, NetworkModel, IsValid, Tree, SafeAfter, SafeFrom, IsASecondAway, IsNoneSafeFrom, IsBestFrom, IsGreatestMoment}
+use Rattle.departure_table.proofs.{Common.{IsExtendedFor, SolvesArrivals}, ReachGrowth.{gate_of, passed, grown}, Looks.{none_ahead, looks_ahead}, Sources.{says, to_source, from_source}}
+use Rattle.departure_table.proofs.Sources.{answer_reported}
+use Rattle.departure_table.specs.{Looked.asked_at, Reach.{IsFoundAtGate, IsReachRow}, declared.reach_rows.ReachRow.ReachRow}
 use Rattle.std.specs.Option.{option_map}
 use Rattle.std.proofs.lemmas.List.Elements.{All-push}
-use Rattle.departure_table.specs.Looked.{asked_at}
-use Rattle.departure_table.specs.Reach.{IsFoundAtGate, IsReachRow}
-use Rattle.departure_table.specs.declared.reach_rows.ReachRow.{ReachRow}
-use Rattle.departure_table.proofs.ReachGrowth.{gate_of, passed, grown}
-use Rattle.departure_table.proofs.Looks.{none_ahead, looks_ahead}
-use Rattle.departure_table.proofs.Sources.{says, to_source, from_source, answer_reported}
-use Rattle.meat_scan.specs.ScanResult.{ScanResult, choice_of}
-use Rattle.meat_scan.specs.Solves.{SolvesEach, IsSafeAt}
+use Rattle.meat_scan.specs.{ScanResult.{ScanResult, choice_of}, Solves.{SolvesEach, IsSafeAt}}
 use Rattle.value_laws.specs.Means.{mean_scoring}
 use Rattle.departure_table.proofs.reach_rows.reach.Goals as goal
 

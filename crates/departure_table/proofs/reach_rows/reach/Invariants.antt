@@ -1,6 +1,5 @@
-use Rattle.departure_table.proofs.Common.{All}
+use Rattle.departure_table.proofs.{Common.All, ReachGrowth.IsReachTo}
 use Rattle.departure_table.specs.Reach.{IsFoundAtGate}
-use Rattle.departure_table.proofs.ReachGrowth.{IsReachTo}
 use Rattle.departure_table.proofs.reach_rows.reach.Given as goal
 
 abbrev pub invariant-loop-place : goal.invariant-loop-place

@@ -1,5 +1,4 @@
-use Rattle.departure_table.proofs.Common.{arith}
-use Rattle.departure_table.proofs.ReachGrowth.{count_up_to, places_more, are_below}
+use Rattle.departure_table.proofs.{Common.arith, ReachGrowth.{count_up_to, places_more, are_below}}
 use Rattle.departure_table.proofs.reach_rows.with_every_gate.Goals as goal
 
 pub loop-place-preserved : goal.loop-place-preserved

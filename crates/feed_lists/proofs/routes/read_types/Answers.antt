@@ -1,5 +1,4 @@
-use Rattle.feed_lists.proofs.Common.{ap, arith, result_err, match_raised, fault-at}
-use Rattle.feed_lists.proofs.RouteLemmas.{route_is}
+use Rattle.feed_lists.proofs.{Common.{ap, arith, result_err, match_raised, fault-at}, RouteLemmas.route_is}
 use Rattle.feed_lists.proofs.routes.read_types.Goals as goal
 
 pub returns-in_err-route-clause-reports : goal.returns-in_err-route-clause-reports

@@ -1,5 +1,4 @@
-use Rattle.feed_lists.proofs.Common.{ap, arith, map-append, result_err, match_raised, fault-at, first-zero, first-next, list_below-zero, list_below-next}
-use Rattle.feed_lists.proofs.StopLemmas.{stop_is}
+use Rattle.feed_lists.proofs.{Common.{ap, arith, map-append, result_err, match_raised, fault-at, first-zero, first-next, list_below-zero, list_below-next}, StopLemmas.stop_is}
 use Rattle.feed_lists.proofs.stops.read_parents.Goals as goal
 
 pub loop-i-init : goal.loop-i-init

@@ -1,5 +1,4 @@
-use Rattle.feed_lists.proofs.Common.{◌∙◌, arith, match_raised, fault-at, first-zero, first-next, list_below-zero, list_below-next}
-use Rattle.feed_lists.proofs.StopLemmas.{listed, unknown_is, place_is_from}
+use Rattle.feed_lists.proofs.{Common.{◌∙◌, arith, match_raised, fault-at, first-zero, first-next, list_below-zero, list_below-next}, StopLemmas.{listed, unknown_is, place_is_from}}
 use Rattle.feed_lists.proofs.stops.read_places.Goals as goal
 
 pub loop-i-init : goal.loop-i-init

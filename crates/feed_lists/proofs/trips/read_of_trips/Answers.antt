@@ -1,7 +1,6 @@
 use Rattle.feed_lists.proofs.Common.{List, ℕ, ◌<◌, None, sym, subst, ap, ◌∙◌, arith, length, slice_index_or, All, result_err, match_raised, fault-at, first-zero, first-next, texts, bad_trip}
-use Rattle.feed_lists.proofs.Common.{trip_at, trip_in, trip_or_none, list_below-zero, list_below-next}
+use Rattle.feed_lists.proofs.{Common.{trip_at, trip_in, trip_or_none, list_below-zero, list_below-next}, TripLemmas.trip_is}
 use Rattle.std.proofs.lemmas.List.Elements.{All-push, All-nil}
-use Rattle.feed_lists.proofs.TripLemmas.{trip_is}
 use Rattle.feed_lists.proofs.trips.read_of_trips.Goals as goal
 
 pub loop-i-init : goal.loop-i-init

@@ -1,6 +1,5 @@
-use Rattle.feed_lists.proofs.Common.{arith, rules, length-map, trips_fault}
+use Rattle.feed_lists.proofs.{Common.{arith, rules, length-map, trips_fault}, TripLemmas.trips_named}
 use Rattle.table_files.proofs.ReadSteps.{read_steps}
-use Rattle.feed_lists.proofs.TripLemmas.{trips_named}
 use Rattle.feed_lists.proofs.trips.read_trips.Goals as goal
 
 pub read_ids-requires-clause-named : goal.read_ids-requires-clause-named

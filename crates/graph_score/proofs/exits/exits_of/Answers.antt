@@ -1,5 +1,4 @@
-use Rattle.graph_score.proofs.Common.{List, map, take_all, ◌∙◌, ap, GraphLeg, departure_of, exit_of}
-use Rattle.graph_score.proofs.ExitLemmas.{exits_in_order}
+use Rattle.graph_score.proofs.{Common.{List, map, take_all, ◌∙◌, ap, GraphLeg, departure_of, exit_of}, ExitLemmas.exits_in_order}
 use Rattle.graph_score.proofs.exits.exits_of.Goals as goal
 
 pub returns : goal.returns

@@ -1,5 +1,4 @@
-use Rattle.graph_score.proofs.Common.{sym, ◌∙◌}
-use Rattle.graph_score.proofs.Failures.{length_spans}
+use Rattle.graph_score.proofs.{Common.{sym, ◌∙◌}, Failures.length_spans}
 use Rattle.graph_score.proofs.outlooks.blend.Goals as goal
 
 pub mean-requires-clause-as_many : goal.mean-requires-clause-as_many

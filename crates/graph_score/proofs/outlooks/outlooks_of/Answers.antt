@@ -1,7 +1,5 @@
 use Rattle.std.proofs.lemmas.Grind.{common_steps}
-use Rattle.graph_score.proofs.Common.{arith}
-use Rattle.graph_score.proofs.GraphLegs.{exits_there}
-use Rattle.graph_score.proofs.Looks.{are_ready, reported_first, reported_there, reported_next, reported_last}
+use Rattle.graph_score.proofs.{Common.arith, GraphLegs.exits_there, Looks.{are_ready, reported_first, reported_there, reported_next, reported_last}}
 use Rattle.graph_score.proofs.outlooks.outlooks_of.Goals as goal
 
 pub exits_of-requires : goal.exits_of-requires

@@ -1,5 +1,4 @@
-use Rattle.gtfs_tables.proofs.Common.{own-of, reads-raised, reads-value, reads-fault, reads-both, reads-after, arith}
-use Rattle.gtfs_tables.proofs.FeedLemmas.{fault_at_stops, fault_at_routes, fault_at_trips}
+use Rattle.gtfs_tables.proofs.{Common.{own-of, reads-raised, reads-value, reads-fault, reads-both, reads-after, arith}, FeedLemmas.{fault_at_stops, fault_at_routes, fault_at_trips}}
 use Rattle.gtfs_tables.proofs.lists.load_lists.Goals as goal
 
 pub returns-in_err-stops-clause-reads : goal.returns-in_err-stops-clause-reads

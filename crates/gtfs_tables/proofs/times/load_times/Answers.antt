@@ -1,5 +1,4 @@
-use Rattle.gtfs_tables.proofs.Common.{IsFeedTable, own-of, Frequencies, reads-raised, reads-value, reads-fault, reads-both, reads-after, arith}
-use Rattle.gtfs_tables.proofs.FeedLemmas.{fault_at_times, fault_at_repeats}
+use Rattle.gtfs_tables.proofs.{Common.{IsFeedTable, own-of, Frequencies, reads-raised, reads-value, reads-fault, reads-both, reads-after, arith}, FeedLemmas.{fault_at_times, fault_at_repeats}}
 use Rattle.gtfs_tables.proofs.times.load_times.Goals as goal
 
 pub returns-in_err-visits-clause-reads : goal.returns-in_err-visits-clause-reads

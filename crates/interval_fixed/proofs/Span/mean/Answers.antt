@@ -1,5 +1,4 @@
-use Rattle.std.proofs.Common.{arith}
-use Rattle.std.proofs.lemmas.List.{drop_all}
+use Rattle.std.proofs.{Common.arith, lemmas.List.drop_all}
 use Rattle.interval_fixed.proofs.Enclosed.{mean_encloses, mean_gap_within}
 use Rattle.interval_fixed.proofs.Span.mean.Goals as goal
 

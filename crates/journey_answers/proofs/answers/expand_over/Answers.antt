@@ -1,5 +1,4 @@
-use Rattle.journey_answers.proofs.Common.{AnswersExpand, findings_of}
-use Rattle.journey_answers.proofs.Sought.{in_query}
+use Rattle.journey_answers.proofs.{Common.{AnswersExpand, findings_of}, Sought.in_query}
 use Rattle.journey_answers.proofs.answers.expand_over.Goals as goal
 
 pub returns-clause-answer : goal.returns-clause-answer

@@ -1,5 +1,4 @@
-use Rattle.journey_answers.proofs.Common.{arith}
-use Rattle.journey_answers.proofs.Sought.{none_is_safe, match_none}
+use Rattle.journey_answers.proofs.{Common.arith, Sought.{none_is_safe, match_none}}
 use Rattle.journey_answers.proofs.answers.expanded_of.Goals as goal
 
 pub unreachable-requires : goal.unreachable-requires

@@ -1,6 +1,5 @@
-use Rattle.journey_answers.proofs.Common.{Some, ap, arith, ◌≤◌}
+use Rattle.journey_answers.proofs.{Common.{Some, ap, arith, ◌≤◌}, GraphFiles.has_rows}
 use Rattle.journey_report.specs.Findings.{Findings}
-use Rattle.journey_answers.proofs.GraphFiles.{has_rows}
 use Rattle.journey_answers.proofs.answers.planned_answer.Goals as goal
 
 pub returns : goal.returns

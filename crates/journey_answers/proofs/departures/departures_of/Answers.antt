@@ -1,5 +1,4 @@
-use Rattle.journey_answers.proofs.Common.{sym, ◌∙◌, arith}
-use Rattle.journey_answers.proofs.Departing.{safe_at_once, departures_at_once, departures_away, none_leaves, some_leaves}
+use Rattle.journey_answers.proofs.{Common.{sym, ◌∙◌, arith}, Departing.{safe_at_once, departures_at_once, departures_away, none_leaves, some_leaves}}
 use Rattle.journey_answers.proofs.departures.departures_of.Goals as goal
 
 pub returns-then-asked : goal.returns-then-asked

@@ -1,5 +1,4 @@
-use Rattle.journey_answers.proofs.Common.{arith}
-use Rattle.journey_answers.proofs.Departing.{latest_at_once, same_greatest}
+use Rattle.journey_answers.proofs.{Common.arith, Departing.{latest_at_once, same_greatest}}
 use Rattle.journey_answers.proofs.departures.latest_of.Goals as goal
 
 pub returns-then-query : goal.returns-then-query

@@ -1,6 +1,5 @@
 use Rattle.std.proofs.lemmas.Result.{IfOk-weaker}
-use Rattle.journey_answers.proofs.Departing.{same_table}
-use Rattle.journey_answers.proofs.Ruled.{by_rules}
+use Rattle.journey_answers.proofs.{Departing.same_table, Ruled.by_rules}
 use Rattle.journey_answers.proofs.departures.rows_of.Goals as goal
 
 pub returns-clause-table : goal.returns-clause-table

@@ -1,6 +1,5 @@
-use Rattle.journey_answers.proofs.Common.{MatchOption-at_some, findings_of, arith}
+use Rattle.journey_answers.proofs.{Common.{MatchOption-at_some, findings_of, arith}, Sought.{in_query, none_is_safe, match_none}}
 use Rattle.journey_answers.specs.Punctual.{AnswersPunctual}
-use Rattle.journey_answers.proofs.Sought.{in_query, none_is_safe, match_none}
 use Rattle.journey_answers.proofs.punctual.punctual_over.Goals as goal
 
 pub unreachable-requires : goal.unreachable-requires

@@ -1,6 +1,5 @@
-use Rattle.journey_answers.proofs.Common.{sym, subst, All}
+use Rattle.journey_answers.proofs.{Common.{sym, subst, All}, SameReach.printable}
 use Rattle.journey_report.specs.DepartureTexts.{IsPrintable}
-use Rattle.journey_answers.proofs.SameReach.{printable}
 use Rattle.journey_answers.proofs.reaching.reach_answer.Goals as goal
 
 pub reach_text-requires : goal.reach_text-requires

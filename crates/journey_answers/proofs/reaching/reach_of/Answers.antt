@@ -1,5 +1,4 @@
-use Rattle.journey_answers.proofs.SameReach.{same_reach}
-use Rattle.journey_answers.proofs.Ruled.{by_gates}
+use Rattle.journey_answers.proofs.{SameReach.same_reach, Ruled.by_gates}
 use Rattle.journey_answers.proofs.reaching.reach_of.Goals as goal
 
 pub returns : goal.returns

@@ -1,5 +1,4 @@
-use Rattle.journey_answers.proofs.Common.{arith, subst, unfold_plan, IsScoreOf}
-use Rattle.journey_answers.proofs.Unsafe.{unsafe_has_site}
+use Rattle.journey_answers.proofs.{Common.{arith, subst, unfold_plan, IsScoreOf}, Unsafe.unsafe_has_site}
 use Rattle.journey_answers.proofs.scores.score_over.Goals as goal
 
 pub returns-in-Failing-clause-has_site : goal.returns-in-Failing-clause-has_site

@@ -1,9 +1,8 @@
 -- The fault of a trip, and where it is.
-use Rattle.journey_answers.proofs.Common.{arith, arrivals, ◌≡◌, ℕ, List, None, Some, Result, Err, sym, subst, ◌≢◌, ◌<◌, ◌≤◌, length, Query, PlanGraph, IsAnswer, Replay, NoMemory, unread_input, last_printable, HasSite, Problem, parts_of, last_start, places, replay_as, IsSafeTrip, trip_by, IsTripFault}
+use Rattle.journey_answers.proofs.Common.{arith, arrivals, ◌≡◌, ℕ, List, None, Some, Result, Err, sym, subst, ◌≢◌, ◌<◌, ◌≤◌, length, Query, PlanGraph, IsAnswer, Replay, NoMemory, unread_input}
+use Rattle.journey_answers.proofs.Common.{last_printable, HasSite, Problem, parts_of, last_start, places, replay_as, IsSafeTrip, trip_by, IsTripFault}
 use Rattle.graph_text.specs.declared.Head.{Head}
-use Rattle.trip_replay.specs.declared.ReplayFault.{ReplayFault}
-use Rattle.trip_replay.specs.declared.Trace.{Trace}
-use Rattle.trip_replay.specs.Rides.{IsStuckAfter}
+use Rattle.trip_replay.specs.{declared.{ReplayFault.ReplayFault, Trace.Trace}, Rides.IsStuckAfter}
 use Rattle.journey_answers.proofs.trips.trip_over.Goals as goal
 use Rattle.trip_replay.specs.declared.ReplayFault.TheVariants as replay
 

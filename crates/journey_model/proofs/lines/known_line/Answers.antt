@@ -1,6 +1,5 @@
 use Rattle.std.proofs.Common.{◌∙◌, ap, sym}
-use Rattle.journey_model.specs.declared.faults.Fault.{Fault}
-use Rattle.journey_model.specs.FaultLines.{line_of}
+use Rattle.journey_model.specs.{declared.faults.Fault.Fault, FaultLines.line_of}
 use Rattle.journey_model.proofs.lines.known_line.Goals as goal
 
 pub returns-in-Read-clause-line : goal.returns-in-Read-clause-line

@@ -1,5 +1,4 @@
-use Rattle.std.proofs.Common.{arith}
-use Rattle.std.proofs.lemmas.Grind.{common_steps}
+use Rattle.std.proofs.{Common.arith, lemmas.Grind.common_steps}
 use Rattle.printed_rows.proofs.Lines.{name_is}
 use Rattle.journey_model.proofs.lines.with_step.Goals as goal
 

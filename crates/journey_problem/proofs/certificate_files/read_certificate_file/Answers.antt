@@ -1,10 +1,9 @@
 -- The steps of a check, put together.
-use Rattle.journey_problem.proofs.Common.{arith, if_raised, ◌≡◌, ℕ, List, Option, None, Result, Ok, Err, refl, sym, subst, ◌≢◌, IfErr, IfOk, IfSome, FileMap, file_at, Limits, Fault, NoMemory, unread_input, IsOfInput, Problem, bytes_of}
-use Rattle.journey_problem.proofs.Causes.{causes-quiet}
-use Rattle.journey_problem.proofs.FeedSteps.{none_unread_of}
+use Rattle.journey_problem.proofs.Common.{arith, if_raised, ◌≡◌, ℕ, List, Option, None, Result, Ok, Err, refl, sym, subst, ◌≢◌, IfErr, IfOk, IfSome, FileMap, file_at, Limits, Fault, NoMemory}
+use Rattle.journey_problem.proofs.{Common.{unread_input, IsOfInput, Problem, bytes_of}, Causes.causes-quiet, FeedSteps.none_unread_of}
+use Rattle.journey_problem.specs.CertificateFiles.{IsCertificateText, FailsText, FailsFile, IsCertificateFile, FailsCertificate}
 use Rattle.plan_model.specs.declared.model.Query.{Query}
 use Rattle.lower_proof.specs.declared.LowerBounds.{LowerBounds}
-use Rattle.journey_problem.specs.CertificateFiles.{IsCertificateText, FailsText, FailsFile, IsCertificateFile, FailsCertificate}
 use Rattle.journey_model.specs.declared.faults.Input.TheVariants as input
 use Rattle.journey_problem.proofs.certificate_files.read_certificate_file.Goals as goal
 

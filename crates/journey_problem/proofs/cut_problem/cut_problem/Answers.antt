@@ -1,6 +1,4 @@
-use Rattle.journey_problem.proofs.Common.{arith, IfOk-weaker, IfErr-weaker, CutFile}
-use Rattle.journey_problem.proofs.Causes.{causes-then}
-use Rattle.journey_problem.proofs.FeedSteps.{if_some_both}
+use Rattle.journey_problem.proofs.{Common.{arith, IfOk-weaker, IfErr-weaker, CutFile}, Causes.causes-then, FeedSteps.if_some_both}
 use Rattle.journey_problem.proofs.cut_problem.cut_problem.Goals as goal
 
 pub returns-in-Ok-clause-problem : goal.returns-in-Ok-clause-problem

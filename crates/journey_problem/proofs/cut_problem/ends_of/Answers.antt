@@ -1,8 +1,7 @@
 -- Whether the stops of a journey are among the names.
-use Rattle.journey_problem.proofs.Common.{arith, ◌≡◌, ℕ, zero, suc, List, [], ◌∷◌, Option, Some, None, unwrap_or, Bool, true, false, Contains, refl, slice_get, bytes_eq, UnknownStop, is_among, stop_fault, first_which}
-use Rattle.std.proofs.Math.Bool.{or-true}
-use Rattle.std.proofs.lemmas.Slice.Eq.{bytes_eq-Decides}
-use Rattle.std.proofs.lemmas.Map.Views.{Contains-from_any}
+use Rattle.journey_problem.proofs.Common.{arith, ◌≡◌, ℕ, zero, suc, List, [], ◌∷◌, Option, Some, None, unwrap_or, Bool, true, false, Contains, refl, slice_get, bytes_eq, UnknownStop, is_among}
+use Rattle.journey_problem.proofs.Common.{stop_fault, first_which}
+use Rattle.std.proofs.{Math.Bool.or-true, lemmas.{Slice.Eq.bytes_eq-Decides, Map.Views.Contains-from_any}}
 use Rattle.journey_problem.proofs.cut_problem.ends_of.Goals as goal
 use Rattle.journey_model.specs.declared.faults.Which.TheVariants as which
 

@@ -1,8 +1,5 @@
-use Rattle.journey_problem.proofs.Common.{arith, IfSome_then}
+use Rattle.journey_problem.proofs.{Common.{arith, IfSome_then}, Causes.causes-quiet, CutSteps.{cut_timetable, cut_file_problem, stop_first, delay_first}, FeedSteps.none_unread_of}
 use Rattle.journey_model.specs.declared.faults.Input.TheVariants as input
-use Rattle.journey_problem.proofs.Causes.{causes-quiet}
-use Rattle.journey_problem.proofs.CutSteps.{cut_timetable, cut_file_problem, stop_first, delay_first}
-use Rattle.journey_problem.proofs.FeedSteps.{none_unread_of}
 use Rattle.journey_problem.proofs.cut_problem.problem_after.Goals as goal
 
 pub returns-in-Err-clause-fault : goal.returns-in-Err-clause-fault

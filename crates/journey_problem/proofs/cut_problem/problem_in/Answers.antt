@@ -1,5 +1,4 @@
-use Rattle.journey_problem.proofs.Common.{arith, slice_get_within, if_raised}
-use Rattle.journey_problem.proofs.CutSteps.{of_parts}
+use Rattle.journey_problem.proofs.{Common.{arith, slice_get_within, if_raised}, CutSteps.of_parts}
 use Rattle.journey_problem.proofs.cut_problem.problem_in.Goals as goal
 
 pub between-requires-clause-source : goal.between-requires-clause-source

@@ -1,8 +1,6 @@
-use Rattle.journey_problem.proofs.Common.{inr, IfOk-weaker, IfErr-weaker, FeedFolder, journey_shown, path_by, gtfs_folder_of, arith}
-use Rattle.journey_model.specs.declared.faults.Input.TheVariants as input
-use Rattle.journey_problem.proofs.Loads.{if_some_any}
-use Rattle.journey_problem.proofs.Causes.{causes-then}
+use Rattle.journey_problem.proofs.{Common.{inr, IfOk-weaker, IfErr-weaker, FeedFolder, journey_shown, path_by, gtfs_folder_of, arith}, Loads.if_some_any, Causes.causes-then}
 use Rattle.journey_problem.proofs.FeedSteps.{if_some_both}
+use Rattle.journey_model.specs.declared.faults.Input.TheVariants as input
 use Rattle.journey_problem.proofs.feed_problem.feed_problem.Goals as goal
 
 pub returns-in-Ok-clause-problem : goal.returns-in-Ok-clause-problem

@@ -1,7 +1,5 @@
-use Rattle.journey_problem.proofs.Common.{arith, inl, FeedFolder, IfSome_then}
+use Rattle.journey_problem.proofs.{Common.{arith, inl, FeedFolder, IfSome_then}, Causes.causes-quiet, FeedSteps.{feed_timetable, window_problem, none_unread_of}}
 use Rattle.journey_model.specs.declared.faults.Input.TheVariants as input
-use Rattle.journey_problem.proofs.Causes.{causes-quiet}
-use Rattle.journey_problem.proofs.FeedSteps.{feed_timetable, window_problem, none_unread_of}
 use Rattle.journey_problem.proofs.feed_problem.problem_in.Goals as goal
 
 pub returns-in-Err-clause-fault : goal.returns-in-Err-clause-fault

@@ -1,12 +1,10 @@
 -- The head and the graph of a graph file, from its bytes.
-use Rattle.journey_problem.proofs.Common.{arith, IfSome_then, IfOk-weaker, ◌≡◌, ℕ, List, Option, None, Result, Ok, Err, ◌≢◌, IfErr, IfOk, Limits, Input, Fault, NoMemory, unread_input, Problem, bytes_of, Finds}
-use Rattle.journey_problem.proofs.Causes.{causes-quiet}
-use Rattle.journey_problem.proofs.FeedSteps.{none_unread_of}
-use Rattle.graph_text.proofs.Accepted.{graph_deadline}
-use Rattle.plan_graph.specs.declared.PlanGraph.{PlanGraph}
-use Rattle.graph_text.specs.declared.Head.{Head}
-use Rattle.graph_text.specs.Reading.{graph_of}
+use Rattle.journey_problem.proofs.Common.{arith, IfSome_then, IfOk-weaker, ◌≡◌, ℕ, List, Option, None, Result, Ok, Err, ◌≢◌, IfErr, IfOk, Limits, Input, Fault, NoMemory, unread_input, Problem}
+use Rattle.journey_problem.proofs.{Common.{bytes_of, Finds}, Causes.causes-quiet, FeedSteps.none_unread_of}
 use Rattle.journey_problem.specs.GraphFiles.{graph_as, graph_in}
+use Rattle.graph_text.proofs.Accepted.{graph_deadline}
+use Rattle.graph_text.specs.{declared.Head.Head, Reading.graph_of}
+use Rattle.plan_graph.specs.declared.PlanGraph.{PlanGraph}
 use Rattle.journey_model.specs.declared.faults.Input.TheVariants as input
 use Rattle.journey_problem.proofs.graph_files.read_graph_file.Goals as goal
 

@@ -1,5 +1,4 @@
-use Rattle.journey_problem.proofs.Common.{arith, refl, causes-of}
-use Rattle.journey_problem.proofs.Loads.{if_some_any, bytes_of-unread}
+use Rattle.journey_problem.proofs.{Common.{arith, refl, causes-of}, Loads.{if_some_any, bytes_of-unread}}
 use Rattle.journey_problem.proofs.inputs.load_bytes.Goals as goal
 
 pub returns-in-Err-Read-clause-bytes : goal.returns-in-Err-Read-clause-bytes

@@ -1,5 +1,4 @@
-use Rattle.journey_problem.proofs.Common.{arith, CutFile, IfSome_then, if_raised}
-use Rattle.journey_problem.proofs.TableSteps.{cut_of_some, cut_none, cut_first}
+use Rattle.journey_problem.proofs.{Common.{arith, CutFile, IfSome_then, if_raised}, TableSteps.{cut_of_some, cut_none, cut_first}}
 use Rattle.journey_problem.proofs.inputs.read_cut_file.Goals as goal
 
 pub returns-in_err-rows-clause-early : goal.returns-in_err-rows-clause-early

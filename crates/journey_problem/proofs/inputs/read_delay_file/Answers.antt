@@ -1,5 +1,4 @@
-use Rattle.journey_problem.proofs.Common.{arith, IfSome_then, if_raised}
-use Rattle.journey_problem.proofs.TableSteps.{delays_none, delays_first}
+use Rattle.journey_problem.proofs.{Common.{arith, IfSome_then, if_raised}, TableSteps.{delays_none, delays_first}}
 use Rattle.journey_problem.proofs.inputs.read_delay_file.Goals as goal
 
 pub returns-in_err-rows-clause-early : goal.returns-in_err-rows-clause-early

@@ -1,5 +1,4 @@
-use Rattle.journey_problem.proofs.Common.{ap, Some}
-use Rattle.journey_problem.proofs.NoFaults.{no_fault}
+use Rattle.journey_problem.proofs.{Common.{ap, Some}, NoFaults.no_fault}
 use Rattle.journey_problem.proofs.laws.files_of_a_problem_have_no_fault.Goals as goal
 
 pub returns : goal.returns

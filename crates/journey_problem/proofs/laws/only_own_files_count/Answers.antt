@@ -1,5 +1,4 @@
-use Rattle.journey_problem.proofs.Common.{arith}
-use Rattle.journey_problem.proofs.SameFiles.{agree_sym, own_problem, own_fault}
+use Rattle.journey_problem.proofs.{Common.arith, SameFiles.{agree_sym, own_problem, own_fault}}
 use Rattle.journey_problem.proofs.laws.only_own_files_count.Goals as goal
 
 pub returns : goal.returns

@@ -1,7 +1,5 @@
-use Rattle.journey_problem.proofs.Common.{arith}
-use Rattle.journey_problem.proofs.SameFiles.{alike_sym, problem_of_records, fault_of_records}
-use Rattle.journey_problem.specs.Files.{path_of}
-use Rattle.journey_problem.specs.Paths.{no_path}
+use Rattle.journey_problem.proofs.{Common.arith, SameFiles.{alike_sym, problem_of_records, fault_of_records}}
+use Rattle.journey_problem.specs.{Files.path_of, Paths.no_path}
 use Rattle.journey_problem.proofs.laws.only_records_count.Goals as goal
 
 pub returns : goal.returns

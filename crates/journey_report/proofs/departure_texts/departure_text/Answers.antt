@@ -1,5 +1,4 @@
-use Rattle.journey_report.proofs.Common.{[], ◌∷◌, ap, ◌∙◌, arith, decimal, nanos_text, Connection, run_named, name_is, run_name, departure_text}
-use Rattle.journey_report.proofs.RowLemmas.{row-of}
+use Rattle.journey_report.proofs.{Common.{[], ◌∷◌, ap, ◌∙◌, arith, decimal, nanos_text, Connection, run_named, name_is, run_name, departure_text}, RowLemmas.row-of}
 use Rattle.journey_report.proofs.departure_texts.departure_text.Goals as goal
 
 pub returns : goal.returns

@@ -1,5 +1,4 @@
-use Rattle.journey_report.proofs.Common.{[], ◌∷◌, ◌∙◌, departures_head}
-use Rattle.journey_report.proofs.RowLemmas.{row-of}
+use Rattle.journey_report.proofs.{Common.{[], ◌∷◌, ◌∙◌, departures_head}, RowLemmas.row-of}
 use Rattle.journey_report.proofs.departure_texts.departures_head.Goals as goal
 
 pub returns : goal.returns

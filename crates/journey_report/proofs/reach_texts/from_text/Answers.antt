@@ -1,5 +1,4 @@
-use Rattle.journey_report.proofs.Common.{[], ◌∷◌, ap, ◌∙◌, nanos_text, name_is, from_text}
-use Rattle.journey_report.proofs.RowLemmas.{row-of}
+use Rattle.journey_report.proofs.{Common.{[], ◌∷◌, ap, ◌∙◌, nanos_text, name_is, from_text}, RowLemmas.row-of}
 use Rattle.journey_report.proofs.reach_texts.from_text.Goals as goal
 
 pub returns : goal.returns

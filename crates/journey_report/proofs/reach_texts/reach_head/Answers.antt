@@ -1,5 +1,4 @@
-use Rattle.journey_report.proofs.Common.{[], ◌∷◌, ◌∙◌, reach_head}
-use Rattle.journey_report.proofs.RowLemmas.{row-of}
+use Rattle.journey_report.proofs.{Common.{[], ◌∷◌, ◌∙◌, reach_head}, RowLemmas.row-of}
 use Rattle.journey_report.proofs.reach_texts.reach_head.Goals as goal
 
 pub returns : goal.returns

@@ -1,5 +1,4 @@
-use Rattle.journey_report.proofs.Common.{[], ◌∷◌, ◌∙◌, arrived_text}
-use Rattle.journey_report.proofs.RowLemmas.{row-of}
+use Rattle.journey_report.proofs.{Common.{[], ◌∷◌, ◌∙◌, arrived_text}, RowLemmas.row-of}
 use Rattle.journey_report.proofs.texts.arrived_text.Goals as goal
 
 pub returns : goal.returns

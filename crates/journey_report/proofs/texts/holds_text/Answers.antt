@@ -1,5 +1,4 @@
-use Rattle.journey_report.proofs.Common.{[], ◌∷◌, ◌∙◌, holds_text}
-use Rattle.journey_report.proofs.RowLemmas.{row-of}
+use Rattle.journey_report.proofs.{Common.{[], ◌∷◌, ◌∙◌, holds_text}, RowLemmas.row-of}
 use Rattle.journey_report.proofs.texts.holds_text.Goals as goal
 
 pub returns : goal.returns

@@ -1,5 +1,4 @@
-use Rattle.journey_report.proofs.Common.{[], ◌∷◌, ◌∙◌}
-use Rattle.journey_report.proofs.RowLemmas.{row-of}
+use Rattle.journey_report.proofs.{Common.{[], ◌∷◌, ◌∙◌}, RowLemmas.row-of}
 use Rattle.journey_report.proofs.texts.moments_row.Goals as goal
 
 pub returns : goal.returns

@@ -1,5 +1,4 @@
-use Rattle.journey_report.proofs.Common.{[], ◌∷◌, ap, ◌∙◌, punctual_row}
-use Rattle.journey_report.proofs.RowLemmas.{row-of}
+use Rattle.journey_report.proofs.{Common.{[], ◌∷◌, ap, ◌∙◌, punctual_row}, RowLemmas.row-of}
 use Rattle.late_chance.specs.Chances.{chance_text}
 use Rattle.journey_report.proofs.texts.punctual_row.Goals as goal
 

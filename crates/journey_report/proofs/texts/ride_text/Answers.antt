@@ -1,5 +1,4 @@
-use Rattle.journey_report.proofs.Common.{[], ◌∷◌, ap, ◌∙◌, moment_text, place_name, run_name, Connection, dep_printable, arr_printable, name_is, ride_text, arith}
-use Rattle.journey_report.proofs.RowLemmas.{row-of}
+use Rattle.journey_report.proofs.{Common.{[], ◌∷◌, ap, ◌∙◌, moment_text, place_name, run_name, Connection, dep_printable, arr_printable, name_is, ride_text, arith}, RowLemmas.row-of}
 use Rattle.journey_report.proofs.TextLemmas.{ride_arrival}
 use Rattle.journey_report.proofs.texts.ride_text.Goals as goal
 

@@ -1,5 +1,4 @@
-use Rattle.journey_report.proofs.Common.{[], ◌∷◌, ap, ◌∙◌, decimal, sample_text, nanos_text}
-use Rattle.journey_report.proofs.RowLemmas.{row-of}
+use Rattle.journey_report.proofs.{Common.{[], ◌∷◌, ap, ◌∙◌, decimal, sample_text, nanos_text}, RowLemmas.row-of}
 use Rattle.journey_report.proofs.texts.sample_text.Goals as goal
 
 pub returns : goal.returns

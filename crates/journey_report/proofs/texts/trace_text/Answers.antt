@@ -1,5 +1,4 @@
-use Rattle.journey_report.proofs.Common.{◌∙◌, ◌≤◌, List, length, subst, Ridden, name_is}
-use Rattle.journey_report.proofs.TextLemmas.{trace_end}
+use Rattle.journey_report.proofs.{Common.{◌∙◌, ◌≤◌, List, length, subst, Ridden, name_is}, TextLemmas.trace_end}
 use Rattle.journey_report.proofs.texts.trace_text.Goals as goal
 
 pub returns : goal.returns

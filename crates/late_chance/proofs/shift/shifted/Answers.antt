@@ -1,6 +1,5 @@
-use Rattle.late_chance.proofs.Common.{◌≡◌, ◌-◌, arith, IsView, SECONDS_PER_WEEK}
+use Rattle.late_chance.proofs.{Common.{◌≡◌, ◌-◌, arith, IsView, SECONDS_PER_WEEK}, SeenFrom.{valid, view}}
 use Rattle.std.proofs.lemmas.Result.{IfOk-weaker}
-use Rattle.late_chance.proofs.SeenFrom.{valid, view}
 use Rattle.late_chance.proofs.shift.shifted.Goals as goal
 
 pub try_clone_with-requires : goal.try_clone_with-requires

@@ -1,8 +1,7 @@
-use Rattle.lower_proof.proofs.Common.{◌≡◌, ◌+◌, ◌-◌, ◌<◌, ◌∙◌, length, slice_get, Some, arith, rules, both_ways, subst, ap, length-set, get_or_default}
-use Rattle.lower_proof.proofs.Common.{Connection, from_of, dep_of, ways_into, way_takes, way_of-listed}
-use Rattle.lower_proof.proofs.Entries.{no_board, no_ways, all_ways, entries_skipped, way_passed, way_added}
-use Rattle.lower_proof.proofs.board.add_entries.Goals as goal
+use Rattle.lower_proof.proofs.Common.{◌≡◌, ◌+◌, ◌-◌, ◌<◌, ◌∙◌, length, slice_get, Some, arith, rules, both_ways, subst, ap, length-set, get_or_default, Connection, from_of, dep_of, ways_into}
+use Rattle.lower_proof.proofs.{Common.{way_takes, way_of-listed}, Entries.{no_board, no_ways, all_ways, entries_skipped, way_passed, way_added}}
 use Rattle.lower_proof.proofs.board.add_entries.Goals.{then-seconds-connection+in_ok-add, else-seconds-connection}
+use Rattle.lower_proof.proofs.board.add_entries.Goals as goal
 
 pub loop-k-init : goal.loop-k-init
 loop-k-init c = record { len = c.requires.len; ways = λ have. no_ways c.args.network.now c.args.last.0 c.args.id.0 c.args.boards.now have }

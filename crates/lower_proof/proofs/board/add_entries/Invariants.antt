@@ -1,5 +1,4 @@
-use Rattle.lower_proof.proofs.Common.{◌≡◌, length, HaveEntries}
-use Rattle.lower_proof.proofs.Entries.{HaveWays}
+use Rattle.lower_proof.proofs.{Common.{◌≡◌, length, HaveEntries}, Entries.HaveWays}
 use Rattle.lower_proof.proofs.board.add_entries.Given as goal
 
 abbrev pub invariant-loop-k : goal.invariant-loop-k

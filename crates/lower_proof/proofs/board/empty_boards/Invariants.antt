@@ -1,5 +1,4 @@
-use Rattle.lower_proof.proofs.Common.{◌≡◌, ℕ, length, board_at}
-use Rattle.lower_proof.proofs.Entries.{no_board}
+use Rattle.lower_proof.proofs.{Common.{◌≡◌, ℕ, length, board_at}, Entries.no_board}
 use Rattle.lower_proof.proofs.board.empty_boards.Given as goal
 
 abbrev pub invariant-loop : goal.invariant-loop

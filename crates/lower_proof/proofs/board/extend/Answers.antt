@@ -1,8 +1,5 @@
-use Rattle.lower_proof.proofs.Common.{◌<◌, length, arith, length-set, IsLeastOf, FrontValue}
-use Rattle.lower_proof.proofs.Leasts.{none_below}
-use Rattle.lower_proof.proofs.Minima.{before_is, minima_more}
+use Rattle.lower_proof.proofs.{Common.{◌<◌, length, arith, length-set, IsLeastOf, FrontValue}, Leasts.none_below, Minima.{before_is, minima_more}, board.extend.Goals.{then-k-eq0, else-k-eq0}}
 use Rattle.lower_proof.proofs.board.extend.Goals as goal
-use Rattle.lower_proof.proofs.board.extend.Goals.{then-k-eq0, else-k-eq0}
 
 pub loop-k-preserved : goal.loop-k-preserved
 loop-k-preserved c =

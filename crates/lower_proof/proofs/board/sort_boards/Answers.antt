@@ -1,5 +1,4 @@
-use Rattle.lower_proof.proofs.Common.{◌≡◌, ◌<◌, ◌∙◌, length, arith, subst, IsPermutation, length-set, get_or_default, ShownBoard}
-use Rattle.lower_proof.proofs.Entries.{no_board, AreSorted, sorted_more, sorted_fresh}
+use Rattle.lower_proof.proofs.{Common.{◌≡◌, ◌<◌, ◌∙◌, length, arith, subst, IsPermutation, length-set, get_or_default, ShownBoard}, Entries.{no_board, AreSorted, sorted_more, sorted_fresh}}
 use Rattle.lower_proof.proofs.board.sort_boards.Goals as goal
 
 pub loop-p-preserved : goal.loop-p-preserved

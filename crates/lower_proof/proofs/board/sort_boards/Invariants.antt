@@ -1,5 +1,4 @@
-use Rattle.lower_proof.proofs.Common.{◌≡◌, ℕ, length, count, HaveEntries, NetworkModel}
-use Rattle.lower_proof.proofs.Entries.{AreSorted}
+use Rattle.lower_proof.proofs.{Common.{◌≡◌, ℕ, length, count, HaveEntries, NetworkModel}, Entries.AreSorted}
 use Rattle.lower_proof.proofs.board.sort_boards.Given as goal
 
 abbrev pub invariant-loop-p : goal.invariant-loop-p

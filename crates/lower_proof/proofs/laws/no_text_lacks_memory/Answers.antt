@@ -1,5 +1,4 @@
-use Rattle.lower_proof.proofs.Common.{table_of}
-use Rattle.lower_proof.proofs.ReadOnce.{never_memory}
+use Rattle.lower_proof.proofs.{Common.table_of, ReadOnce.never_memory}
 use Rattle.lower_proof.proofs.laws.no_text_lacks_memory.Goals as goal
 
 pub returns : goal.returns

@@ -1,8 +1,7 @@
-use Rattle.lower_proof.proofs.Common.{◌≡◌, ◌∙◌, ◌<◌, ◌≤◌, ◌⊎◌, ap, inl, inr, arith, max, row_count}
-use Rattle.csv_rows.proofs.FaultLemmas.{if_raised}
-use Rattle.lower_proof.proofs.ReadRows.{read_first, read_on, fault_here, ends_here, read_all}
-use Rattle.lower_proof.proofs.reader.read_values.Goals as goal
+use Rattle.lower_proof.proofs.{Common.{◌≡◌, ◌∙◌, ◌<◌, ◌≤◌, ◌⊎◌, ap, inl, inr, arith, max, row_count}, ReadRows.{read_first, read_on, fault_here, ends_here, read_all}}
 use Rattle.lower_proof.proofs.reader.read_values.Goals.{then-row-count-via-then-row-count, then-row-count-via-else-row-count+then-row-most}
+use Rattle.csv_rows.proofs.FaultLemmas.{if_raised}
+use Rattle.lower_proof.proofs.reader.read_values.Goals as goal
 
 pub loop-row-init : goal.loop-row-init
 loop-row-init c = read_first _ _ _ _ _ c.in_ok-values.ensures.as_many c.in_ok-values.ensures.none

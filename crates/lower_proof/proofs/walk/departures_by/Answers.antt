@@ -1,7 +1,6 @@
-use Rattle.lower_proof.proofs.Common.{◌≡◌, arith, ap, subst, Departure, count, dep_of}
-use Rattle.lower_proof.proofs.Departing.{AreFound, found_later, found_more, departures_sorted}
-use Rattle.lower_proof.proofs.walk.departures_by.Goals as goal
+use Rattle.lower_proof.proofs.{Common.{◌≡◌, arith, ap, subst, Departure, count, dep_of}, Departing.{AreFound, found_later, found_more, departures_sorted}}
 use Rattle.lower_proof.proofs.walk.departures_by.Goals.{then-departure-last+in_ok-push, else-departure-last}
+use Rattle.lower_proof.proofs.walk.departures_by.Goals as goal
 
 pub loop-i-preserved : goal.loop-i-preserved
 loop-i-preserved c =

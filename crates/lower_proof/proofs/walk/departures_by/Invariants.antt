@@ -1,5 +1,4 @@
-use Rattle.lower_proof.proofs.Common.{IsValid}
-use Rattle.lower_proof.proofs.Departing.{AreFound}
+use Rattle.lower_proof.proofs.{Common.IsValid, Departing.AreFound}
 use Rattle.lower_proof.proofs.walk.departures_by.Given as goal
 
 abbrev pub invariant-loop-i : goal.invariant-loop-i

@@ -1,8 +1,8 @@
 -- What a line of `ask_over` promises, said of what is asked.
-use Rattle.meat_engine.proofs.Common.{arith, ◌≡◌, ℕ, Option, None, Some, Result, sym, subst, ◌≢◌, IfOk, IfErr, FileMap, FilesState, Limits, AskModel, ask_shown, Fault, NoSafe, NoMemory, Problem, unread_input, parts_of, HasSite, OrNoMemory, Answer, findings_of, HasCauses, own_paths, AnswersAsk, FailsAsk}
+use Rattle.meat_engine.proofs.Common.{arith, ◌≡◌, ℕ, Option, None, Some, Result, sym, subst, ◌≢◌, IfOk, IfErr, FileMap, FilesState, Limits, AskModel, ask_shown, Fault, NoSafe, NoMemory, Problem}
+use Rattle.meat_engine.proofs.{Common.{unread_input, parts_of, HasSite, OrNoMemory, Answer, findings_of, HasCauses, own_paths, AnswersAsk, FailsAsk}, Asking.unsafe_reported}
 use Rattle.journey_problem.proofs.Causes.{causes-none}
 use Rattle.command_line.specs.declared.job.Ask.{Ask}
-use Rattle.meat_engine.proofs.Asking.{unsafe_reported}
 use Rattle.meat_engine.proofs.asks.ask_over.Goals as goal
 
 module _ (contents : Option FileMap) (limits : Limits) (start : ℕ) (p : Problem) where

@@ -1,6 +1,6 @@
 use Rattle.meat_engine.proofs.Common.{Option, Ok, Err, inl, refl, sym, subst, FileMap, journey_shown, ask_shown, Fault, Answer, path_of, HasCauses, findings_of, own_paths, AnswersAsk, FailsAsk}
-use Rattle.file_ports.proofs.CauseLemmas.{causes-next}
 use Rattle.meat_engine.proofs.Asking.{causes-paths, beside}
+use Rattle.file_ports.proofs.CauseLemmas.{causes-next}
 use Rattle.meat_engine.proofs.asks.journey_over.Goals as goal
 
 pub returns-in-Err-clause-causes : goal.returns-in-Err-clause-causes

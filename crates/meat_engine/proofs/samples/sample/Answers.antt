@@ -1,5 +1,5 @@
-use Rattle.meat_engine.proofs.Common.{◌≡◌, None, Some, inl, inr, refl, sym, subst, Fault, unread_input, parts_of, IsNoSafe, sample_journey, FailsSample}
-use Rattle.meat_engine.proofs.Asking.{early_has_site, unsafe_reported, plain_refusal}
+use Rattle.meat_engine.proofs.{Common.{◌≡◌, None, Some, inl, inr, refl, sym, subst, Fault, unread_input, parts_of, IsNoSafe, sample_journey, FailsSample}, Asking.early_has_site}
+use Rattle.meat_engine.proofs.Asking.{unsafe_reported, plain_refusal}
 use Rattle.meat_engine.proofs.samples.sample.Goals as goal
 
 pub returns-in-Err-clause-fault : goal.returns-in-Err-clause-fault

@@ -1,8 +1,7 @@
 use Rattle.meat_engine.proofs.Common.{◌≡◌, ℕ, List, Option, Result, Ok, Err, None, refl, subst, arith, IfOk, IfErr, FilesState, JourneyModel, Fault, Input, unread_input, HasCauses, HasTimetable}
-use Rattle.meat_engine.proofs.Common.{IsProblem, IsProblemFault, no_path}
+use Rattle.meat_engine.proofs.{Common.{IsProblem, IsProblemFault, no_path}, Asking.never_unread}
 use Rattle.feed_maker.specs.Files.{folder_of}
 use Rattle.std.proofs.lemmas.Result.{IfOk-weaker, IfErr-weaker}
-use Rattle.meat_engine.proofs.Asking.{never_unread}
 use Rattle.meat_engine.proofs.samples.sample_problem.Goals as goal
 
 -- files that never fail

@@ -1,7 +1,5 @@
-use Rattle.meat_engine.proofs.Common.{◌≡◌, ◌∙◌, map, string_bytes, sym, subst, arith, wanted_job, Fault, Write, NoMemory, HasSite, findings_of, FailsJob}
-use Rattle.meat_engine.proofs.Common.{known_of}
-use Rattle.meat_engine.proofs.Outcomes.{job_cause, write_fails}
-use Rattle.meat_engine.proofs.Runs.{refused_run, answered_run, path_of_job}
+use Rattle.meat_engine.proofs.{Common.{◌≡◌, ◌∙◌, map, string_bytes, sym, subst, arith, wanted_job, Fault, Write, NoMemory, HasSite, findings_of, FailsJob, known_of}, Outcomes.job_cause}
+use Rattle.meat_engine.proofs.{Outcomes.write_fails, Runs.{refused_run, answered_run, path_of_job}}
 use Rattle.meat_engine.proofs.top.run_limited.Goals as goal
 
 pub refuse-requires : goal.refuse-requires

@@ -1,6 +1,5 @@
-use Rattle.meat_scan.proofs.Common.{arith}
+use Rattle.meat_scan.proofs.{Common.arith, Reserves.{fits_all, fits_any}}
 use Rattle.std.proofs.lemmas.Result.{IfOk-weaker}
-use Rattle.meat_scan.proofs.Reserves.{fits_all, fits_any}
 use Rattle.meat_scan.proofs.ScanTables.reserve.Goals as goal
 
 pub returns-clause-whole : goal.returns-clause-whole

@@ -1,5 +1,4 @@
-use Rattle.memory_ports.proofs.Common.{arith, nat_eq, entry_at}
-use Rattle.memory_ports.proofs.FailingLemmas.{fails_none, fails_found, count_here, count_elsewhere, names_stay, count_later}
+use Rattle.memory_ports.proofs.{Common.{arith, nat_eq, entry_at}, FailingLemmas.{fails_none, fails_found, count_here, count_elsewhere, names_stay, count_later}}
 use Rattle.memory_ports.proofs.memory.count_fault.Goals as goal
 
 pub returns-in_default-clause-reported : goal.returns-in_default-clause-reported

@@ -1,5 +1,4 @@
-use Rattle.memory_ports.proofs.Common.{◌∙◌, ap, refl, sym, Some, position, at_path, searched}
-use Rattle.memory_ports.proofs.FailingLemmas.{push_stands, fresh_counter}
+use Rattle.memory_ports.proofs.{Common.{◌∙◌, ap, refl, sym, Some, position, at_path, searched}, FailingLemmas.{push_stands, fresh_counter}}
 use Rattle.memory_ports.proofs.memory.counter.Goals as goal
 
 pub returns-clause-index : goal.returns-clause-index

@@ -1,6 +1,5 @@
-use Rattle.memory_ports.proofs.Common.{arith}
+use Rattle.memory_ports.proofs.{Common.arith, Silent.{silenced, silent, same_counts}}
 use Rattle.std.proofs.Math.Seq.{map-set_same}
-use Rattle.memory_ports.proofs.Silent.{silenced, silent, same_counts}
 use Rattle.memory_ports.proofs.memory.forget_calls.Goals as goal
 
 pub loop-index-preserved : goal.loop-index-preserved

@@ -1,5 +1,4 @@
-use Rattle.memory_ports.proofs.Common.{◌≡◌, map}
-use Rattle.memory_ports.proofs.Silent.{shape, AreSilent}
+use Rattle.memory_ports.proofs.{Common.{◌≡◌, map}, Silent.{shape, AreSilent}}
 use Rattle.memory_ports.proofs.memory.forget_calls.Given as goal
 
 abbrev pub invariant-loop-index : goal.invariant-loop-index

@@ -1,7 +1,5 @@
-use Rattle.merged_runs.proofs.Common.{arith}
-use Rattle.merged_runs.proofs.StartLemmas.{AreStartsBelow-start, AreStartsBelow-within, AreStarts-from_below}
+use Rattle.merged_runs.proofs.{Common.arith, StartLemmas.{AreStartsBelow-start, AreStartsBelow-within, AreStarts-from_below}, merged.starts_of.Goals.{then-get-len+in_ok-push, else-get-len}}
 use Rattle.merged_runs.proofs.merged.starts_of.Goals as goal
-use Rattle.merged_runs.proofs.merged.starts_of.Goals.{then-get-len+in_ok-push, else-get-len}
 
 pub loop-i-preserved : goal.loop-i-preserved
 loop-i-preserved c = grind (arith, then-get-len+in_ok-push, AreStartsBelow-start, else-get-len, AreStartsBelow-within)

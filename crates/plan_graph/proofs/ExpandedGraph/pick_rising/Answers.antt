@@ -1,5 +1,5 @@
-use Rattle.plan_graph.proofs.Common.{rules, arith, sym, ap, ◌∙◌, IsPartitionPoint-from_clause, Ride, leg_lt, get_or_default}
-use Rattle.plan_graph.proofs.Searches.{rides_parted, pick_after-at, pick_after-none, leg_same, leg_other}
+use Rattle.plan_graph.proofs.{Common.{rules, arith, sym, ap, ◌∙◌, IsPartitionPoint-from_clause, Ride, leg_lt, get_or_default}, Searches.{rides_parted, pick_after-at, pick_after-none, leg_same}}
+use Rattle.plan_graph.proofs.Searches.{leg_other}
 use Rattle.plan_graph.proofs.ExpandedGraph.pick_rising.Goals as goal
 
 pub returns-then-at-rides : goal.returns-then-at-rides

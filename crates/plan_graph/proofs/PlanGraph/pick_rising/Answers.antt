@@ -1,5 +1,4 @@
-use Rattle.plan_graph.proofs.Common.{◌<◌, List, AllPairs, arith, GraphRow}
-use Rattle.plan_graph.proofs.Picked.{rows_of_place-by}
+use Rattle.plan_graph.proofs.{Common.{◌<◌, List, AllPairs, arith, GraphRow}, Picked.rows_of_place-by}
 use Rattle.plan_graph.proofs.PlanGraph.pick_rising.Goals as goal
 
 pub leg_by-requires : goal.leg_by-requires

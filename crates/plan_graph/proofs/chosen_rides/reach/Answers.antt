@@ -1,5 +1,4 @@
-use Rattle.plan_graph.proofs.Common.{◌≡◌, sym, subst, List, arith, inr, [], ◌∷◌, Some, unfolding_of, Leg}
-use Rattle.plan_graph.proofs.Reaching.{IsReaching, begin, start_placed, all_seen, popped, popped_there, visited}
+use Rattle.plan_graph.proofs.{Common.{◌≡◌, sym, subst, List, arith, inr, [], ◌∷◌, Some, unfolding_of, Leg}, Reaching.{IsReaching, begin, start_placed, all_seen, popped, popped_there, visited}}
 use Rattle.plan_graph.proofs.chosen_rides.reach.Goals as goal
 
 pub loop-init : goal.loop-init

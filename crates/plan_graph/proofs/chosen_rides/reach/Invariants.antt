@@ -1,5 +1,4 @@
-use Rattle.plan_graph.proofs.Common.{ℕ, Option, Some, IsStrictlySortedBy, unfolding_of, leg_cmp}
-use Rattle.plan_graph.proofs.Reaching.{IsReaching}
+use Rattle.plan_graph.proofs.{Common.{ℕ, Option, Some, IsStrictlySortedBy, unfolding_of, leg_cmp}, Reaching.IsReaching}
 use Rattle.plan_graph.proofs.chosen_rides.reach.Given as goal
 
 abbrev pub invariant-loop : goal.invariant-loop

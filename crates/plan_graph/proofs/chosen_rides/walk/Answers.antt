@@ -1,6 +1,5 @@
-use Rattle.plan_graph.proofs.Common.{◌<◌, recursion_from_All, count, Leg, All-from_contains}
+use Rattle.plan_graph.proofs.{Common.{◌<◌, recursion_from_All, count, Leg, All-from_contains}, Walks.walked}
 use Rattle.std.proofs.lemmas.Result.{IfOk-weaker}
-use Rattle.plan_graph.proofs.Walks.{walked}
 use Rattle.plan_graph.proofs.chosen_rides.walk.Goals as goal
 
 pub rides_of-requires : goal.rides_of-requires

@@ -1,6 +1,5 @@
-use Rattle.plan_model.proofs.Common.{arith, cases_lt, length-map}
+use Rattle.plan_model.proofs.{Common.{arith, cases_lt, length-map}, Texts.texts-at}
 use Rattle.std.proofs.lemmas.Slice.Eq.{bytes_eq-Decides}
-use Rattle.plan_model.proofs.Texts.{texts-at}
 use Rattle.plan_model.proofs.text_list.place_among.Goals as goal
 
 pub returns-then-eq-clause-found : goal.returns-then-eq-clause-found

@@ -1,5 +1,4 @@
-use Rattle.plan_model.proofs.Common.{rules}
-use Rattle.plan_model.proofs.Later.{below-later, below-sooner, covers-later, covers-sooner, late-later}
+use Rattle.plan_model.proofs.{Common.rules, Later.{below-later, below-sooner, covers-later, covers-sooner, late-later}}
 use Rattle.plan_model.proofs.view.late_by_view.Goals as goal
 
 pub returns-clause-below : goal.returns-clause-below

@@ -1,5 +1,4 @@
-use Rattle.plan_model.proofs.Common.{arith}
-use Rattle.plan_model.proofs.GateTrees.{gate_there, gate_back}
+use Rattle.plan_model.proofs.{Common.arith, GateTrees.{gate_there, gate_back}}
 use Rattle.plan_model.proofs.view.safe_from_gate.Goals as goal
 
 pub returns : goal.returns

@@ -1,5 +1,5 @@
-use Rattle.service_days.proofs.Common.{None, sym, ap, ◌∙◌, arith, result_err, match_raised, fault-at, first-zero, first-next, list_below-zero, list_below-next, bad_period, period_of, period_or_none}
-use Rattle.service_days.proofs.PeriodLemmas.{period_is}
+use Rattle.service_days.proofs.Common.{None, sym, ap, ◌∙◌, arith, result_err, match_raised, fault-at, first-zero, first-next, list_below-zero, list_below-next, bad_period, period_of}
+use Rattle.service_days.proofs.{Common.period_or_none, PeriodLemmas.period_is}
 use Rattle.service_days.proofs.periods.read_periods.Goals as goal
 
 pub loop-i-init : goal.loop-i-init

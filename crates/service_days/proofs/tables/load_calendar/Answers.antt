@@ -1,5 +1,4 @@
-use Rattle.service_days.proofs.Common.{arith}
-use Rattle.service_days.proofs.ReadLemmas.{of_calendar}
+use Rattle.service_days.proofs.{Common.arith, ReadLemmas.of_calendar}
 use Rattle.service_days.proofs.tables.load_calendar.Goals as goal
 
 pub returns-clause-sound : goal.returns-clause-sound

@@ -1,5 +1,4 @@
-use Rattle.service_days.proofs.Common.{[]}
-use Rattle.service_days.proofs.NumberLemmas.{numbered_none}
+use Rattle.service_days.proofs.{Common.[], NumberLemmas.numbered_none}
 use Rattle.service_days.proofs.tables.no_exceptions.Goals as goal
 
 pub returns : goal.returns

@@ -1,5 +1,4 @@
-use Rattle.stop_times.proofs.Common.{◌≡◌, ◌-◌, ◌∙◌, arith, refl, subst, get_or_default, TimedRow, no_row, row_at, IsRowBefore}
-use Rattle.stop_times.proofs.RisingRows.{rising-next}
+use Rattle.stop_times.proofs.{Common.{◌≡◌, ◌-◌, ◌∙◌, arith, refl, subst, get_or_default, TimedRow, no_row, row_at, IsRowBefore}, RisingRows.rising-next}
 use Rattle.stop_times.proofs.keys.are_rising.Goals as goal
 
 pub loop-i-preserved : goal.loop-i-preserved

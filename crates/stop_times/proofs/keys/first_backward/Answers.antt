@@ -1,5 +1,4 @@
-use Rattle.stop_times.proofs.Common.{ℕ, true, sym, ap, ◌∙◌, length, arith, option_map, Some, FeedFault, before_inside, soonest-next, soonest-first, trip_of, sequence_of, backward_time}
-use Rattle.stop_times.proofs.Common.{is_taken}
+use Rattle.stop_times.proofs.Common.{ℕ, true, sym, ap, ◌∙◌, length, arith, option_map, Some, FeedFault, before_inside, soonest-next, soonest-first, trip_of, sequence_of, backward_time, is_taken}
 use Rattle.stop_times.proofs.BackLemmas.{back_is, quiet}
 use Rattle.stop_times.proofs.keys.first_backward.Goals as goal
 

@@ -1,7 +1,7 @@
 -- The keys of the kept rows, by those of all rows.
-use Rattle.stop_times.proofs.Common.{true, List, sym, subst, Key, AreKeysOf, ◌≡◌, ℕ, ◌<◌, zero, suc, Bool, false, cond, [], ◌∷◌, length, get_or, Contains, refl, ap, ◌∙◌, arith, All, AllPairs, filter, cases_Bool, get_or_default, no_key, key_at, IsAtMost, TimedRow, trip_of, sequence_of, is_kept}
-use Rattle.std.proofs.lemmas.List.Elements.{All-filter, filter_passes}
-use Rattle.std.proofs.lemmas.List.Kept.{AllPairs-filter}
+use Rattle.stop_times.proofs.Common.{true, List, sym, subst, Key, AreKeysOf, ◌≡◌, ℕ, ◌<◌, zero, suc, Bool, false, cond, [], ◌∷◌, length, get_or, Contains, refl, ap, ◌∙◌, arith, All, AllPairs}
+use Rattle.stop_times.proofs.Common.{filter, cases_Bool, get_or_default, no_key, key_at, IsAtMost, TimedRow, trip_of, sequence_of, is_kept}
+use Rattle.std.proofs.lemmas.List.{Elements.{All-filter, filter_passes}, Kept.AllPairs-filter}
 use Rattle.stop_times.proofs.keys.kept_keys.Goals as goal
 
 all_of : (P : Key → Type 0) (keys : List Key) → ((k : ℕ) → k < length keys → P (key_at keys k)) → All P keys

@@ -1,7 +1,6 @@
-use Rattle.stop_times.proofs.Common.{◌≡◌, false, ap, ap₂, refl, arith, subst, ℕ, List, [], ◌∷◌, ◌++◌, length, ◌+◌, ◌<◌, ◌∙◌, length_push, get_or_default, Key, AreKeys, key_of, sorted_are, keys-none}
-use Rattle.stop_times.proofs.Common.{keys-taken, TimedRow, trip_of, sequence_of, no_row, is_taken}
+use Rattle.stop_times.proofs.Common.{◌≡◌, false, ap, ap₂, refl, arith, subst, ℕ, List, [], ◌∷◌, ◌++◌, length, ◌+◌, ◌<◌, ◌∙◌, length_push, get_or_default, Key, AreKeys, key_of, sorted_are}
+use Rattle.stop_times.proofs.{Common.{keys-none, keys-taken, TimedRow, trip_of, sequence_of, no_row, is_taken}, RisingRows.keys_rise}
 use Rattle.std.proofs.lemmas.List.Sorted.{length_permutation, IsPermutation-refl}
-use Rattle.stop_times.proofs.RisingRows.{keys_rise}
 use Rattle.stop_times.proofs.keys.sorted_keys.Goals as goal
 
 pushed : (xs ys : List Key) (x : Key) → ys ≡ xs ++ x ∷ [] → length ys ≡ length xs + 1

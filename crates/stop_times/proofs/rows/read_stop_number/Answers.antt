@@ -2,8 +2,7 @@
 use Rattle.stop_times.proofs.Common.{◌≡◌, ◌∙◌, sym, ap, subst, Some, IsUtf8, arith, ℕ, ◌==◌, false, List, length, slice_get, common_steps, IsStopOf}
 use Rattle.std.proofs.lemmas.Slice.Eq.{bytes_eq-Decides}
 use Rattle.plan_model.specs.NameLists.{IsNameList}
-use Rattle.csv_rows.proofs.IdLemmas.{found}
-use Rattle.csv_rows.proofs.NameLemmas.{text_some}
+use Rattle.csv_rows.proofs.{IdLemmas.found, NameLemmas.text_some}
 use Rattle.stop_times.proofs.rows.read_stop_number.Goals as goal
 
 -- the stop that a field names, where it is the id with this number

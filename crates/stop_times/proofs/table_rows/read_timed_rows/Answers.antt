@@ -1,7 +1,7 @@
-use Rattle.stop_times.proofs.Common.{rules, ◌≡◌, ◌<◌, ◌∷◌, ◌∙◌, List, ℕ, None, Some, sym, ap, subst, arith, length, Err, StopTimes, first_below, loaded_from, row_count, table_of}
-use Rattle.stop_times.proofs.Common.{stop_times_from, bad_time, counted_fault, missing_time_column, named_of, order_fault, stop_times_fault, time_columns, timed_rows}
+use Rattle.stop_times.proofs.Common.{rules, ◌≡◌, ◌<◌, ◌∷◌, ◌∙◌, List, ℕ, None, Some, sym, ap, subst, arith, length, Err, StopTimes, first_below, loaded_from, row_count, table_of, stop_times_from}
+use Rattle.stop_times.proofs.{Common.{bad_time, counted_fault, missing_time_column, named_of, order_fault, stop_times_fault, time_columns, timed_rows}, TimeLemmas.{counted_same, times_fault}}
+use Rattle.stop_times.proofs.TimeLemmas.{fault_of_header, fault_of_row, fault_of_order}
 use Rattle.std.proofs.lemmas.Result.{IfErr-weaker, on_ok_weaker}
-use Rattle.stop_times.proofs.TimeLemmas.{counted_same, times_fault, fault_of_header, fault_of_row, fault_of_order}
 use Rattle.stop_times.proofs.table_rows.read_timed_rows.Goals as goal
 
 pub returns-in-Some-clause-fault : goal.returns-in-Some-clause-fault

@@ -1,7 +1,5 @@
-use Rattle.stop_times.proofs.Common.{◌≡◌, ◌<◌, ◌+◌, ◌-◌, ◌∷◌, ◌∙◌, ℕ, [], Some, ap, arith, length, Ok, Err, length_push, result_err}
-use Rattle.stop_times.proofs.Common.{first_below, first-zero, first-next, first-at, drop-next, drop-none, list_below-zero, list_below-next, bad_time, counted_fault, timed_at}
-use Rattle.stop_times.proofs.Common.{named_of}
-use Rattle.stop_times.proofs.TimeLemmas.{row_is, counted_row, counted_many}
+use Rattle.stop_times.proofs.Common.{◌≡◌, ◌<◌, ◌+◌, ◌-◌, ◌∷◌, ◌∙◌, ℕ, [], Some, ap, arith, length, Ok, Err, length_push, result_err, first_below, first-zero, first-next, first-at, drop-next}
+use Rattle.stop_times.proofs.{Common.{drop-none, list_below-zero, list_below-next, bad_time, counted_fault, timed_at, named_of}, TimeLemmas.{row_is, counted_row, counted_many}}
 use Rattle.stop_times.proofs.table_rows.rows_after.Goals as goal
 
 pub loop-order-init : goal.loop-order-init

@@ -1,6 +1,4 @@
-use Rattle.stop_times.proofs.Common.{refl, option_map, sym, ap, ◌∙◌, ◌+◌, Some, StopTimes, DuplicateKey}
-use Rattle.stop_times.proofs.BackLemmas.{repeats_first}
-use Rattle.stop_times.proofs.RisingRows.{rising_once}
+use Rattle.stop_times.proofs.{Common.{refl, option_map, sym, ap, ◌∙◌, ◌+◌, Some, StopTimes, DuplicateKey}, BackLemmas.repeats_first, RisingRows.rising_once}
 use Rattle.stop_times.proofs.timetable.check_once.Goals as goal
 
 pub returns-then-rise : goal.returns-then-rise

@@ -1,6 +1,5 @@
-use Rattle.stop_times.proofs.Common.{◌∙◌, arith, or_then}
+use Rattle.stop_times.proofs.{Common.{◌∙◌, arith, or_then}, BackLemmas.backward_is}
 use Rattle.csv_rows.proofs.FaultLemmas.{match_raised, fault-first}
-use Rattle.stop_times.proofs.BackLemmas.{backward_is}
 use Rattle.stop_times.proofs.timetable.in_order.Goals as goal
 
 pub returns-in_err-check_once-clause-reports : goal.returns-in_err-check_once-clause-reports

@@ -1,5 +1,5 @@
-use Rattle.stop_times.proofs.Common.{◌≡◌, List, ℕ, length, ap, subst, arith, Err, common_steps, StopTimes, loaded_from, table_of, stop_times_from, named_by}
-use Rattle.stop_times.proofs.TimeLemmas.{timed_rows_are, order_faulty, order_sound, visits_of_rows, visits_of_text}
+use Rattle.stop_times.proofs.{Common.{◌≡◌, List, ℕ, length, ap, subst, arith, Err, common_steps, StopTimes, loaded_from, table_of, stop_times_from, named_by}, TimeLemmas.timed_rows_are}
+use Rattle.stop_times.proofs.TimeLemmas.{order_faulty, order_sound, visits_of_rows, visits_of_text}
 use Rattle.stop_times.proofs.timetable.read_stop_times.Goals as goal
 
 pub in_order-requires : goal.in_order-requires

@@ -1,5 +1,4 @@
-use Rattle.stop_times.proofs.Common.{arith, cases_lt, length_push, get_or_push}
-use Rattle.stop_times.proofs.VisitLemmas.{span_is, spans_next}
+use Rattle.stop_times.proofs.{Common.{arith, cases_lt, length_push, get_or_push}, VisitLemmas.{span_is, spans_next}}
 use Rattle.stop_times.proofs.visits.bounds_of.Goals as goal
 
 pub loop-trip-init : goal.loop-trip-init

@@ -1,5 +1,5 @@
-use Rattle.stop_times.proofs.Common.{◌≤◌, List, [], length, slice_index_or, ap, sym, subst, ◌∙◌, StopRow, most_stop_times, AreStopTimes}
-use Rattle.stop_times.proofs.VisitLemmas.{bounded, parted_count, parted_are, parted_few}
+use Rattle.stop_times.proofs.{Common.{◌≤◌, List, [], length, slice_index_or, ap, sym, subst, ◌∙◌, StopRow, most_stop_times, AreStopTimes}, VisitLemmas.{bounded, parted_count, parted_are}}
+use Rattle.stop_times.proofs.VisitLemmas.{parted_few}
 use Rattle.stop_times.proofs.visits.visits_of.Goals as goal
 
 pub new-requires : goal.new-requires

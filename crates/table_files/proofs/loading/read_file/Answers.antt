@@ -1,7 +1,5 @@
 use Rattle.std.proofs.Common.{◌≡◌, Some, refl, ap, ◌∙◌, arith}
-use Rattle.csv_rows.specs.declared.feed_tables.Table.{Table}
-use Rattle.csv_rows.specs.declared.feed_tables.FeedFault.TheVariants.{Read}
-use Rattle.csv_rows.specs.FeedTables.{path_of}
+use Rattle.csv_rows.specs.{declared.feed_tables.{Table.Table, FeedFault.TheVariants.Read}, FeedTables.path_of}
 use Rattle.file_ports.proofs.CauseLemmas.{causes-of}
 use Rattle.table_files.proofs.loading.read_file.Goals as goal
 

@@ -1,5 +1,4 @@
-use Rattle.std.proofs.Common.{◌≡◌, None}
-use Rattle.std.proofs.lemmas.Option.{MatchOption-at_some}
+use Rattle.std.proofs.{Common.{◌≡◌, None}, lemmas.Option.MatchOption-at_some}
 use Rattle.decision_graph.proofs.BestStrategies.{IsOfStart, steady_choice}
 use Rattle.tests_graphs.proofs.graphs.extracted.Goals as goal
 

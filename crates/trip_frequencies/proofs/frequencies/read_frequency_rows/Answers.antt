@@ -1,8 +1,7 @@
 use Rattle.trip_frequencies.proofs.Common.{List, ℕ, None, sym, ap, ◌∙◌, arith, value_or, first-zero, first-next, bad_frequency, frequency_at, frequency_in, no_frequency, list_below-zero}
-use Rattle.trip_frequencies.proofs.Common.{list_below-next}
+use Rattle.trip_frequencies.proofs.{Common.list_below-next, FrequencyLemmas.frequency_is}
 use Rattle.std.specs.Result.{result_err}
 use Rattle.csv_rows.proofs.FaultLemmas.{match_raised, fault-at}
-use Rattle.trip_frequencies.proofs.FrequencyLemmas.{frequency_is}
 use Rattle.trip_frequencies.proofs.frequencies.read_frequency_rows.Goals as goal
 
 pub loop-i-init : goal.loop-i-init

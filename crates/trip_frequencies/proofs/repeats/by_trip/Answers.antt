@@ -1,5 +1,4 @@
-use Rattle.trip_frequencies.proofs.Common.{rules, answers_always, IsNonDecreasingBy-from_sort_by_key, TripFrequency, arith}
-use Rattle.trip_frequencies.proofs.RepeatLemmas.{repeats_of-stable}
+use Rattle.trip_frequencies.proofs.{Common.{rules, answers_always, IsNonDecreasingBy-from_sort_by_key, TripFrequency, arith}, RepeatLemmas.repeats_of-stable}
 use Rattle.trip_frequencies.proofs.repeats.by_trip.Goals as goal
 
 pub returns-clause-ordered : goal.returns-clause-ordered

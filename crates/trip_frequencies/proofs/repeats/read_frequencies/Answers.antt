@@ -1,5 +1,4 @@
-use Rattle.trip_frequencies.proofs.Common.{arith}
-use Rattle.trip_frequencies.proofs.FrequencyLemmas.{frequency_count}
+use Rattle.trip_frequencies.proofs.{Common.arith, FrequencyLemmas.frequency_count}
 use Rattle.trip_frequencies.proofs.repeats.read_frequencies.Goals as goal
 
 pub check_once-requires : goal.check_once-requires

@@ -1,6 +1,5 @@
-use Rattle.trip_frequencies.proofs.Common.{arith, List, sym, subst, IsNonDecreasing, IsNonDecreasingBy, TripFrequency}
+use Rattle.trip_frequencies.proofs.{Common.{arith, List, sym, subst, IsNonDecreasing, IsNonDecreasingBy, TripFrequency}, RepeatLemmas.{ordered-parted, all_repeats-parted}}
 use Rattle.std.proofs.lemmas.Result.{IfOk-weaker}
-use Rattle.trip_frequencies.proofs.RepeatLemmas.{ordered-parted, all_repeats-parted}
 use Rattle.trip_frequencies.proofs.repeats.repeats_by.Goals as goal
 
 pub returns-clause-ordered : goal.returns-clause-ordered

@@ -1,5 +1,4 @@
-use Rattle.trip_frequencies.proofs.Common.{ℕ, leb, ltb, rules, IsPartitionPoint-from_clause, IsPartitionedBy-leb, IsPartitionedBy-ltb}
-use Rattle.trip_frequencies.proofs.RepeatLemmas.{span_is}
+use Rattle.trip_frequencies.proofs.{Common.{ℕ, leb, ltb, rules, IsPartitionPoint-from_clause, IsPartitionedBy-leb, IsPartitionedBy-ltb}, RepeatLemmas.span_is}
 use Rattle.trip_frequencies.proofs.repeats.span_of.Goals as goal
 
 pub returns : goal.returns

@@ -1,7 +1,5 @@
 use Rattle.change_times.proofs.Common.{Result, Ok, Err, IfOk, Loaded, loaded_rows, FeedParts, ChangeParts, AreCollectedChanges, AreReportedBySome, fault_of_transfers, arith}
-use Rattle.csv_rows.specs.declared.feed_tables.FeedFault.{FeedFault}
-use Rattle.csv_rows.specs.declared.feed_tables.Table.TheVariants.{Transfers}
-use Rattle.csv_rows.specs.RowFaults.{ReportsFirst}
+use Rattle.csv_rows.specs.{declared.feed_tables.{FeedFault.FeedFault, Table.TheVariants.Transfers}, RowFaults.ReportsFirst}
 use Rattle.change_times.proofs.changes.Changes.read.Goals as goal
 
 -- what is said of a table with no fault is said by some

@@ -1,5 +1,4 @@
-use Rattle.change_times.proofs.Common.{◌-◌, arith, get_or_default}
-use Rattle.change_times.proofs.LinkLemmas.{put-raised}
+use Rattle.change_times.proofs.{Common.{◌-◌, arith, get_or_default}, LinkLemmas.put-raised}
 use Rattle.change_times.proofs.links.Ways.put.Goals as goal
 
 pub returns-then-index-from : goal.returns-then-index-from

@@ -1,5 +1,4 @@
-use Rattle.connections.proofs.Common.{arith}
-use Rattle.connections.proofs.SumLemmas.{entries-few}
+use Rattle.connections.proofs.{Common.arith, SumLemmas.entries-few}
 use Rattle.connections.proofs.cuts.CountedWindow.entries.Goals as goal
 
 pub returns : goal.returns

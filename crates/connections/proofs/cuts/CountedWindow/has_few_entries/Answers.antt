@@ -1,5 +1,4 @@
-use Rattle.connections.proofs.Common.{arith, nat_tests}
-use Rattle.connections.proofs.SumLemmas.{entries-most}
+use Rattle.connections.proofs.{Common.{arith, nat_tests}, SumLemmas.entries-most}
 use Rattle.connections.proofs.cuts.CountedWindow.has_few_entries.Goals as goal
 
 pub returns : goal.returns

@@ -1,5 +1,4 @@
-use Rattle.connections.proofs.Common.{length, sym, subst, rows_of, AreRepeats, DepartOnDay}
-use Rattle.connections.proofs.ReachLemmas.{departures_are}
+use Rattle.connections.proofs.{Common.{length, sym, subst, rows_of, AreRepeats, DepartOnDay}, ReachLemmas.departures_are}
 use Rattle.connections.proofs.feed_window.FeedTrip.on.Goals as goal
 
 pub invariant_of-result : goal.invariant_of-result

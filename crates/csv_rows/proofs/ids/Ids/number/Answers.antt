@@ -1,5 +1,4 @@
-use Rattle.csv_rows.proofs.Common.{ap, ◌∙◌, number_in}
-use Rattle.csv_rows.proofs.IdLemmas.{number_is}
+use Rattle.csv_rows.proofs.{Common.{ap, ◌∙◌, number_in}, IdLemmas.number_is}
 use Rattle.csv_rows.proofs.ids.Ids.number.Goals as goal
 
 pub returns-clause-number : goal.returns-clause-number

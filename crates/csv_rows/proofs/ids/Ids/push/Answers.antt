@@ -1,7 +1,7 @@
 use Rattle.csv_rows.proofs.Common.{◌≡◌, ◌++◌, ◌∷◌, [], ℕ, List, Result, Ok, Err, All-push, IsTrimmed, subst, sym, arith, common_steps}
+use Rattle.csv_rows.specs.Ids.{AreIds}
 use Rattle.std.specs.Prelude.{OnOk, OnErr}
 use Rattle.plan_model.specs.NameLists.{AreTexts}
-use Rattle.csv_rows.specs.Ids.{AreIds}
 use Rattle.csv_rows.proofs.ids.Ids.push.Goals as goal
 
 -- ids after a push, whether it fails or not

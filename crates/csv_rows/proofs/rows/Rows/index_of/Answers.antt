@@ -1,5 +1,4 @@
-use Rattle.csv_rows.proofs.Common.{◌∙◌, ap, number_in, header}
-use Rattle.csv_rows.proofs.HeaderLemmas.{index_is}
+use Rattle.csv_rows.proofs.{Common.{◌∙◌, ap, number_in, header}, HeaderLemmas.index_is}
 use Rattle.csv_rows.proofs.rows.Rows.index_of.Goals as goal
 
 pub returns : goal.returns

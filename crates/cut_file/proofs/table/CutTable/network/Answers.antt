@@ -1,14 +1,11 @@
 -- The network of a cut file by the rows of its table.
-use Rattle.cut_file.proofs.Common.{sym, subst, rules, NetworkModel, plain_network, DelayLists, Cut, IsCutRead, IsNetwork, NameLists, NamesFit, IsCutNetwork, ◌≡◌, ℕ, zero, suc, ◌<◌, ◌≤◌, max, List, slice_get, Some, if◌then◌else◌, bytes_eq, refl, ap, ap₂, ◌∙◌, arith, slice_get_within, count, connection, row_count, row, key_at, cut_row, longest, change_seconds_of, change_from, IsRide, largest, length, ⊎_elim, All, get_or_from_slice_get, IsTrimmed, Run, From, To, field, index_of, none-each, AreDelays, bad_field, place_names, IsFaultless}
+use Rattle.cut_file.proofs.Common.{sym, subst, rules, NetworkModel, plain_network, DelayLists, Cut, IsCutRead, IsNetwork, NameLists, NamesFit, IsCutNetwork, ◌≡◌, ℕ, zero, suc, ◌<◌, ◌≤◌, max}
+use Rattle.cut_file.proofs.Common.{List, slice_get, Some, if◌then◌else◌, bytes_eq, refl, ap, ap₂, ◌∙◌, arith, slice_get_within, count, connection, row_count, row, key_at, cut_row, longest}
+use Rattle.cut_file.proofs.Common.{change_seconds_of, change_from, IsRide, largest, length, ⊎_elim, All, get_or_from_slice_get, IsTrimmed, Run, From, To, field, index_of, none-each, AreDelays}
+use Rattle.cut_file.proofs.{Common.{bad_field, place_names, IsFaultless}, Made.make_network, Valid.{network_valid, none_of, is_at, key_of_run, run_inside}, ChangeFacts.longest-zero}
+use Rattle.cut_file.proofs.{ChangeFacts.longest-suc, Repeats.one_place_name, Distinct.same_name, FormFacts.{InForm, row_in_form}, Occurs.{run_occurs, place_occurs}}
 use Rattle.plan_model.proofs.SameParts.{same_parts}
-use Rattle.cut_file.proofs.Made.{make_network}
-use Rattle.cut_file.proofs.Valid.{network_valid, none_of, is_at, key_of_run, run_inside}
-use Rattle.cut_file.proofs.ChangeFacts.{longest-zero, longest-suc}
-use Rattle.cut_file.proofs.Repeats.{one_place_name}
-use Rattle.cut_file.proofs.Distinct.{same_name}
 use Rattle.csv_rows.proofs.SpaceLemmas.{IsTrimmed-field}
-use Rattle.cut_file.proofs.FormFacts.{InForm, row_in_form}
-use Rattle.cut_file.proofs.Occurs.{run_occurs, place_occurs}
 use Rattle.cut_file.proofs.table.CutTable.network.Goals as goal
 
 -- ---- the names of a cut file fit its network

@@ -1,5 +1,4 @@
-use Rattle.delay_table.proofs.Common.{◌∙◌, ap, None, group_index, of_class}
-use Rattle.delay_table.proofs.LineGroups.{line-index}
+use Rattle.delay_table.proofs.{Common.{◌∙◌, ap, None, group_index, of_class}, LineGroups.line-index}
 use Rattle.delay_table.proofs.groups.Groups.class_index.Goals as goal
 
 pub returns : goal.returns

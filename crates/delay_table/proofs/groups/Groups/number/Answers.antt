@@ -1,5 +1,4 @@
-use Rattle.delay_table.proofs.Common.{arith}
-use Rattle.delay_table.proofs.LineGroups.{reported-new, reported-there, lines-next}
+use Rattle.delay_table.proofs.{Common.arith, LineGroups.{reported-new, reported-there, lines-next}}
 use Rattle.delay_table.proofs.groups.Groups.number.Goals as goal
 
 pub returns-then-is_new-clause-index : goal.returns-then-is_new-clause-index

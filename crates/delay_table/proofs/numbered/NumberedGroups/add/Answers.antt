@@ -1,6 +1,5 @@
-use Rattle.delay_table.proofs.Common.{◌≡◌, ◌++◌, ◌∷◌, [], List, length, Some, cond, ap, ◌∙◌, arith, list_any, NumberedGroup, same_numbered}
+use Rattle.delay_table.proofs.{Common.{◌≡◌, ◌++◌, ◌∷◌, [], List, length, Some, cond, ap, ◌∙◌, arith, list_any, NumberedGroup, same_numbered}, IndexFacts.indexes-push}
 use Rattle.std.specs.HashMap.{get}
-use Rattle.delay_table.proofs.IndexFacts.{indexes-push}
 use Rattle.delay_table.proofs.numbered.NumberedGroups.add.Goals as goal
 
 pub invariant_of-self-2 : goal.invariant_of-self-2

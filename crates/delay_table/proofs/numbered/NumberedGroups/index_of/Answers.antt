@@ -1,5 +1,4 @@
-use Rattle.delay_table.proofs.Common.{is_some, ap, ◌∙◌, position, same_numbered}
-use Rattle.delay_table.proofs.IndexFacts.{any-position}
+use Rattle.delay_table.proofs.{Common.{is_some, ap, ◌∙◌, position, same_numbered}, IndexFacts.any-position}
 use Rattle.delay_table.proofs.numbered.NumberedGroups.index_of.Goals as goal
 
 pub returns-clause-found : goal.returns-clause-found

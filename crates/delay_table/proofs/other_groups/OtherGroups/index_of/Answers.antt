@@ -1,6 +1,4 @@
-use Rattle.delay_table.proofs.Common.{◌∙◌, ap, sym, subst, IfSome, length, ℕ, List, ◌<◌, AreDistinct, numbered_route, routes_of}
-use Rattle.delay_table.proofs.RouteFacts.{routes-distinct}
-use Rattle.delay_table.proofs.NumberedFacts.{index-is}
+use Rattle.delay_table.proofs.{Common.{◌∙◌, ap, sym, subst, IfSome, length, ℕ, List, ◌<◌, AreDistinct, numbered_route, routes_of}, RouteFacts.routes-distinct, NumberedFacts.index-is}
 use Rattle.delay_table.proofs.other_groups.OtherGroups.index_of.Goals as goal
 
 pub returns-clause-index : goal.returns-clause-index

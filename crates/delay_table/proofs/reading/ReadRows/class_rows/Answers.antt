@@ -1,6 +1,4 @@
-use Rattle.delay_table.proofs.Common.{sym, of_class, arith}
-use Rattle.delay_table.proofs.GroupFacts.{group-here}
-use Rattle.delay_table.proofs.ReadFacts.{rows-new}
+use Rattle.delay_table.proofs.{Common.{sym, of_class, arith}, GroupFacts.group-here, ReadFacts.rows-new}
 use Rattle.delay_table.proofs.reading.ReadRows.class_rows.Goals as goal
 
 pub returns-in-Some : goal.returns-in-Some

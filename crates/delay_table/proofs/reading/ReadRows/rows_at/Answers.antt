@@ -1,5 +1,4 @@
-use Rattle.delay_table.proofs.Common.{arith, get_or_default}
-use Rattle.delay_table.proofs.ReadFacts.{rows-here}
+use Rattle.delay_table.proofs.{Common.{arith, get_or_default}, ReadFacts.rows-here}
 use Rattle.delay_table.proofs.reading.ReadRows.rows_at.Goals as goal
 
 pub returns-clause-outcomes : goal.returns-clause-outcomes

@@ -1,6 +1,4 @@
-use Rattle.delay_table.proofs.Common.{◌∙◌, arith, sym, option_map, Line, line_with}
-use Rattle.delay_table.proofs.GroupFacts.{group-here}
-use Rattle.delay_table.proofs.ReadFacts.{rows-known, rows-new, first-none}
+use Rattle.delay_table.proofs.{Common.{◌∙◌, arith, sym, option_map, Line, line_with}, GroupFacts.group-here, ReadFacts.{rows-known, rows-new, first-none}}
 use Rattle.delay_table.proofs.reading.Reading.add.Goals as goal
 
 pub returns-in-Some-clause-none : goal.returns-in-Some-clause-none

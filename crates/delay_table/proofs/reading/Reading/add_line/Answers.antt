@@ -1,5 +1,4 @@
-use Rattle.delay_table.proofs.Common.{◌≡◌, ◌≢◌, Option, Some, None, on_ok_weaker, IfErr-weaker, DelayFault, NoMemory, Line, fault_after, line_fault, read_outcomes, arith}
-use Rattle.delay_table.proofs.LineFacts.{own_line}
+use Rattle.delay_table.proofs.{Common.{◌≡◌, ◌≢◌, Option, Some, None, on_ok_weaker, IfErr-weaker, DelayFault, NoMemory, Line, fault_after, line_fault, read_outcomes, arith}, LineFacts.own_line}
 use Rattle.delay_table.proofs.ReadFacts.{read-next, rows-are, fault_here, bad_here}
 use Rattle.delay_table.proofs.reading.Reading.add_line.Goals as goal
 

@@ -1,5 +1,4 @@
-use Rattle.delay_table.proofs.Common.{class_for, arith}
-use Rattle.delay_table.proofs.RouteFacts.{unnumbered-class}
+use Rattle.delay_table.proofs.{Common.{class_for, arith}, RouteFacts.unnumbered-class}
 use Rattle.delay_table.proofs.table.DelayTable.class_at.Goals as goal
 
 pub returns-clause-class : goal.returns-clause-class

@@ -1,7 +1,6 @@
 use Rattle.delay_table.proofs.Common.{◌≡◌, sym, subst, Bor, ℕ, List, Option, Some, option_map, IfNone, IfSome, Contains, slice_get, class_for, class_type, numbered_route, routes_of}
-use Rattle.delay_table.proofs.RouteFacts.{numbered-class}
+use Rattle.delay_table.proofs.{RouteFacts.numbered-class, table.DelayTable.class_for.Goals.{in-None, in-Some}}
 use Rattle.delay_table.proofs.table.DelayTable.class_for.Goals as goal
-use Rattle.delay_table.proofs.table.DelayTable.class_for.Goals.{in-None, in-Some}
 
 pub returns-clause-class : goal.returns-clause-class
 returns-clause-class c =

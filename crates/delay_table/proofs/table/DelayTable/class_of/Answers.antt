@@ -1,6 +1,5 @@
-use Rattle.delay_table.proofs.Common.{ℕ, subst, Err, nat_cmp, List, searched, arith}
+use Rattle.delay_table.proofs.{Common.{ℕ, subst, Err, nat_cmp, List, searched, arith}, TypeFacts.{absent_type, never_falls}}
 use Rattle.std.specs.List.Sorted.{IsBinarySearchResult}
-use Rattle.delay_table.proofs.TypeFacts.{absent_type, never_falls}
 use Rattle.delay_table.proofs.table.DelayTable.class_of.Goals as goal
 
 pub returns-in-Err-clause-class : goal.returns-in-Err-clause-class

@@ -1,5 +1,4 @@
-use Rattle.delay_table.proofs.Common.{◌-◌, slice_index_or, arith}
-use Rattle.delay_table.proofs.TypeFacts.{greatest_last}
+use Rattle.delay_table.proofs.{Common.{◌-◌, slice_index_or, arith}, TypeFacts.greatest_last}
 use Rattle.delay_table.proofs.table.DelayTable.greatest.Goals as goal
 
 pub returns-clause-all : goal.returns-clause-all

@@ -1,5 +1,4 @@
-use Rattle.delay_table.proofs.Common.{arith}
-use Rattle.delay_table.proofs.TypeFacts.{class-is}
+use Rattle.delay_table.proofs.{Common.arith, TypeFacts.class-is}
 use Rattle.delay_table.proofs.table.DelayTable.numbered_class.Goals as goal
 
 pub returns-in-Some-clause-class : goal.returns-in-Some-clause-class

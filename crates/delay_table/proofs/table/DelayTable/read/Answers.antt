@@ -1,6 +1,4 @@
-use Rattle.delay_table.proofs.Common.{◌∙◌, ap, sym, Some, if_raised, arith}
-use Rattle.delay_table.proofs.Counted.{column-other, lines-other}
-use Rattle.delay_table.proofs.Sound.{column-first, line-first, fault-same, delays-same, groups-count}
+use Rattle.delay_table.proofs.{Common.{◌∙◌, ap, sym, Some, if_raised, arith}, Counted.{column-other, lines-other}, Sound.{column-first, line-first, fault-same, delays-same, groups-count}}
 use Rattle.delay_table.proofs.table.DelayTable.read.Goals as goal
 
 pub returns-in-Some-clause-fault : goal.returns-in-Some-clause-fault

@@ -1,5 +1,4 @@
-use Rattle.delay_table.proofs.Common.{arith}
-use Rattle.delay_table.proofs.TypeFacts.{class-none, class-some}
+use Rattle.delay_table.proofs.{Common.arith, TypeFacts.{class-none, class-some}}
 use Rattle.delay_table.proofs.table.DelayTable.type_class.Goals as goal
 
 pub returns-then-class-eq0-clause-class : goal.returns-then-class-eq0-clause-class

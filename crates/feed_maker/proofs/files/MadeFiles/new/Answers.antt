@@ -1,5 +1,4 @@
-use Rattle.feed_maker.proofs.Common.{others_on, arith}
-use Rattle.feed_maker.proofs.FolderLemmas.{folder_front, stop_times_first}
+use Rattle.feed_maker.proofs.{Common.{others_on, arith}, FolderLemmas.{folder_front, stop_times_first}}
 use Rattle.feed_maker.proofs.files.MadeFiles.new.Goals as goal
 
 pub returns-clause-files : goal.returns-clause-files

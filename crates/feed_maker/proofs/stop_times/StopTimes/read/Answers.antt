@@ -1,5 +1,4 @@
-use Rattle.feed_maker.proofs.Common.{◌-◌, arith}
-use Rattle.feed_maker.proofs.StopTimeLemmas.{remaining_after}
+use Rattle.feed_maker.proofs.{Common.{◌-◌, arith}, StopTimeLemmas.remaining_after}
 use Rattle.feed_maker.proofs.stop_times.StopTimes.read.Goals as goal
 
 pub returns-clause-bytes : goal.returns-clause-bytes

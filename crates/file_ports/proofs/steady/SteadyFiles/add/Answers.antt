@@ -1,5 +1,4 @@
-use Rattle.file_ports.proofs.Common.{ap, ◌∙◌, vec_items, FileMap, file_at}
-use Rattle.file_ports.proofs.OpenLemmas.{put_file}
+use Rattle.file_ports.proofs.{Common.{ap, ◌∙◌, vec_items, FileMap, file_at}, OpenLemmas.put_file}
 use Rattle.file_ports.proofs.steady.SteadyFiles.add.Goals as goal
 
 pub returns-clause-ok : goal.returns-clause-ok

@@ -1,6 +1,4 @@
-use Rattle.file_ports.proofs.Common.{rules, true, sym, ◌∙◌, ap, ◌≡◌, position, vec_items}
-use Rattle.file_ports.proofs.NamedLemmas.{at_path}
-use Rattle.file_ports.proofs.OpenLemmas.{opened_remaining, opened_path, absent}
+use Rattle.file_ports.proofs.{Common.{rules, true, sym, ◌∙◌, ap, ◌≡◌, position, vec_items}, NamedLemmas.at_path, OpenLemmas.{opened_remaining, opened_path, absent}}
 use Rattle.file_ports.proofs.steady.SteadyFilesFiles.open_file.Goals as goal
 
 pub returns-in-Some-clause-opened : goal.returns-in-Some-clause-opened

@@ -1,6 +1,5 @@
-use Rattle.file_ports.proofs.Common.{rules, sym, ◌∙◌, ◌≡◌, length, drop, ◌+◌, vec_items}
+use Rattle.file_ports.proofs.{Common.{rules, sym, ◌∙◌, ◌≡◌, length, drop, ◌+◌, vec_items}, OpenLemmas.{holds, open_remaining, if_some_at, read_count, moved, at_end, consumes_known, end_known}}
 use Rattle.file_ports.specs.Steady.{remaining_of}
-use Rattle.file_ports.proofs.OpenLemmas.{holds, open_remaining, if_some_at, read_count, moved, at_end, consumes_known, end_known}
 use Rattle.file_ports.proofs.steady.SteadyFilesFiles.read.Goals as goal
 
 pub returns-clause-reads : goal.returns-clause-reads

@@ -1,5 +1,4 @@
-use Rattle.graph_text.proofs.Common.{◌∙◌, [], ap, refl, nanos_text, name_is}
-use Rattle.graph_text.proofs.Fields.{take_nine}
+use Rattle.graph_text.proofs.{Common.{◌∙◌, [], ap, refl, nanos_text, name_is}, Fields.take_nine}
 use Rattle.graph_text.proofs.printer.Printer.put_head.Goals as goal
 
 pub returns : goal.returns

@@ -1,5 +1,4 @@
-use Rattle.graph_text.proofs.Common.{◌∙◌, name_is, arith}
-use Rattle.graph_text.proofs.Fields.{leg_row_fields}
+use Rattle.graph_text.proofs.{Common.{◌∙◌, name_is, arith}, Fields.leg_row_fields}
 use Rattle.printed_rows.proofs.Connections.{dep_printable, arr_printable, run_named, from_named, to_named}
 use Rattle.graph_text.proofs.printer.Printer.put_leg.Goals as goal
 

@@ -1,5 +1,4 @@
-use Rattle.graph_text.proofs.Common.{subst, Result, Reading, TextFault, IsUnlessNoMemory}
-use Rattle.graph_text.proofs.Tables.{table_step}
+use Rattle.graph_text.proofs.{Common.{subst, Result, Reading, TextFault, IsUnlessNoMemory}, Tables.table_step}
 use Rattle.graph_text.proofs.reader.Reader.read_row.Goals as goal
 
 pub returns-clause-reported : goal.returns-clause-reported

@@ -1,5 +1,4 @@
-use Rattle.graph_text.proofs.Common.{◌≡◌, ◌+◌, arith}
-use Rattle.graph_text.proofs.Tables.{read_raised, tables_after, tables_fail}
+use Rattle.graph_text.proofs.{Common.{◌≡◌, ◌+◌, arith}, Tables.{read_raised, tables_after, tables_fail}}
 use Rattle.graph_text.proofs.reader.Reader.read_tables.Goals as goal
 
 pub returns-in_err-reading : goal.returns-in_err-reading

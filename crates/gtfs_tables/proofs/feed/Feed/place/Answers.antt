@@ -1,6 +1,5 @@
-use Rattle.gtfs_tables.proofs.Common.{◌<◌, length, ap, arith, FeedParts, feed_parts_of}
+use Rattle.gtfs_tables.proofs.{Common.{◌<◌, length, ap, arith, FeedParts, feed_parts_of}, FeedFacts.place_below}
 use Rattle.std.proofs.lemmas.Grind.{get_or_default_zero}
-use Rattle.gtfs_tables.proofs.FeedFacts.{place_below}
 use Rattle.gtfs_tables.proofs.feed.Feed.place.Goals as goal
 
 pub returns-clause-in_range : goal.returns-clause-in_range

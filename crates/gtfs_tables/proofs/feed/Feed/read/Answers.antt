@@ -1,5 +1,4 @@
-use Rattle.gtfs_tables.proofs.Common.{reads-raised, reads-value, reads-fault, reads-both, reads-after, arith}
-use Rattle.gtfs_tables.proofs.FeedLemmas.{feed_of_tables, sound_feed}
+use Rattle.gtfs_tables.proofs.{Common.{reads-raised, reads-value, reads-fault, reads-both, reads-after, arith}, FeedLemmas.{feed_of_tables, sound_feed}}
 use Rattle.gtfs_tables.proofs.feed.Feed.read.Goals as goal
 
 pub invariant_of-result : goal.invariant_of-result

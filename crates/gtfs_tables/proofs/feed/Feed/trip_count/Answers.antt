@@ -1,9 +1,8 @@
 -- The tables of a feed are no larger than they may be.
-use Rattle.gtfs_tables.proofs.Common.{subst, feed_parts_of, AreRepeating, IsSmall, IsTimed, ◌≡◌, ℕ, zero, suc, ◌+◌, ◌≤◌, ◌==◌, List, [], ◌∷◌, length, sum_by, if◌then◌else◌, ap, arith, list_below-zero, list_below-next, length-list_below, FrequencyRow, repeats_in, all_repeats_in, IsWholeFeed}
-use Rattle.gtfs_tables.proofs.FeedFacts.{is_timed}
-use Rattle.gtfs_tables.proofs.RepeatFacts.{is_repeating}
-use Rattle.std.proofs.lemmas.List.Sums.{sum_by_push}
+use Rattle.gtfs_tables.proofs.Common.{subst, feed_parts_of, AreRepeating, IsSmall, IsTimed, ◌≡◌, ℕ, zero, suc, ◌+◌, ◌≤◌, ◌==◌, List, [], ◌∷◌, length, sum_by, if◌then◌else◌, ap, arith}
+use Rattle.gtfs_tables.proofs.{Common.{list_below-zero, list_below-next, length-list_below, FrequencyRow, repeats_in, all_repeats_in, IsWholeFeed}, FeedFacts.is_timed, RepeatFacts.is_repeating}
 use Rattle.gtfs_tables.specs.declared.feed.Feed.TheInside.{Inside}
+use Rattle.std.proofs.lemmas.List.Sums.{sum_by_push}
 use Rattle.gtfs_tables.proofs.feed.Feed.trip_count.Goals as goal
 
 abbrev total : List ℕ → List FrequencyRow → ℕ → ℕ

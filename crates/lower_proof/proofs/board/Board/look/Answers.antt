@@ -1,9 +1,7 @@
 use Rattle.std.proofs.lemmas.Grind.{common_steps}
-use Rattle.lower_proof.proofs.Common.{arith, length-take, take_at, cases_lt, get_or_read}
-use Rattle.lower_proof.proofs.Leasts.{none_below}
-use Rattle.lower_proof.proofs.Minima.{before_is, front_in_time, board_shown}
-use Rattle.lower_proof.proofs.board.Board.look.Goals as goal
+use Rattle.lower_proof.proofs.{Common.{arith, length-take, take_at, cases_lt, get_or_read}, Leasts.none_below, Minima.{before_is, front_in_time, board_shown}}
 use Rattle.lower_proof.proofs.board.Board.look.Goals.{then-wanted-eq0, else-wanted-eq0}
+use Rattle.lower_proof.proofs.board.Board.look.Goals as goal
 
 pub returns-clause-least : goal.returns-clause-least
 returns-clause-least c = grind (arith, then-wanted-eq0, none_below, else-wanted-eq0, take_at, get_or_read, before_is, front_in_time)

@@ -1,5 +1,4 @@
-use Rattle.lower_proof.proofs.Common.{arith, IsPermutation-trans, length_permutation}
-use Rattle.lower_proof.proofs.Entries.{falls_reversed}
+use Rattle.lower_proof.proofs.{Common.{arith, IsPermutation-trans, length_permutation}, Entries.falls_reversed}
 use Rattle.lower_proof.proofs.board.Board.sort.Goals as goal
 
 pub returns-clause-permutation : goal.returns-clause-permutation

@@ -1,6 +1,5 @@
 use Rattle.std.proofs.lemmas.Grind.{common_steps}
-use Rattle.lower_proof.proofs.Common.{◌++◌, ◌<◌, length, arith, text_of_records, value_records}
-use Rattle.lower_proof.proofs.ReadBack.{values_step, values_done, fit_more}
+use Rattle.lower_proof.proofs.{Common.{◌++◌, ◌<◌, length, arith, text_of_records, value_records}, ReadBack.{values_step, values_done, fit_more}}
 use Rattle.lower_proof.proofs.printer.Printer.put_values.Goals as goal
 
 pub loop-i-preserved : goal.loop-i-preserved

@@ -1,5 +1,4 @@
-use Rattle.memory_ports.proofs.Common.{refl, ◌∙◌, nat_eq, entry_at, arith}
-use Rattle.memory_ports.proofs.FailingLemmas.{recalled_count, recalled_more, recalled_same, on_any_err}
+use Rattle.memory_ports.proofs.{Common.{refl, ◌∙◌, nat_eq, entry_at, arith}, FailingLemmas.{recalled_count, recalled_more, recalled_same, on_any_err}}
 use Rattle.memory_ports.proofs.memory.MemoryFiles.fail.Goals as goal
 
 pub returns-in_err-push-clause-err : goal.returns-in_err-push-clause-err

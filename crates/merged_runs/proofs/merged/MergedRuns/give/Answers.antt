@@ -1,6 +1,4 @@
-use Rattle.merged_runs.proofs.Common.{◌≡◌, ◌<◌, ◌-◌, ◌+◌, ◌*◌, ◌/◌, length, get_or, set, get_or-set_same, arith, sym, get_or_read}
-use Rattle.merged_runs.proofs.StretchLemmas.{key_of-between}
-use Rattle.merged_runs.proofs.SkipLemmas.{stretch_is}
+use Rattle.merged_runs.proofs.{Common.{◌≡◌, ◌<◌, ◌-◌, ◌+◌, ◌*◌, ◌/◌, length, get_or, set, get_or-set_same, arith, sym, get_or_read}, StretchLemmas.key_of-between, SkipLemmas.stretch_is}
 use Rattle.merged_runs.proofs.TournamentLemmas.{IsPlayedAround-run, IsPlayedAround-child, IsPlayedAround-more, IsWinner-max}
 use Rattle.merged_runs.proofs.merged.MergedRuns.give.Goals as goal
 

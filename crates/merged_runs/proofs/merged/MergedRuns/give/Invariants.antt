@@ -1,5 +1,4 @@
-use Rattle.merged_runs.proofs.Common.{◌≡◌}
-use Rattle.merged_runs.proofs.TournamentLemmas.{IsPlayedAround}
+use Rattle.merged_runs.proofs.{Common.◌≡◌, TournamentLemmas.IsPlayedAround}
 use Rattle.merged_runs.proofs.merged.MergedRuns.give.Given as goal
 
 abbrev pub invariant-loop-node : goal.invariant-loop-node

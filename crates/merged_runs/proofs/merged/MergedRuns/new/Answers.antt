@@ -1,7 +1,5 @@
-use Rattle.merged_runs.proofs.Common.{arith}
-use Rattle.merged_runs.proofs.StretchLemmas.{IsWhole, IsWhole-copied, AreStretches-whole, rest_of-all}
+use Rattle.merged_runs.proofs.{Common.arith, StretchLemmas.{IsWhole, IsWhole-copied, AreStretches-whole, rest_of-all}, merged.MergedRuns.new.Goals.In_ok-remaining}
 use Rattle.merged_runs.proofs.merged.MergedRuns.new.Goals as goal
-use Rattle.merged_runs.proofs.merged.MergedRuns.new.Goals.{In_ok-remaining}
 
 whole : (c : In_ok-remaining) → IsWhole c.in_ok-starts.starts.items c.in_ok-remaining.remaining.items
 whole c = grind (arith, IsWhole-copied)

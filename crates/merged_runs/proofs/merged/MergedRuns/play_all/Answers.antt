@@ -1,6 +1,4 @@
-use Rattle.merged_runs.proofs.Common.{◌≡◌, ◌≤◌, ◌<◌, ◌*◌, ◌+◌, ◌-◌, length, get_or, arith, ap, ◌∙◌, get_or_read}
-use Rattle.merged_runs.proofs.StretchLemmas.{key_of-between}
-use Rattle.merged_runs.proofs.SkipLemmas.{stretch_is}
+use Rattle.merged_runs.proofs.{Common.{◌≡◌, ◌≤◌, ◌<◌, ◌*◌, ◌+◌, ◌-◌, length, get_or, arith, ap, ◌∙◌, get_or_read}, StretchLemmas.key_of-between, SkipLemmas.stretch_is}
 use Rattle.merged_runs.proofs.TournamentLemmas.{AreRead-more, IsPlayedFrom-runs, IsPlayedFrom-more, IsWinner-max}
 use Rattle.merged_runs.proofs.merged.MergedRuns.play_all.Goals as goal
 

@@ -1,5 +1,4 @@
-use Rattle.merged_runs.proofs.Common.{◌≡◌}
-use Rattle.merged_runs.proofs.TournamentLemmas.{AreRead, IsPlayedFrom}
+use Rattle.merged_runs.proofs.{Common.◌≡◌, TournamentLemmas.{AreRead, IsPlayedFrom}}
 use Rattle.merged_runs.proofs.merged.MergedRuns.play_all.Given as goal
 
 abbrev pub invariant-loop-run : goal.invariant-loop-run

@@ -1,9 +1,7 @@
 use Rattle.merged_runs.proofs.Common.{◌≡◌, ℕ, List, ◌-◌, ◌<◌, ◌%◌, ◌++◌, ◌∷◌, [], length, get_or, set, arith, ap, sym, ◌∙◌, eqb-true, eqb-false, get_or_read, length_push, most_connections}
-use Rattle.merged_runs.proofs.Common.{Connection, connection, rest_of}
-use Rattle.merged_runs.proofs.StretchLemmas.{rest_of-none}
-use Rattle.merged_runs.proofs.TournamentLemmas.{HasWon, won, rest_of-exhausted, rest_of-given}
-use Rattle.merged_runs.proofs.merged.MergedRunsBackwardOrder.next.Goals as goal
+use Rattle.merged_runs.proofs.{Common.{Connection, connection, rest_of}, StretchLemmas.rest_of-none, TournamentLemmas.{HasWon, won, rest_of-exhausted, rest_of-given}}
 use Rattle.merged_runs.proofs.merged.MergedRunsBackwardOrder.next.Goals.{After-index-key, After-get-run}
+use Rattle.merged_runs.proofs.merged.MergedRunsBackwardOrder.next.Goals as goal
 
 pub returns-then-is_empty-clause-none : goal.returns-then-is_empty-clause-none
 returns-then-is_empty-clause-none c = grind (arith, eqb-true, rest_of-none)

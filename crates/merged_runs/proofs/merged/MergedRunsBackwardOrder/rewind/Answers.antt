@@ -1,7 +1,5 @@
-use Rattle.merged_runs.proofs.Common.{arith}
-use Rattle.merged_runs.proofs.StretchLemmas.{IsWhole, IsWhole-copied, AreStretches-whole, rest_of-all}
+use Rattle.merged_runs.proofs.{Common.arith, StretchLemmas.{IsWhole, IsWhole-copied, AreStretches-whole, rest_of-all}, merged.MergedRunsBackwardOrder.rewind.Goals.After-copy_from_slice}
 use Rattle.merged_runs.proofs.merged.MergedRunsBackwardOrder.rewind.Goals as goal
-use Rattle.merged_runs.proofs.merged.MergedRunsBackwardOrder.rewind.Goals.{After-copy_from_slice}
 
 whole : (c : After-copy_from_slice) → IsWhole c.args.self.now.starts.items c.copy_from_slice.new.self.items
 whole c = grind (arith, IsWhole-copied)

@@ -1,5 +1,4 @@
-use Rattle.merged_runs.proofs.Common.{◌≡◌, ◌<◌, length, get_or, arith, ap, ◌∙◌, get_or_read}
-use Rattle.merged_runs.proofs.SkipLemmas.{stretch_is, rest_of-lowered}
+use Rattle.merged_runs.proofs.{Common.{◌≡◌, ◌<◌, length, get_or, arith, ap, ◌∙◌, get_or_read}, SkipLemmas.{stretch_is, rest_of-lowered}}
 use Rattle.merged_runs.proofs.merged.MergedRunsBackwardOrder.skip_after.Goals as goal
 
 pub invariant_of-stretch : goal.invariant_of-stretch

@@ -1,5 +1,4 @@
-use Rattle.merged_runs.proofs.Common.{◌≡◌}
-use Rattle.merged_runs.proofs.SkipLemmas.{AreLowered}
+use Rattle.merged_runs.proofs.{Common.◌≡◌, SkipLemmas.AreLowered}
 use Rattle.merged_runs.proofs.merged.MergedRunsBackwardOrder.skip_after.Given as goal
 
 abbrev pub invariant-loop-run : goal.invariant-loop-run

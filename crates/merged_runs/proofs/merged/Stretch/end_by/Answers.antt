@@ -1,5 +1,4 @@
-use Rattle.merged_runs.proofs.Common.{◌+◌, ◌-◌, ◌/◌, arith, ap, Connection}
-use Rattle.merged_runs.proofs.SkipLemmas.{IsParted-up}
+use Rattle.merged_runs.proofs.{Common.{◌+◌, ◌-◌, ◌/◌, arith, ap, Connection}, SkipLemmas.IsParted-up}
 use Rattle.merged_runs.proofs.merged.Stretch.end_by.Goals as goal
 
 pub loop-low-preserved-then-dep-last : goal.loop-low-preserved-then-dep-last

@@ -1,6 +1,4 @@
-use Rattle.plan_model.proofs.Common.{arith, ap, ◌∙◌, NetworkModel}
-use Rattle.plan_model.proofs.Searches.{at_index}
-use Rattle.plan_model.proofs.Boarding.{limit_of-found}
+use Rattle.plan_model.proofs.{Common.{arith, ap, ◌∙◌, NetworkModel}, Searches.at_index, Boarding.limit_of-found}
 use Rattle.plan_model.proofs.network.Network.limit.Goals as goal
 
 pub way-requires-clause-to : goal.way-requires-clause-to

@@ -1,5 +1,4 @@
-use Rattle.plan_model.proofs.Common.{arith}
-use Rattle.plan_model.proofs.SameParts.{same_parts}
+use Rattle.plan_model.proofs.{Common.arith, SameParts.same_parts}
 use Rattle.plan_model.proofs.network.Network.try_clone_with.Goals as goal
 
 pub invariant_of-result : goal.invariant_of-result

@@ -1,5 +1,4 @@
-use Rattle.plan_model.proofs.Common.{arith}
-use Rattle.plan_model.proofs.Links.{links_into-few}
+use Rattle.plan_model.proofs.{Common.arith, Links.links_into-few}
 use Rattle.plan_model.proofs.network.Network.way_count.Goals as goal
 
 pub overflow_cast-result : goal.overflow_cast-result

@@ -1,8 +1,6 @@
-use Rattle.plan_model.proofs.Common.{◌≡◌, ℕ, ◌+◌, ◌-◌, ◌/◌, ◌<◌, length, get_or, arith, ap, sym, ◌∙◌, get_or_read, Connection, ConnectionId, dep_of}
-use Rattle.plan_model.proofs.ScanOrders.{has_each_id}
-use Rattle.plan_model.proofs.Skips.{IsHalved-up, IsHalved-down, IsPrefixUpTo-halved}
+use Rattle.plan_model.proofs.{Common.{◌≡◌, ℕ, ◌+◌, ◌-◌, ◌/◌, ◌<◌, length, get_or, arith, ap, sym, ◌∙◌, get_or_read, Connection, ConnectionId, dep_of}, ScanOrders.has_each_id, Skips.IsHalved-up}
+use Rattle.plan_model.proofs.{Skips.{IsHalved-down, IsPrefixUpTo-halved}, order.SortedOrderBackwardOrder.skip_after.Goals.After-index}
 use Rattle.plan_model.proofs.order.SortedOrderBackwardOrder.skip_after.Goals as goal
-use Rattle.plan_model.proofs.order.SortedOrderBackwardOrder.skip_after.Goals.{After-index}
 
 abbrev middle_of : After-index → ℕ
 middle_of c = c.loop-low.low + (c.loop-low.high - c.loop-low.low) / 2

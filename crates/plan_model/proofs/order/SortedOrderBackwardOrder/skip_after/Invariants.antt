@@ -1,5 +1,4 @@
-use Rattle.plan_model.proofs.Common.{◌-◌}
-use Rattle.plan_model.proofs.Skips.{IsHalved}
+use Rattle.plan_model.proofs.{Common.◌-◌, Skips.IsHalved}
 use Rattle.plan_model.proofs.order.SortedOrderBackwardOrder.skip_after.Given as goal
 
 abbrev pub invariant-loop-low : goal.invariant-loop-low

@@ -1,5 +1,4 @@
-use Rattle.plan_model.proofs.Common.{arith, refl}
-use Rattle.plan_model.proofs.TextLists.{there_by_number, absent_by_number}
+use Rattle.plan_model.proofs.{Common.{arith, refl}, TextLists.{there_by_number, absent_by_number}}
 use Rattle.plan_model.proofs.text_list.TextList.add.Goals as goal
 
 pub returns-then-is_some-clause-added : goal.returns-then-is_some-clause-added

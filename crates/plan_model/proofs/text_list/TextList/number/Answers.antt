@@ -1,5 +1,4 @@
-use Rattle.plan_model.proofs.Common.{arith}
-use Rattle.plan_model.proofs.TextLists.{absent_by_walk, found_at}
+use Rattle.plan_model.proofs.{Common.arith, TextLists.{absent_by_walk, found_at}}
 use Rattle.plan_model.proofs.text_list.TextList.number.Goals as goal
 
 pub returns-in-None-clause-none : goal.returns-in-None-clause-none

@@ -1,5 +1,4 @@
-use Rattle.plan_model.proofs.Common.{arith, ◌-◌, ◌^◌, ◌<◌, List, ℕ, Contains, length, sym, subst, texts}
-use Rattle.plan_model.proofs.TextLists.{AreTexts-push, texts_more}
+use Rattle.plan_model.proofs.{Common.{arith, ◌-◌, ◌^◌, ◌<◌, List, ℕ, Contains, length, sym, subst, texts}, TextLists.{AreTexts-push, texts_more}}
 use Rattle.plan_model.proofs.text_list.TextList.push.Goals as goal
 
 pub invariant_of-self-2 : goal.invariant_of-self-2

@@ -1,6 +1,5 @@
 use Rattle.plan_model.proofs.Common.{◌≡◌, ◌∙◌, ◌+◌, ◌<◌, ◌++◌, ◌∷◌, [], List, ℕ, String, Global, string_bytes, arith, length, get_or, take, sym, ap, subst, length-map, take_more, texts}
-use Rattle.plan_model.proofs.Texts.{texts-at}
-use Rattle.plan_model.proofs.TextLists.{texts_more}
+use Rattle.plan_model.proofs.{Texts.texts-at, TextLists.texts_more}
 use Rattle.plan_model.proofs.text_list.TextList.try_clone.Goals as goal
 
 pub loop-text-preserved : goal.loop-text-preserved

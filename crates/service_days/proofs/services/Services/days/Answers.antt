@@ -1,6 +1,6 @@
 -- The days that pass a test, one more at a time.
-use Rattle.service_days.proofs.Common.{sym, ap, ◌∙◌, filter, w32, to_z-of_z, runs, arith, ◌≡◌, ℕ, ◌+◌, ℤ, pos, ◌+ℤ◌, Bool, true, false, List, [], ◌∷◌, ◌++◌, refl, add-one, append-nil, filter-append, days_from}
-use Rattle.service_days.proofs.services.Services.days.Goals.{then-runs_at+in_ok-push, else-runs_at}
+use Rattle.service_days.proofs.Common.{sym, ap, ◌∙◌, filter, w32, to_z-of_z, runs, arith, ◌≡◌, ℕ, ◌+◌, ℤ, pos, ◌+ℤ◌, Bool, true, false, List, [], ◌∷◌, ◌++◌, refl, add-one, append-nil}
+use Rattle.service_days.proofs.{Common.{filter-append, days_from}, services.Services.days.Goals.{then-runs_at+in_ok-push, else-runs_at}}
 use Rattle.service_days.proofs.services.Services.days.Goals as goal
 
 pub days_from-zero : (first : ℤ) → days_from first 0 ≡ []

@@ -1,10 +1,9 @@
-use Rattle.service_days.proofs.Common.{refl, and_from, and_left, and_right, arith}
+use Rattle.service_days.proofs.{Common.{refl, and_from, and_left, and_right, arith}, ReadLemmas.{calendar_first, dates_first, none_there, services_here, runs_by_some}}
+use Rattle.service_days.proofs.services.Services.read.Goals.{else-missing-via-then-missing+else-dates, else-missing-via-else-missing}
+use Rattle.service_days.specs.Calendars.{IsCalendarTable}
 use Rattle.csv_rows.specs.declared.feed_tables.Table.TheVariants.{CalendarDates}
 use Rattle.table_files.proofs.ReadingLemmas.{own-of, reads-raised, reads-value, reads-fault, reads-both, reads-after, reads-refused}
-use Rattle.service_days.proofs.ReadLemmas.{calendar_first, dates_first, none_there, services_here, runs_by_some}
-use Rattle.service_days.specs.Calendars.{IsCalendarTable}
 use Rattle.service_days.proofs.services.Services.read.Goals as goal
-use Rattle.service_days.proofs.services.Services.read.Goals.{else-missing-via-then-missing+else-dates, else-missing-via-else-missing}
 
 pub returns-in_err-missing-clause-reads : goal.returns-in_err-missing-clause-reads
 returns-in_err-missing-clause-reads g c = grind (arith, reads-raised, reads-fault, own-of, calendar_first)

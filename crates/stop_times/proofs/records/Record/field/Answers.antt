@@ -1,5 +1,4 @@
-use Rattle.stop_times.proofs.Common.{slice_index_or, arith}
-use Rattle.stop_times.proofs.RecordLemmas.{field-some, field-none}
+use Rattle.stop_times.proofs.{Common.{slice_index_or, arith}, RecordLemmas.{field-some, field-none}}
 use Rattle.stop_times.proofs.records.Record.field.Goals as goal
 
 pub returns-in-Some : goal.returns-in-Some

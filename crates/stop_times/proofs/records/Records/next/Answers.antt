@@ -1,7 +1,6 @@
-use Rattle.stop_times.proofs.Common.{◌≡◌, refl, if◌then◌else◌, [], List, ℕ, Bool, true, false, records_after, arith}
-use Rattle.stop_times.proofs.RecordLemmas.{took_first-read, took-none}
-use Rattle.stop_times.proofs.records.Records.next.Goals as goal
+use Rattle.stop_times.proofs.{Common.{◌≡◌, refl, if◌then◌else◌, [], List, ℕ, Bool, true, false, records_after, arith}, RecordLemmas.{took_first-read, took-none}}
 use Rattle.stop_times.proofs.records.Records.next.Goals.{in-Ok-true, in-Ok-false, in-Err}
+use Rattle.stop_times.proofs.records.Records.next.Goals as goal
 
 remaining : (done : Bool) (rows : List (List (List ℕ))) → done ≡ false → (if done then [] else rows) ≡ rows
 remaining true rows off = absurd (cc)

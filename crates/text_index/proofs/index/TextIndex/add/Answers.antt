@@ -1,5 +1,4 @@
-use Rattle.text_index.proofs.Common.{◌-◌, ℕ, List, Some, sym, subst, Adds, IsNameList-adds, number_is, key_adds, key_texts, arith}
-use Rattle.text_index.proofs.KeyLemmas.{text_of_stored}
+use Rattle.text_index.proofs.{Common.{◌-◌, ℕ, List, Some, sym, subst, Adds, IsNameList-adds, number_is, key_adds, key_texts, arith}, KeyLemmas.text_of_stored}
 use Rattle.text_index.proofs.index.TextIndex.add.Goals as goal
 
 pub invariant_of-self-2 : goal.invariant_of-self-2

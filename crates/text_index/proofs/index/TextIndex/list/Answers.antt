@@ -1,5 +1,4 @@
-use Rattle.text_index.proofs.Common.{[], List, ℕ, Contains, length-take, arith, sym, subst, take, take_more, got}
-use Rattle.text_index.proofs.KeyLemmas.{new_after_those_before}
+use Rattle.text_index.proofs.{Common.{[], List, ℕ, Contains, length-take, arith, sym, subst, take, take_more, got}, KeyLemmas.new_after_those_before}
 use Rattle.text_index.proofs.index.TextIndex.list.Goals as goal
 
 pub push-requires-clause-room : goal.push-requires-clause-room

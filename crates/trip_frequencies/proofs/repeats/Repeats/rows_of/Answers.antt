@@ -1,5 +1,4 @@
-use Rattle.trip_frequencies.proofs.Common.{arith}
-use Rattle.trip_frequencies.proofs.RepeatLemmas.{repeats_in-span}
+use Rattle.trip_frequencies.proofs.{Common.arith, RepeatLemmas.repeats_in-span}
 use Rattle.trip_frequencies.proofs.repeats.Repeats.rows_of.Goals as goal
 
 pub returns : goal.returns
