@@ -1,6 +1,5 @@
 //! Whether a certificate holds.
-ghost use Rattle.std.specs.Prelude.{◌≡◌, ◌≢◌, ◌≤◌, length, Some, None, IfOk, IfErr};
-ghost use Rattle.plan_model.specs.Network.{count};
+ghost use Rattle.std.specs.Prelude.{◌≡◌, ◌≢◌, ◌≤◌, Some, None, IfOk, IfErr};
 ghost use Rattle.journey_model.specs.Faults.{unread_input};
 ghost use Rattle.journey_model.specs.Sites.{last_printable, HasSite};
 ghost use Rattle.journey_model.specs.Known.{parts_of};
@@ -16,8 +15,8 @@ use lower_proof::{LowerBounds, Verdict, check, least};
 use plan_model::{NoMemory, Query};
 use std::alloc::Global;
 
-/// A certificate that was read for a problem. It has a value for each connection, its query is between the ends of the
-/// problem, and the moments of the query have texts.
+/// A certificate that was read for a problem. Its query is between the ends of the problem, and the moments of the query
+/// have texts.
 #[derive(Drop)]
 pub struct ReadCertificate<'a> {
     /// The problem.
@@ -26,8 +25,6 @@ pub struct ReadCertificate<'a> {
     pub query: Query,
     /// Its values.
     pub certificate: LowerBounds,
-    /// That it has a value for each connection.
-    pub ghost as_many: { length certificate.values ≡ count problem.now.timetable.network },
     /// That the query begins where the problem does.
     pub ghost source: { query.source.0 ≡ problem.now.source.0 },
     /// That it ends where the problem does.

@@ -214,7 +214,6 @@ pub fn check(
     network: &Network,
     query: &Query,
 ) -> Result<Verdict, NoMemory>
-    requires { length proof.now.values ≡ count network.now }
     ensures verdict { IfOk result (IsVerdict network.now query.now proof.now.values) }
     ensures sound { IfOk result (λ verdict. verdict ≡ Verdict.Holds → IsSound network.now query.now proof.now.values) }
 {
@@ -246,8 +245,7 @@ pub fn check(
 /// from the source at the start has a value, and, if source and target are one place, if the start is after
 /// the deadline.
 pub fn least(proof: &LowerBounds, network: &Network, query: &Query) -> Option<u64>
-    requires values { length proof.now.values ≡ count network.now }
-    requires start { query.now.source.0 ≡ query.now.target.0 → query.now.start.0 < end_of_nanos }
+    requires { query.now.source.0 ≡ query.now.target.0 → query.now.start.0 < end_of_nanos }
     ensures { IsLeastAtStart network.now query.now proof.now.values result }
 {
     if query.source == query.target {
