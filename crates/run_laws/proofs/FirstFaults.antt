@@ -22,7 +22,6 @@ module _ (limits : Limits) (files : FileMap) where
   quiet first fault never is = subst (λ (u : Option Input). first u ≡ Some fault) (none_unread fault never) is
 
   module _ (folder : List ℕ) where
-
     of_tables : (fault : FeedFault) → unread_table fault ≡ None → tables_in files folder limits (unread_table fault) ≡ Err fault → tables_in files folder limits None ≡ Err fault
     of_tables fault u is = subst (λ (t : Option Table). tables_in files folder limits t ≡ Err fault) u is
 
