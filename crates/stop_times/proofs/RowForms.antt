@@ -1,9 +1,11 @@
 -- What follows from the form of a row of stop times.
 use Rattle.stop_times.proofs.Common.{rules, ◌≡◌, ℕ, ◌+◌, ◌<◌, ◌≤◌, ◌-◌, ◌==◌, nat_eq, nat_le, ◌&&◌, Bool, List, [], length, slice_index, slice_index_or, Option, Some, None, IfSome, subst, arith}
-use Rattle.stop_times.proofs.Common.{Result, Ok, common_steps, nat_tests, and_parts, result_err, value_or, TripId, StopId, StopSequence, ArrivalTime, DepartureTime, PickupType, DropOffType}
+use Rattle.stop_times.proofs.Common.{drop, Result, Ok, common_steps, nat_tests, and_parts, result_err, value_or, TripId, StopId, StopSequence, ArrivalTime, DepartureTime, PickupType, DropOffType}
 use Rattle.stop_times.proofs.Common.{StopTimes, FeedFault, BadField, UnknownKey, number_in, StopRow, TimedRow, TripsAndStops, time_columns, stop_number_in, times_of, visit_of, timed_from}
 use Rattle.stop_times.proofs.Common.{timed_at, no_row, optional-each, number_inside, end_of_times}
 use Rattle.stop_times.specs.StopTimes.{allows_in, time_in}
+use Rattle.std.specs.{List.list_all, Char.is_ascii_digit}
+use Rattle.std.proofs.Common.{take}
 use Rattle.clock_text.specs.{Digits.whole_of, Times.{time_at, time_of, seconds_of_time}}
 use Rattle.clock_text.proofs.{OneText.{if_cases, some_cases}, DigitLemmas.whole_bound}
 use Rattle.csv_rows.specs.{Ids.{name_in, text_in}, Tables.field_of}
@@ -31,7 +33,9 @@ seconds_below : (h m s n : ℕ) → seconds_of_time h m s ≡ Some n → n < end
 seconds_below h m s n e = grind (arith, common_steps, nat_tests, some_cases, and_parts)
 
 has_marks : ℕ → List ℕ → Bool
-has_marks k t = grind (arith, nat_eq)
+has_marks k t =
+    nat_eq (slice_index t k) 58 && (nat_eq (slice_index t (k + 3)) 58 && (list_all is_ascii_digit (take k t)
+    && (list_all is_ascii_digit (take 2 (drop (k + 1) t)) && list_all is_ascii_digit (take 2 (drop (k + 4) t)))))
 
 of_below : (k : ℕ) (t : List ℕ) (n : ℕ) → time_of k t ≡ Some n → n < end_of_times
 unfolding has_marks
