@@ -1,7 +1,7 @@
 -- What rows say, one more at a time.
-use Rattle.change_times.proofs.Common.{◌≡◌, ℕ, ◌+◌, ◌≤◌, ◌&&◌, Bool, true, false, [], length, count_by, Option, Some, None, IfSome, ◌==◌, if◌then◌else◌, refl, sym, ap, arith, nat_tests, Records}
-use Rattle.change_times.proofs.Common.{FeedParts, Transfer, transfer_columns, transfer_in, transfer_at, TransfersSoFar, seconds_between, link_between, walks_of, AreCollected, ChangeParts}
-use Rattle.change_times.proofs.{Common.AreCollectedChanges, GreatestLemmas.{IsShort, greatest-zero}, LinkLemmas.ways-none}
+use Rattle.change_times.proofs.Common.{◌≡◌, ℕ, ◌+◌, ◌≤◌, Bool, [], length, count_by, Option, Some, None, IfSome, if◌then◌else◌, sym, ap, arith, nat_tests, Records, FeedParts, Transfer}
+use Rattle.change_times.proofs.Common.{transfer_columns, transfer_in, transfer_at, TransfersSoFar, seconds_between, link_between, walks_of, AreCollected, ChangeParts, AreCollectedChanges}
+use Rattle.change_times.proofs.{GreatestLemmas.{IsShort, greatest-zero}, LinkLemmas.ways-none}
 use Rattle.change_times.specs.declared.transfers.TransferColumns.{TransferColumns}
 use Rattle.std.specs.Map.{lookup}
 use Rattle.std.proofs.lemmas.List.Sums.{sum_by-append}
@@ -20,26 +20,21 @@ pub count-next : {A : Type 0} (p : A → Bool) (f : ℕ → A) (n old new : ℕ)
 count-next p f n old new a e h here = grind (arith, sum_by-append, list_below-next)
 
 pub one_at_most : (b : Bool) → (if b then 1 else 0) ≤ 1
-one_at_most true = omega arith
-one_at_most false = omega arith
+one_at_most b = grind arith
 
 short_if : (b : Bool) (seconds : ℕ) → seconds ≤ 86400 → IsShort (if b then Some seconds else None)
-short_if true seconds h = h
-short_if false seconds h = tt
+short_if b seconds h = grind arith
 
 -- the seconds of a short transfer are short
 pub short_between : (from to : ℕ) (o : Option Transfer) → IfSome o (λ transfer. transfer.seconds ≤ 86400) → IsShort (seconds_between from to o)
-short_between from to None h = tt
-short_between from to (Some t) h = short_if (t.from == from && t.to == to) t.seconds h
+short_between from to o h = grind (arith, short_if)
 
 pub short_link : (from to : ℕ) (o : Option Transfer) → IfSome o (λ transfer. transfer.seconds ≤ 86400) → IsShort (link_between from to o)
-short_link from to None h = tt
-short_link from to (Some t) h = grind (arith, short_between)
+short_link from to o h = grind (arith, short_between)
 
 -- no transfer leads from a place to itself as a link
 pub no_own_link : (place : ℕ) (o : Option Transfer) → link_between place place o ≡ None
-no_own_link place None = refl
-no_own_link place (Some t) = grind (arith, nat_tests)
+no_own_link place o = grind (arith, nat_tests)
 
 -- no rows say nothing
 pub no_rows : (feed : FeedParts) (c : ChangeParts) → c.reported ≡ [] → c.links ≡ [] → c.passed ≡ 0 → AreCollectedChanges feed c []

@@ -1,8 +1,8 @@
 -- The names that most proofs of this crate cite, passed on from one place. Declares nothing.
-pub use Rattle.std.proofs.Common.{All, Bool, Err, IfOk, IfSome, List, None, Ok, OnOk, Option, Result, Some, [], add-one, ap, arith, count_by, false, get_or, get_or-set_other, get_or-set_same}
-pub use Rattle.std.proofs.Common.{if◌then◌else◌, is_none, length, length-append, max, nat_eq, refl, set, subst, suc, sym, take, take_all, true, zero, ℕ, ⊎_elim, ◌&&◌, ◌++◌, ◌+◌, ◌-◌, ◌<◌, ◌==◌}
-pub use Rattle.std.proofs.{Common.{◌∙◌, ◌∷◌, ◌≡◌, ◌≤◌}, lemmas.{Bool.{cases_eq, cases_lt, Decides.nat_tests}, List.{append-nil, get_or_append_left, get_or_default, get_or_past, get_or_push}}}
-pub use Rattle.std.proofs.lemmas.List.{take_more, Elements.{All-append, All-get_or, All-nil, All-push, All-weaker}}
+pub use Rattle.std.proofs.Common.{All, Bool, Err, IfOk, IfSome, List, None, Ok, OnOk, Option, Result, Some, [], add-one, ap, arith, count_by, get_or, get_or-set_other, get_or-set_same}
+pub use Rattle.std.proofs.Common.{if◌then◌else◌, is_none, length, length-append, max, nat_eq, refl, set, subst, suc, sym, take, take_all, zero, ℕ, ⊎_elim, ◌++◌, ◌+◌, ◌-◌, ◌<◌, ◌∙◌, ◌∷◌, ◌≡◌, ◌≤◌}
+pub use Rattle.std.proofs.lemmas.{Bool.{cases_eq, cases_lt, Decides.nat_tests}, List.{append-nil, get_or_append_left, get_or_default, get_or_past, get_or_push, take_more, Elements.All-append}}
+pub use Rattle.std.proofs.lemmas.List.Elements.{All-get_or, All-nil, All-push, All-weaker}
 pub use Rattle.csv_rows.proofs.FaultLemmas.{fault-at, fault-first, match_raised, reports-then}
 pub use Rattle.csv_rows.specs.Tables.{row_count}
 pub use Rattle.gtfs_tables.specs.Feeds.{FeedParts}

@@ -1,5 +1,5 @@
 -- The greatest of what is there.
-use Rattle.change_times.proofs.Common.{◌≡◌, ℕ, zero, suc, ◌+◌, ◌≤◌, max, Option, Some, None, IfSome, refl, sym, ap, ◌∙◌, subst, arith, add-one, greater, greatest_below}
+use Rattle.change_times.proofs.Common.{◌≡◌, ℕ, zero, suc, ◌+◌, ◌≤◌, Option, None, IfSome, refl, sym, ap, ◌∙◌, subst, arith, add-one, greater, greatest_below}
 
 pub greatest-zero : (f : ℕ → Option ℕ) → greatest_below f 0 ≡ None
 unfolding greatest_below
@@ -18,22 +18,16 @@ greatest-none f zero none = refl
 greatest-none f (suc n) none = ap (λ x. greater x (f n)) (greatest-none f n none) ∙ none n
 
 pub greater-none : (o : Option ℕ) → greater o None ≡ o
-greater-none None = refl
-greater-none (Some a) = refl
+greater-none o = grind arith
 
 pub greater-assoc : (a b c : Option ℕ) → greater (greater a b) c ≡ greater a (greater b c)
-greater-assoc None b c = refl
-greater-assoc (Some a) None c = refl
-greater-assoc (Some a) (Some b) None = refl
-greater-assoc (Some a) (Some b) (Some c) = let e : max (max a b) c ≡ max a (max b c) = omega arith in ap (λ (n : ℕ). Some n) e
+greater-assoc a b c = grind arith
 
 abbrev pub IsShort : Option ℕ → Type 0
 IsShort o = IfSome o (λ seconds. seconds ≤ 86400)
 
 pub short_greater : (a b : Option ℕ) → IsShort a → IsShort b → IsShort (greater a b)
-short_greater None b h k = k
-short_greater (Some a) None h k = h
-short_greater (Some a) (Some b) h k = omega (arith, h, k)
+short_greater a b h k = grind arith
 
 -- what is short stays short
 pub short_next : (old new o : Option ℕ) → IsShort old → IsShort o → new ≡ greater old o → IsShort new

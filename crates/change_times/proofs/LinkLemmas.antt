@@ -1,8 +1,8 @@
 -- The links into places, built one place after the other.
 use Rattle.change_times.proofs.Common.{◌≡◌, ℕ, zero, suc, ◌+◌, ◌-◌, ◌<◌, max, List, [], ◌∷◌, ◌++◌, length, take, get_or, set, Option, Some, None, refl, sym, ap, ◌∙◌, subst, arith, add-one}
-use Rattle.change_times.proofs.Common.{append-nil, length-append, get_or-set_same, get_or-set_other, OnOk, Result, Ok, Err, cases_eq, nat_tests, get_or_default, get_or_push, take_more}
-use Rattle.change_times.proofs.Common.{All-append, All-get_or, All-nil, All-push, All-weaker, Way, Walk, Transfer, greater, link_from, ways_below, ComeBefore, walk_to, walks_of, most_to}
-use Rattle.change_times.proofs.{Common.link_between, GreatestLemmas.{greater-none, greater-assoc}}
+use Rattle.change_times.proofs.Common.{append-nil, length-append, get_or-set_same, get_or-set_other, OnOk, Result, cases_eq, nat_tests, get_or_default, get_or_push, take_more, All-append}
+use Rattle.change_times.proofs.Common.{All-get_or, All-nil, All-push, All-weaker, Way, Walk, Transfer, greater, link_from, ways_below, ComeBefore, walk_to, walks_of, most_to, link_between}
+use Rattle.change_times.proofs.GreatestLemmas.{greater-none, greater-assoc}
 use Rattle.std.proofs.Math.Seq.{set-append_seam}
 
 pub ways-zero : (f : ℕ → Option ℕ) → ways_below f 0 ≡ []
@@ -27,8 +27,7 @@ ways-same f g zero same = ways-zero f ∙ sym (ways-zero g)
 ways-same f g (suc n) same = grind (arith, ways-suc, ways-same f g n same)
 
 one_before : (n : ℕ) (o : Option ℕ) → ComeBefore (link_from n o) (n + 1)
-one_before n None = All-nil (λ (way : Way). way.from.0 < n + 1)
-one_before n (Some s) = grind (arith, All-push, All-nil)
+one_before n o = grind (arith, All-nil, All-push)
 
 pub ways_before : (f : ℕ → Option ℕ) (n : ℕ) → ComeBefore (ways_below f n) n
 ways_before f zero = subst (λ ws. ComeBefore ws 0) (sym (ways-zero f)) (All-nil (λ (way : Way). way.from.0 < 0))
@@ -56,8 +55,7 @@ pub put-raised : (old base : List Way) (i from seconds most : ℕ) (o : Option �
     → 0 < length old → i ≡ length old - 1
     → last ≡ get_or old i last → last.from.0 ≡ from → most ≡ max last.seconds seconds
     → set old i (record { from = last.from; seconds = most }) ≡ base ++ link_from from (greater o (Some seconds))
-put-raised old base i from seconds most None last before e some at is same m = grind (arith, append-nil, All-get_or)
-put-raised old base i from seconds most (Some s) last before e some at is same m = grind (arith, way, length-append, get_or_push, set, set-append_seam)
+put-raised old base i from seconds most o last before e some at is same m = grind (arith, append-nil, All-get_or, length-append, get_or_push, set-append_seam)
 
 pub add-walk : (walks : List (List Walk)) (t : Transfer) (old new : List Walk) → t.from < length walks → (t.from ≡ t.to → ⊥) → old ≡ get_or walks t.from old
     → new ≡ old ++ record { to = t.to; seconds = t.seconds } ∷ [] → (from to : ℕ)
@@ -65,5 +63,4 @@ pub add-walk : (walks : List (List Walk)) (t : Transfer) (old new : List Walk) �
 add-walk walks t old new inside apart is more from to = grind (arith, cases_eq, get_or_default, set, get_or-set_same, most-push, nat_tests, get_or-set_other, greater-none)
 
 pub by_ok : {T E : Type 0} (r : Result T E) (P Q : Type 0) → (P → Q) → OnOk r P → OnOk r Q
-by_ok (Ok x) P Q f h = f h
-by_ok (Err e) P Q f h = tt
+by_ok r P Q f h = grind arith

@@ -1,9 +1,8 @@
 -- The names that most proofs of this crate cite, passed on from one place. Declares nothing.
 pub use Rattle.std.proofs.Common.{Bool, FitsSigned, List, None, Option, Some, [], ap, arith, drop, eq-eqb, eqb-true, false, get_or, if◌then◌else◌, inl, inr, leb-true, length, ltb-false, ltb-true}
-pub use Rattle.std.proofs.Common.{map, nat_eq, nat_le, nat_lt, negsuc, option_and_then, pos, refl, rules, slice_index, subst, suc, sym, take, take-append-drop, take_all, true, unsigned_abs, w16}
-pub use Rattle.std.proofs.{Common.{w32, w64, w8, zero, ℕ, ℤ, ◌%◌, ◌&&◌, ◌*◌, ◌++◌, ◌+ℤ◌, ◌+◌, ◌-◌, ◌/◌, ◌<ℤ◌, ◌<◌, ◌^◌, ◌∙◌, ◌∷◌, ◌≡◌, ◌≤ℤ◌, ◌≤◌, ◌⊎◌}, lemmas.Bool.{and_from, and_left}}
-pub use Rattle.std.proofs.lemmas.{Bool.{and_parts, and_right, cases_order, Decides.nat_tests}, Grind.common_steps, Int.{by_lt_z, to_z-of_z, to_z_pos}, List.{drop_more, take_more}}
-pub use Rattle.std.proofs.lemmas.Option.{cond_some}
+pub use Rattle.std.proofs.Common.{map, nat_eq, nat_le, nat_lt, negsuc, option_and_then, pos, refl, rules, slice_index, subst, suc, sym, take, take-append-drop, take_all, true, unsigned_abs, w16, w32}
+pub use Rattle.std.proofs.{Common.{w64, w8, zero, ℕ, ℤ, ◌%◌, ◌&&◌, ◌*◌, ◌++◌, ◌+ℤ◌, ◌+◌, ◌-◌, ◌/◌, ◌<ℤ◌, ◌<◌, ◌^◌, ◌∙◌, ◌∷◌, ◌≡◌, ◌≤ℤ◌, ◌≤◌, ◌⊎◌}, lemmas.Bool.{and_from, and_left, and_parts}}
+pub use Rattle.std.proofs.lemmas.{Bool.{and_right, cases_order, Decides.nat_tests}, Grind.common_steps, Int.{by_lt_z, to_z-of_z, to_z_pos}, List.{drop_more, take_more}, Option.cond_some}
 pub use Rattle.std.specs.{Char.is_ascii_digit, List.{list_all, range_with_len}}
 pub use Rattle.jiff_core.proofs.CalendarLemmas.{day_count-day_of_year, day_count-end, day_count-epoch, day_count-later_year, day_count-next_year, day_count_bounds, days_from_civil-day_count}
 pub use Rattle.jiff_core.proofs.{CalendarLemmas.{days_in_month_bounds, days_in_year_bounds, days_of_months-zero, days_of_months_all, days_of_months_more}, DateLemmas.epoch_day-lt}

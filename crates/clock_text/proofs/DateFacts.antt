@@ -30,8 +30,7 @@ epoch_is = omega (arith, signed_arith, days_from_civil-day_count, day_count-epoc
 
 -- a day number is no greater than the days that a span may have
 pub day_size : (day : ℤ) → IsEpochDay day → unsigned_abs day ≤ 7_304_484
-day_size (pos k) h = omega (arith, signed_arith, h.1)
-day_size (negsuc k) h = omega (arith, signed_arith, h.0)
+day_size day h = grind (arith, signed_arith, negsuc)
 
 -- the day number of the first day of 1970
 pub epoch_day_zero : (d : Date) → d.year ≡ pos 1970 → pos d.month ≡ pos 1 → pos d.day ≡ pos 1 → epoch_day d ≡ pos 0

@@ -3,8 +3,7 @@ use Rattle.clock_text.proofs.Common.{◌≡◌, ℕ, ◌+◌, ◌*◌, ◌<◌, 
 use Rattle.clock_text.proofs.{Common.{day_count_bounds, Parts, parts_at, seconds_of_parts, moment_at}, DateFacts.after_epoch, OneText.{Holds, parts_hold, if_cases}}
 
 day_small : (z : ℤ) → pos 0 ≤ℤ z → z ≤ℤ pos 2_932_896 → unsigned_abs z ≤ 2_932_896
-day_small (pos k) low high = omega (arith, signed_arith, high)
-day_small (negsuc k) low high = absurd (omega (arith, signed_arith, low))
+day_small z low high = grind (arith, signed_arith, negsuc)
 
 day_before : (p : Parts) → Holds p → unsigned_abs (days_from_civil (pos p.year) p.month p.day) ≤ 2_932_896
 day_before p h = grind (arith, day_count_bounds, pos, signed_arith, day_small, after_epoch, days_from_civil-day_count)

@@ -1,27 +1,12 @@
 -- A line is a command and its settings, and the other way round.
-use Rattle.command_line.proofs.Common.{◌≡◌, ◌≢◌, ℕ, suc, List, [], ◌∷◌, arith, refl, ap, sym, ◌∙◌, Option, Some, None, Bool, true, false, IsTrue, slice_get, is_none, if◌then◌else◌, All, AllPairs}
-use Rattle.command_line.proofs.Common.{flat_map, find, bytes_eq, position_or_len, OptionName, Cut, Feed, Delays, From, To, At, Alpha, Horizon, Graph, Late, Size, Proof, By, Until, Last}
-use Rattle.command_line.proofs.Common.{option_name, option_named, all_options, Setting, spelled, value_of, value_in, is_new, are_settings}
+use Rattle.command_line.proofs.Common.{◌≡◌, ◌≢◌, ℕ, suc, List, [], ◌∷◌, arith, refl, ap, sym, ◌∙◌, Option, Some, None, Bool, true, IsTrue, slice_get, is_none, if◌then◌else◌, All, AllPairs}
+use Rattle.command_line.proofs.Common.{flat_map, find, bytes_eq, position_or_len, OptionName, option_name, option_named, all_options, Setting, spelled, value_of, value_in, is_new, are_settings}
 use Rattle.std.proofs.lemmas.{Bool.{false≢true, and_parts, false_from_ne_true}, Option.{get_or_from_slice_get, slice_get_within}, List.{Folds.find_at, Recursion.found_nowhere}}
 use Rattle.std.proofs.lemmas.{List.{Sums.passes_at_first, Elements.{All-nil, All-cons}, Kept.AllPairs-cons}, Slice.Eq.bytes_eq-Decides}
 
 -- the word of an option names it
 named : (option : OptionName) → option_named (option_name option) ≡ Some option
-named Cut = refl
-named Feed = refl
-named Delays = refl
-named From = refl
-named To = refl
-named At = refl
-named Alpha = refl
-named Horizon = refl
-named Graph = refl
-named Late = refl
-named Size = refl
-named Proof = refl
-named By = refl
-named Until = refl
-named Last = refl
+named option = grind arith
 
 -- options of one word are one
 same_option : (a b : OptionName) → option_name a ≡ option_name b → a ≡ b
@@ -37,8 +22,7 @@ word_is : (word : List ℕ) (option : OptionName) → option_named word ≡ Some
 word_is word option is = (bytes_eq-Decides word (option_name option)).0 (find-passes (λ o. bytes_eq word (option_name o)) all_options option is)
 
 none_is : {T : Type 0} (o : Option T) → IsTrue (is_none o) → o ≡ None
-none_is None is = refl
-none_is (Some v) is = absurd (false≢true is)
+none_is o is = grind arith
 
 -- no setting has the option
 abbrev IsWithout : List Setting → OptionName → Type 0
@@ -54,9 +38,7 @@ without given option none =
 is_without_at : (s : Setting) (given : List Setting) (option : OptionName) (b : Bool) → bytes_eq (option_name s.option) (option_name option) ≡ b
     → value_in (s ∷ given) option ≡ None → (value_in given option ≡ None → IsWithout given option) → IsWithout (s ∷ given) option
 unfolding value_in
-is_without_at s given option true e none rest = let some = sym (ap (λ (c : Bool). if c then Some s.value else value_in given option) e) ∙ none in absurd (cc)
-is_without_at s given option false e none rest =
-    grind (arith, bytes_eq-Decides, All-cons)
+is_without_at s given option b e none rest = grind (arith, bytes_eq-Decides, All-cons)
 
 is_without : (given : List Setting) (option : OptionName) → value_in given option ≡ None → IsWithout given option
 unfolding value_in
@@ -94,8 +76,7 @@ read_pair name value others (Some option) e fresh given read =
       record {
         words_are = ap (λ (w : List ℕ). w ∷ value ∷ others) word ∙ ap (λ (rest : List (List ℕ)). option_name option ∷ value ∷ rest) read.words_are;
         once = AllPairs-cons (λ (a b : Setting). a.option ≢ b.option) s given none read.once;
-        values = λ other. ap (λ (w : List ℕ). if bytes_eq w (option_name other) then Some value else value_of others other) word
-            ∙ ap (λ (v : Option (List ℕ)). if bytes_eq (option_name option) (option_name other) then Some value else v) (read.values other);
+        values = λ other. grind arith;
       },
     )
 

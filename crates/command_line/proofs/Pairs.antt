@@ -31,16 +31,14 @@ are_settings-short (a ∷ b ∷ more) none short is = absurd (omega arith)
 are_settings-short _ none short is = is
 
 is_none-map : {T U : Type 0} (f : T → U) (o : Option T) → is_none (option_map f o) ≡ not (is_some o)
-is_none-map f None = refl
-is_none-map f (Some v) = refl
+is_none-map f o = grind arith
 
 module _ (words : List (String Global)) (name value : String Global) (word : List ℕ) (p : IsPair words name value word) where
   -- the first pair has the option
   pub value_of-found : (option : OptionName) (known text : List ℕ) → known ≡ option_name option → true ≡ bytes_eq word known → text ≡ string_bytes value
       → Some text ≡ value_of (map string_bytes words) option
   unfolding value_of
-  value_of-found option known text is same t =
-      let test : bytes_eq word (option_name option) ≡ true = (cc) in rw (pair_first words name value word p, test) (ap Some t)
+  value_of-found option known text is same t = grind (arith, pair_first)
 
   -- the first pair has another one
   pub value_of-other : (option : OptionName) (known : List ℕ) → known ≡ option_name option → false ≡ bytes_eq word known → value_of (others words) option ≡ value_of (map string_bytes words) option

@@ -1,13 +1,11 @@
 -- Numbers of names: one for each name.
-use Rattle.cut_file.proofs.Common.{◌≡◌, ℕ, zero, suc, ◌==◌, Bool, true, false, List, [], ◌∷◌, ◌++◌, slice_get, Some, is_some, if◌then◌else◌, refl, arith, Contains, bytes_eq, eq-eqb, ne_eqb}
-use Rattle.cut_file.proofs.Common.{cases_Bool, bytes_eq-Decides, slice_get_within, get_or_from_slice_get, same_Some, AreDistinct, number_in, row, add_new, run_names, place_names}
-use Rattle.cut_file.proofs.NumberFacts.{there_place}
+use Rattle.cut_file.proofs.Common.{◌≡◌, ℕ, zero, suc, ◌==◌, Bool, false, List, [], ◌∷◌, ◌++◌, slice_get, Some, is_some, if◌then◌else◌, arith, Contains, bytes_eq, eq-eqb, ne_eqb, cases_Bool}
+use Rattle.cut_file.proofs.{Common.{bytes_eq-Decides, slice_get_within, get_or_from_slice_get, same_Some, AreDistinct, number_in, row, add_new, run_names, place_names}, NumberFacts.there_place}
 use Rattle.plan_model.proofs.Texts.{AreDistinct-push}
 use Rattle.delay_table.proofs.NumberedFacts.{one_index}
 
 push_if : (names : List (List ℕ)) (x : List ℕ) (b : Bool) → (b ≡ false → Contains names x → ⊥) → AreDistinct names → AreDistinct (if b then names else names ++ x ∷ [])
-push_if names x true absent d = d
-push_if names x false absent d = AreDistinct-push names x d (absent refl)
+push_if names x b absent d = grind (arith, AreDistinct-push)
 
 add_distinct : (names : List (List ℕ)) (x : List ℕ) → AreDistinct names → AreDistinct (add_new names x)
 unfolding add_new

@@ -1,6 +1,6 @@
 -- What the forms of the fields bound.
-use Rattle.cut_file.proofs.Common.{◌≡◌, ℕ, ◌+◌, ◌<◌, ◌≤◌, Bool, true, ◌==◌, nat_lt, List, length, Option, Some, None, Result, Ok, Err, IfSome, if◌then◌else◌, refl, subst, arith, ltb-true}
-use Rattle.cut_file.proofs.Common.{cases_Bool, Column, Class, Run, Step, From, To, Dep, Arr, Board, Exit, Change, same_Some, Row, row_from, row_at, bad_of, bad_field, row_of, row, field}
+use Rattle.cut_file.proofs.Common.{◌≡◌, ℕ, ◌+◌, ◌<◌, ◌≤◌, Bool, true, ◌==◌, nat_lt, List, length, Option, Some, None, Result, Ok, IfSome, if◌then◌else◌, subst, arith, ltb-true, cases_Bool}
+use Rattle.cut_file.proofs.Common.{Column, Class, Run, Step, From, To, Dep, Arr, Board, Exit, Change, same_Some, Row, row_from, row_at, bad_of, bad_field, row_of, row, field}
 use Rattle.cut_file.specs.{CutRows.{before_end, moment_before_end, class_in, flag_in}, declared.lines.TheConstants.MOST_STEP}
 use Rattle.clock_text.proofs.DigitLemmas.{whole_bound}
 use Rattle.clock_text.specs.{Digits.{optional_seconds_of, whole_of}, Times.moment_at}
@@ -23,8 +23,7 @@ end_if b m n h e = grind (arith, cases_Bool b, same_Some)
 
 -- a moment before the end
 end_bound : (o : Option ℕ) (n : ℕ) → before_end o ≡ Some n → n < end_of_arrivals
-end_bound None n e = absurd (cc)
-end_bound (Some m) n e = end_if (nat_lt m end_of_arrivals) m n (ltb-true m end_of_arrivals) e
+end_bound o n e = grind (arith, end_if, nat_lt, ltb-true)
 
 same_ok : (x r : Row) → ◌≡◌ {A = Result Row Column} (Ok x) (Ok r) → x ≡ r
 same_ok x r e = cc
@@ -51,8 +50,7 @@ row_form a b c d e f g h j k =
     })))))))))))
 
 ok_form : (P : Row → Type 0) (o : Result Row Column) (line : ℕ) → bad_of o line ≡ None → ((r : Row) → o ≡ Ok r → P r) → P (row_of o)
-ok_form P (Ok r) line h k = k r refl
-ok_form P (Err column) line h k = absurd (cc)
+ok_form P o line h k = grind arith
 
 -- a row with no bad field is in form
 pub row_in_form : (t : List (List (List ℕ))) (i : ℕ) → bad_field t i ≡ None → InForm (field t Run i) (field t From i) (field t To i) (row t i)

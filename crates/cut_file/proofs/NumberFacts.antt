@@ -27,8 +27,7 @@ absent_place names name h =
     (λ k l. bytes_ne (get_or names k []) name (λ e. h (k, l, get_or_default names k name [] l ∙ e)))
 
 some_from : (o : Option ℕ) → (o ≡ None → ⊥) → is_some o ≡ true
-some_from None h = absurd (h refl)
-some_from (Some k) h = refl
+some_from o h = grind arith
 
 pub there_place : (names : List (List ℕ)) (name : List ℕ) → Contains names name → is_some (number_in name names) ≡ true
 there_place names name c = some_from (number_in name names) (number-contained name names c)

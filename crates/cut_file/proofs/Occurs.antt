@@ -51,9 +51,7 @@ place_occurs t (suc n) p l =
     record {
       at = w.at;
       inside = omega (arith, w.inside);
-      is = ⊎_elim (λ (h : slice_get names p ≡ Some (row t w.at).from). inl (get_add (add_new names x) y p (row t w.at).from (get_add names x p
-          (row t w.at).from h)))
-          (λ (h : slice_get names p ≡ Some (row t w.at).to). inr (get_add (add_new names x) y p (row t w.at).to (get_add names x p (row t w.at).to h))) w.is;
+      is = grind (arith, get_add);
     })
     (λ (new : slice_get (add_new names x) p ≡ Some x). record { at = n; inside = omega arith; is = inl (get_add (add_new names x) y p x new) })
     (new_or_old names x p old))

@@ -31,16 +31,14 @@ after_last : (rows : List CutRow) (b : Key) (i : ℕ) → fault_after rows (Some
 after_last rows b i h = grind (arith, if_none, ltb-false)
 
 seconds_few : (o : Option ℕ) → IfSome o (λ s. s ≤ 86400) → change_seconds_of o ≤ 86400
-seconds_few None h = omega arith
-seconds_few (Some s) h = omega (arith, h)
+seconds_few o h = grind arith
 
 by_few : (b : Bool) (r : CutRow) → IfSome r.change (λ s. s ≤ 86400) → change_by b r ≤ 86400
 by_few b r h = grind (arith, cases_Bool b, seconds_few)
 
 longest_few : (rows : List CutRow) (n p : ℕ) → ((i : ℕ) → i < n → IfSome (cut_row rows i).change (λ s. s ≤ 86400)) → longest rows n p ≤ 86400
 longest_few rows zero p h = omega (arith, longest-zero rows p)
-longest_few rows (suc n) p h =
-    omega (arith, longest-suc rows n p, longest_few rows n p (λ i l. h i (omega arith)), by_few ((cut_row rows n).from == p) (cut_row rows n) (h n (omega arith)))
+longest_few rows (suc n) p h = grind (arith, longest-suc, by_few, longest_few rows n p (λ i l. h i (omega arith)))
 
 from_if : (b : Bool) (s : ℕ) → (b ≡ false → 1 ≤ s) → s ≤ 86400 → (1 ≤ (if b then 120 else s)) × ((if b then 120 else s) ≤ 86400)
 from_if b s h l = grind (arith, cases_Bool b)
@@ -149,11 +147,9 @@ module _ (cut : Cut) (delays : DelayLists) (n : NetworkModel) (s : IsFaultless c
     next = next;
     first = first;
     connections = valid_connection;
-    changes = λ p l.
-        grind (arith, change_fits, longest_few, few_seconds);
+    changes = λ p l. grind (arith, change_fits, longest_few, few_seconds);
     links = subst (AreLinks (length n.change)) (sym net.links) (AreLinks-none (length n.change));
-    rows = λ k l.
-        grind (arith, slice_index_or);
+    rows = λ k l. grind (arith, slice_index_or);
     few_connections = omega (arith, net.connections.size, s.read.key_count, s.read.size, none_of.few, s.few);
     few_places = omega (arith, net.places, ap length s.read.place_names, few_places s.table (row_count s.table), none_of.few, s.few);
     few_classes = omega (arith, ap length net.classes, f.each, f.few);

@@ -1,6 +1,6 @@
 -- A journey that is at its target when it begins.
-use Rattle.decision_graph.proofs.Common.{◌≡◌, ℕ, ◌<◌, ◌≤◌, [], Option, Some, None, MatchOption, MatchOption-at_some, refl, sym, subst, arith, nat_tests, Scoring, ScoreLaws, Leg, Query}
-use Rattle.decision_graph.proofs.Common.{NetworkModel, Tree, Done, Ride, Stuck, IsSafeFor, ExpandedGraph, RideTable, IsBestBy, IsNoneSafe, IsExpandedBy, HasSteadyChoice}
+use Rattle.decision_graph.proofs.Common.{◌≡◌, ℕ, ◌<◌, ◌≤◌, [], Option, Some, None, MatchOption, MatchOption-at_some, sym, subst, arith, nat_tests, Scoring, ScoreLaws, Leg, Query, NetworkModel}
+use Rattle.decision_graph.proofs.Common.{Tree, Done, Ride, Stuck, ExpandedGraph, RideTable, IsBestBy, IsNoneSafe, IsExpandedBy, HasSteadyChoice}
 use Rattle.decision_graph.specs.Planned.{no_rides}
 use Rattle.std.proofs.lemmas.List.Elements.{All-nil}
 use Rattle.plan_model.specs.Unfold.{unfolding_of}
@@ -8,24 +8,12 @@ use Rattle.plan_model.proofs.Lists.{Contains-nil, AllPairs-nil}
 use Rattle.plan_graph.specs.{Unfold.{Precedes, pick_after}, Ready.Stands}
 
 unfolds : (n : NetworkModel) (q : Query) (choice : Leg → ℕ → Option Leg) → q.source.0 ≡ q.target.0 → unfolding_of n q choice None ≡ Done q.start.0
-unfolds n q choice same =
-    grind (arith, nat_tests)
+unfolds n q choice same = grind (arith, nat_tests)
 
 -- to have arrived is the one safe strategy
 module _ {V : Type 0} (scoring : Scoring V) (laws : ScoreLaws scoring) where
-  below_all : (n : NetworkModel) (q : Query) → q.source.0 ≡ q.target.0 → (tree : Tree) → IsSafeFor n q tree → scoring.below (scoring.arrived q.start.0) tree
-  below_all n q same (Done moment) safe = subst (λ (m : ℕ). scoring.below (scoring.arrived q.start.0) (Done m)) (sym safe.0) (laws.arrived_below q.start.0)
-  below_all n q same (Ride i j kids) safe = absurd (safe.0 same)
-  below_all n q same (Stuck p x) safe = absurd safe
-
   best_at_once : (n : NetworkModel) (q : Query) → q.source.0 ≡ q.target.0 → q.start.0 ≤ q.deadline.0 → IsBestBy scoring n q (Done q.start.0) (scoring.arrived q.start.0)
-  best_at_once n q same early = record {
-    safe = (refl, same, early);
-    covers_own = laws.arrived_covers q.start.0;
-    below_safe = below_all n q same;
-    gap_within = let none = laws.arrived_gap q.start.0 in omega arith;
-    at_once = λ same. refl;
-  }
+  best_at_once n q same early = grind arith
 
   pub expanded_at_once : (n : NetworkModel) (q : Query) (graph : ExpandedGraph) (value : V) → q.source.0 ≡ q.target.0 → q.start.0 ≤ q.deadline.0
       → graph ≡ no_rides → value ≡ scoring.arrived q.start.0 → IsExpandedBy scoring n q graph value

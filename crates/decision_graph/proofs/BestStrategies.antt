@@ -1,4 +1,5 @@
 -- From what a scan promises to a best strategy.
+use Rattle.std.proofs.Common.{rules}
 use Rattle.decision_graph.proofs.Common.{◌≡◌, ◌≢◌, List, Some, ◌∙◌, MatchOption-at_some, Leg, Query, NetworkModel, Tree, ExpandedGraph, Scoring, FollowsRules, arith, IsByRules, IsBestBy}
 use Rattle.decision_graph.proofs.Common.{IsNoneSafe, IsExpandedBy, HasSteadyChoice}
 use Rattle.plan_model.specs.{declared.model.ConnectionId.ConnectionId, Order.IsScanOrder}
@@ -13,13 +14,7 @@ module _ {V : Type 0} (scoring : Scoring V)
     (n : NetworkModel) (q : Query) (found : ScanResult V) where
   -- the strategy of the start is a best one
   best_strategy : (start : V × Leg) → q.source.0 ≢ q.target.0 → IsStartAnswer scoring n q found start → IsBestBy scoring n q (chosen_by n q found start.1) start.0
-  best_strategy start differ answer = record {
-    safe = answer.safe;
-    covers_own = answer.covers_chosen;
-    below_safe = answer.below_safe;
-    gap_within = answer.gap_within;
-    at_once = λ same. absurd (differ same);
-  }
+  best_strategy start differ answer = grind arith
 
   abbrev ByRules : Tree → V → Type 0
   ByRules = IsByRules scoring n q

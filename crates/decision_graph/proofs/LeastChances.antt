@@ -8,5 +8,4 @@ none_late promise start by = let test : nat_le start promise ≡ true = grind (a
 
 pub least_chance : (n : NetworkModel) (q : Query) (graph : PlanGraph) (chance : Interval)
     → IsPlannedBy chance_scoring n q graph chance → IsLeastChance n q graph chance
-least_chance n q graph chance by =
-    grind (arith, none_late)
+least_chance n q graph chance by = grind (arith, none_late)

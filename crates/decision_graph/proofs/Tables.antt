@@ -7,5 +7,4 @@ pub planned : {V : Type 0} (scoring : Scoring V)
     (n : NetworkModel) (q : Query) (graph pruned : ExpandedGraph) (plan : PlanGraph) (value : V) → IsExpandedBy scoring n q graph value
     → unfold_expanded pruned n q ≡ unfold_expanded graph n q → unfold_plan plan n q ≡ unfold_expanded pruned n q → IsTidy n q plan
     → IsPlannedBy scoring n q plan value
-planned scoring n q graph pruned plan value expanded prunes compacts tidy =
-    grind arith
+planned scoring n q graph pruned plan value expanded prunes compacts tidy = grind arith

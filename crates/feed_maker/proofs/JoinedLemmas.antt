@@ -5,8 +5,7 @@ use Rattle.std.specs.List.{range_with_len}
 
 range_with_len-suc : (a n : ℕ) → range_with_len a (suc n) ≡ range_with_len a n ++ (a + n) ∷ []
 range_with_len-suc a zero = let e : a ≡ a + 0 = omega arith in ap (λ k. k ∷ []) e
-range_with_len-suc a (suc n) =
-    grind (arith, range_with_len-suc (a + 1) n)
+range_with_len-suc a (suc n) = grind (arith, range_with_len-suc (a + 1) n)
 
 pub joined-add_one : (piece : ℕ → List ℕ) (n : ℕ) → joined piece (n + 1) ≡ joined piece n ++ piece n
 unfolding joined

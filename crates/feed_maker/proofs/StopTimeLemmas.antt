@@ -11,14 +11,12 @@ rows_from-first line count next e = ap (λ n. rows_from line n) e
 pub remaining_first : (lines : ℕ) (made : List ℕ) → made ≡ codes "trip_id,arrival_time,departure_time,stop_id,stop_sequence\n"
     → drop 0 made ++ rows_from 0 (lines - 0) ≡ stop_times_text lines
 unfolding stop_times_text joined
-remaining_first lines made is =
-    grind arith
+remaining_first lines made is = grind arith
 
 -- the rows of one line more, where those before are read
 pub remaining_next : (text made : List ℕ) (offset line lines : ℕ) → length text ≤ offset → line < lines → made ≡ line_rows line
     → drop 0 made ++ rows_from (line + 1) (lines - (line + 1)) ≡ drop offset text ++ rows_from line (lines - line)
-remaining_next text made offset line lines read more is =
-    grind (arith, common_steps, rows_from-first)
+remaining_next text made offset line lines read more is = grind (arith, common_steps, rows_from-first)
 
 -- a read moves a front of it
 pub remaining_after : (text lent buffer rows : List ℕ) (offset count : ℕ) → lent ≡ text

@@ -90,8 +90,7 @@ pub found : {T : Type 0} (es : List (Named T)) (q : List ℕ) (i : ℕ) (e : Nam
 found es q i e s = (position_gives es q i e s.position_is).1 ∙ ap (λ (x : Named _). Some x.value) (sym s.item)
 
 pub path_is : {T : Type 0} (es : List (Named T)) (q : List ℕ) (i : ℕ) (e : Named T) → IsEntryAt es q i e → string_bytes e.path ≡ q
-path_is es q i e s =
-    grind (arith, position-Some, bytes_eq-Decides)
+path_is es q i e s = grind (arith, position-Some, bytes_eq-Decides)
 
 -- a value put in the place of the one at this path
 pub put_over : {T : Type 0} (es : List (Named T)) (q p : List ℕ) (i : ℕ) (v : T) (e : Named T) → IsEntryAt es q i e
@@ -101,5 +100,4 @@ put_over es q p i v e s = set_gives es q p i (record { path = e.path; value = v 
 -- or at the end
 pub put_last : {T : Type 0} (es lent new : List (Named T)) (q p : List ℕ) (w : Named T) (r : Option ℕ) → r ≡ position (at_path q) lent → lent ≡ es → r ≡ None
     → string_bytes w.path ≡ q → new ≡ es ++ w ∷ [] → value_at new p ≡ if◌then◌else◌ (bytes_eq q p) (Some w.value) (value_at es p)
-put_last es lent new q p w r a b k path n =
-    grind (arith, searched, push_gives)
+put_last es lent new q p w r a b k path n = grind (arith, searched, push_gives)

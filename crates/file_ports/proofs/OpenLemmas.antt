@@ -1,7 +1,7 @@
 -- The open file, by its index.
-use Rattle.file_ports.proofs.Common.{◌≡◌, ◌⊎◌, inl, inr, subst, ◌<◌, ℕ, ◌+◌, ◌-◌, ◌≤◌, min, List, [], ◌∷◌, ◌++◌, Bool, true, false, length, refl, ap, sym, ◌∙◌, map, drop, take, get_or, arith}
-use Rattle.file_ports.proofs.Common.{position-Some, take_rest, drop_min, drop-drop, take-append-drop, bytes_eq-Decides, common_steps, Consumes, IsAtEnd, Named, value_at, FileMap, file_at}
-use Rattle.file_ports.proofs.NamedLemmas.{at_path, position_gives, position_gives_none}
+use Rattle.file_ports.proofs.Common.{◌≡◌, ◌⊎◌, subst, ◌<◌, ℕ, ◌+◌, ◌-◌, ◌≤◌, min, List, [], ◌∷◌, ◌++◌, Bool, length, refl, ap, sym, ◌∙◌, map, drop, take, get_or, arith, position-Some, take_rest}
+use Rattle.file_ports.proofs.{Common.{drop_min, drop-drop, take-append-drop, bytes_eq-Decides, common_steps, Consumes, IsAtEnd, Named, value_at, FileMap, file_at}, NamedLemmas.at_path}
+use Rattle.file_ports.proofs.NamedLemmas.{position_gives, position_gives_none}
 use Rattle.std.specs.Prelude.{Option, None, Some, IsSome, IfSome, is_some, if◌then◌else◌, bytes_eq, string_bytes, position, option_map, option_and_then, slice_get}
 use Rattle.std.proofs.lemmas.Option.{slice_get-get_or, slice_get_cases}
 
@@ -11,8 +11,7 @@ pairs bytes es = map (λ e. (string_bytes e.path, bytes e.value)) es
 
 file_step : {T : Type 0} (bytes : T → List ℕ) (b : Bool) (v : T) (fs : Option (List ℕ)) (es : Option T) → fs ≡ option_map bytes es
     → if◌then◌else◌ b (Some (bytes v)) fs ≡ option_map bytes (if◌then◌else◌ b (Some v) es)
-file_step bytes true v fs es h = refl
-file_step bytes false v fs es h = h
+file_step bytes b v fs es h = grind arith
 
 pub file_of : {T : Type 0} (bytes : T → List ℕ) (es : List (Named T)) (q : List ℕ) → file_at (pairs bytes es) q ≡ option_map bytes (value_at es q)
 file_of bytes [] q = refl
@@ -74,15 +73,12 @@ held_at es current i x h = slice_get-get_or es i x h.in_range ∙ ap Some (sym h
 
 pub open_remaining : {T : Type 0} (bytes : T → List ℕ) (es : List (Named T)) (offset : ℕ) (current : Option ℕ) (i : ℕ) (x : Named T) → Holds es current i x
     → remaining_in bytes es offset current ≡ Some (drop offset (bytes x.value))
-open_remaining {T} bytes es offset current i x h =
-    ap (remaining_in bytes es offset) h.current_is ∙ ap (λ o. option_map (λ (e : Named T). drop offset (bytes e.value)) o) (held_at es current i x h)
+open_remaining {T} bytes es offset current i x h = grind (arith, held_at)
 
 range_cases : {T : Type 0} (es : List (Named T)) (i : ℕ) (o : Option (Named T))
     → ((x : Named T) × (i < length es) × (o ≡ Some x) × (get_or es i x ≡ x)) ⊎ ((length es ≤ i) × (o ≡ None))
     → IsSome (option_map (λ (e : Named T). string_bytes e.path) o) → i < length es
-range_cases es i o (inl f) s = f.1
-range_cases {T} es i o (inr f) s =
-    grind arith
+range_cases es i o h1 s = grind arith
 
 current_in_range : {T : Type 0} (es : List (Named T)) (current : Option ℕ) (i : ℕ) → current ≡ Some i → IsSome (open_in es current) → i < length es
 current_in_range es current i h s = range_cases es i (slice_get es i) (slice_get_cases es i).1 (ap (λ o. is_some (open_in es o)) (sym h) ∙ s)
@@ -95,8 +91,7 @@ if_some_at o x P e p = subst (λ (z : Option _). IfSome z P) (sym e) p
 
 -- the rest that a slice from this offset on lends, of the list that was lent
 rest_is : (xs ys : List ℕ) (offset from k : ℕ) → ys ≡ xs → from ≡ min offset k → k ≡ length ys → take (length ys - from) (drop from ys) ≡ drop offset xs
-rest_is xs ys offset from k e f l =
-    grind (arith, take_rest, drop_min)
+rest_is xs ys offset from k e f l = grind (arith, take_rest, drop_min)
 
 -- a read gives as much as it may
 pub read_count : (xs ys : List ℕ) (offset from k n piece room : ℕ) → ys ≡ xs → from ≡ min offset k → k ≡ length ys
@@ -117,8 +112,7 @@ moved xs ys buf offset from k n e f l t =
 -- and it is nothing only where nothing remains
 pub at_end : (xs ys : List ℕ) (offset from k n piece room : ℕ) → ys ≡ xs → from ≡ min offset k → k ≡ length ys
     → n ≡ min (min piece room) (length (take (length ys - from) (drop from ys))) → 0 < piece → 0 < room → n ≡ 0 → drop (from + n) xs ≡ []
-at_end xs ys offset from k n piece room e f l h p r z =
-    grind (arith, read_count, common_steps)
+at_end xs ys offset from k n piece room e f l h p r z = grind (arith, read_count, common_steps)
 
 pub consumes_known : (a b : Option (List ℕ)) (xs ys bs : List ℕ) → a ≡ Some xs → b ≡ Some ys → xs ≡ bs ++ ys → Consumes a b bs
 consumes_known a b xs ys bs p q h = rw (p, q) h
@@ -128,13 +122,10 @@ end_known b ys q h = rw q h
 
 put_cases : {T : Type 0} (bytes : T → List ℕ) (b : Bool) (v : T) (o : Option T) (f : Option (List ℕ)) (new : List ℕ) → f ≡ option_map bytes o → bytes v ≡ new
     → option_map bytes (if◌then◌else◌ b (Some v) o) ≡ if◌then◌else◌ b (Some new) f
-put_cases bytes true v o f new h k = ap Some k
-put_cases bytes false v o f new h k = sym h
+put_cases bytes b v o f new h k = grind arith
 
 -- a file put at a path
 pub put_file : {T : Type 0} (bytes : T → List ℕ) (old now : List (Named T)) (q p : List ℕ) (v : T) (new : List ℕ) → bytes v ≡ new
     → value_at now p ≡ if◌then◌else◌ (bytes_eq q p) (Some v) (value_at old p)
     → file_at (pairs bytes now) p ≡ if◌then◌else◌ (bytes_eq q p) (Some new) (file_at (pairs bytes old) p)
-put_file bytes old now q p v new k h =
-    file_of bytes now p ∙ ap (λ o. option_map bytes o) h
-    ∙ put_cases bytes (bytes_eq q p) v (value_at old p) (file_at (pairs bytes old) p) new (file_of bytes old p) k
+put_file bytes old now q p v new k h = grind (arith, file_of, put_cases)

@@ -23,8 +23,7 @@ module _ (n : NetworkModel) (place : ℕ) where
   IsReadyHere row = IsReadyRow n place row
 
   apart_last : (last : Option ℕ) (x limit : ℕ) → IsApart last x → x ≤ limit → is_last last limit ≡ false
-  apart_last None x limit apart within = refl
-  apart_last (Some moment) x limit apart within = let less : moment < limit = omega (arith, apart, within) in grind (arith, nat_tests)
+  apart_last last x limit apart within = grind (arith, nat_tests)
 
   -- the first by its limit has the leg of the first in time
   pub first_by_limits : (rows : List GraphRow) (last : Option ℕ) (x : ℕ) (leg : Leg) (limit : ℕ)

@@ -9,8 +9,7 @@ use Rattle.plan_model.specs.declared.model.Connection.{Connection}
 -- ---- in order
 
 not_later : (a b : Departure) → IsInOrder a b → a.dep.0 ≤ b.dep.0
-not_later a b (inl sooner) = omega arith
-not_later a b (inr level) = omega (arith, level.0)
+not_later a b h1 = grind arith
 
 pub exits_in_order : (n : NetworkModel) (legs : List GraphLeg) (xs ys : List Departure) → All (λ leg. (exit_of leg).0 < count n) legs
     → xs ≡ map (λ leg. departure_of n (exit_of leg)) legs → IsPermutation xs ys → AllPairs IsInOrder ys → AreExits n legs ys

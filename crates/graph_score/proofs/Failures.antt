@@ -26,8 +26,7 @@ IsFirst (Some f) F = IsFirstFailure F f.place.0 f.moment.0
 
 -- the same, in other words
 reported_as : (first : Option Failure) (F G : May) → ((p x : ℕ) → F p x → G p x) → ((p x : ℕ) → G p x → F p x) → IsFirst first F → IsFirst first G
-reported_as None F G there back is = λ p x may. is p x (back p x may)
-reported_as (Some f) F G there back is = record { fails = there f.place.0 f.moment.0 is.fails; first = λ r y may. is.first r y (back r y may) }
+reported_as first F G there back is = grind arith
 
 -- the sooner of two first failures is the first of both
 first_both : (a f : Failure) (F G : May) → IsFirst (Some a) F → IsFirst (Some f) G → IsFirst (Some (sooner_failure (Some a) f)) (λ p x. F p x ⊎ G p x)
@@ -36,9 +35,7 @@ first_both a f F G own other = grind (arith, nat_tests)
 module _ (n : NetworkModel) (q : Query) where
   -- with what comes of one tree more
   with_tree : (first : Option Failure) (child : Outlook) (tree : Tree) (F : May) → IsFirst first F → IsOutlook n q child tree → IsFirst (with_outlook first child) (λ p x. F p x ⊎ Fails q tree p x)
-  with_tree first (Safe span) tree F is own = grind (arith, reported_as)
-  with_tree None (Failing f) tree F is own = grind (arith, reported_as)
-  with_tree (Some a) (Failing f) tree F is own = first_both a f F (Fails q tree) is own
+  with_tree first child tree F is own = grind (arith, reported_as, first_both)
 
   first_reported : (row : List Outcome) (values : List Outlook) (kids : Kids) (first : Option Failure) (F : May) → EachKid (IsOutlook n q) row values kids
       → IsFirst first F → IsFirst (first_failure_of first values) (λ p x. F p x ⊎ FailsIn q kids p x)

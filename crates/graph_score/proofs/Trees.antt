@@ -18,9 +18,7 @@ mutual
   none_can_fail n q (Kid w tree kids) (o ∷ row) p arrival safe r y (inr there) = none_can_fail n q kids row p arrival safe.2 r y there
 
 pub safe_never_fails : (n : NetworkModel) (q : Query) (tree : Tree) → IsSafeFor n q tree → (r y : ℕ) → Fails q tree r y → ⊥
-safe_never_fails n q (Done a) safe r y fails = omega (arith, safe.0, safe.2, fails.2)
-safe_never_fails n q (Ride i j kids) safe r y fails = none_can_fail n q kids (outcomes n j) (to_of n j) (arr_of n j) safe.3 r y fails
-safe_never_fails n q (Stuck place moment) safe r y fails = absurd safe
+safe_never_fails n q tree safe r y fails = grind (arith, none_can_fail)
 
 -- the row whose leg is taken
 pub taken_row : (n : NetworkModel) (tables : List PlaceTable) → AreFitRows n tables → (p x : ℕ) (leg : Leg) → pick_at tables p x ≡ Some leg → IsLegOf n leg × IsBoardable n p x leg.enter.0
@@ -43,13 +41,11 @@ module _ (n : NetworkModel) (q : Query) (tables : List PlaceTable) (fit : AreFit
 
   -- at the target
   pub after-there : (rides : ℕ) (leg : Leg) (x : ℕ) → end_of n leg ≡ q.target.0 → next_after rides leg x ≡ Done x
-  after-there zero leg x there = rw (eq-eqb (end_of n leg) q.target.0 there) refl
-  after-there (suc rides) leg x there = rw (eq-eqb (end_of n leg) q.target.0 there) refl
+  after-there rides leg x there = grind (arith, eq-eqb)
 
   -- where no leg is taken
   pub after-stuck : (rides : ℕ) (leg : Leg) (x : ℕ) → end_of n leg ≢ q.target.0 → pick_at tables (end_of n leg) x ≡ None → next_after rides leg x ≡ Stuck (end_of n leg) x
-  after-stuck zero leg x away none = rw (ne_eqb (end_of n leg) q.target.0 away) refl
-  after-stuck (suc rides) leg x away none = rw (ne_eqb (end_of n leg) q.target.0 away) (ap (λ next. ride_or_stuck n (next_after rides) next (end_of n leg) x) none)
+  after-stuck rides leg x away none = grind (arith, ne_eqb)
 
   -- where one is taken, and no more rides may follow
   after-over : (leg : Leg) (x : ℕ) → end_of n leg ≢ q.target.0 → next_after zero leg x ≡ Stuck (end_of n leg) x
@@ -66,8 +62,7 @@ module _ (n : NetworkModel) (q : Query) (tables : List PlaceTable) (fit : AreFit
   children_safe : (next : ℕ → Tree) (p scheduled : ℕ) → ((x : ℕ) → Never (next x) → SafeHere (next x) p x) → (row : List Outcome)
       → ((r y : ℕ) → FailsIn q (kids_after next scheduled row) r y → ⊥) → AreSafe n q.target.0 (Some q.deadline.0) (kids_after next scheduled row) row p scheduled
   children_safe next p scheduled each [] never = tt
-  children_safe next p scheduled each (o ∷ row) never =
-      (refl, each (scheduled + o.delay) (λ r y fails. never r y (inl fails)), children_safe next p scheduled each row (λ r y fails. never r y (inr fails)))
+  children_safe next p scheduled each (o ∷ row) never = grind (arith, children_safe next p scheduled each row (λ r y fails. never r y (inr fails)))
 
   -- what holds of who has arrived, of who is stuck and of each ride, since it does of what is done after it, holds of what is done after each leg
   after_each : (P : ℕ → Leg → ℕ → Tree → Type 0) → ((rides : ℕ) (leg : Leg) (x : ℕ) → end_of n leg ≡ q.target.0 → P rides leg x (Done x))

@@ -1,6 +1,6 @@
 -- The names that most proofs of this crate cite, passed on from one place. Declares nothing.
-pub use Rattle.std.proofs.Common.{All, Contains, List, MatchOption, None, Option, Some, [], ap, arith, get_or, inl, inr, le-leb, leb-true, length, map, nat_le, refl, subst, suc, sum_by, sym}
-pub use Rattle.std.proofs.{Common.{take, true, zero, ℕ, ⊎_elim, ◌%◌, ◌*◌, ◌+◌, ◌-◌, ◌/◌, ◌<◌, ◌^◌, ◌∙◌, ◌∷◌, ◌≡◌, ◌≤◌}, Math.Nat.{div-div-eq-div-mul, mul-add, mul-le-mul_left, mul_comm}}
+pub use Rattle.std.proofs.Common.{All, Contains, List, MatchOption, Option, Some, [], ap, arith, get_or, inl, inr, le-leb, leb-true, length, map, nat_le, refl, subst, suc, sum_by, sym, take}
+pub use Rattle.std.proofs.{Common.{true, zero, ℕ, ⊎_elim, ◌%◌, ◌*◌, ◌+◌, ◌-◌, ◌/◌, ◌<◌, ◌^◌, ◌∙◌, ◌∷◌, ◌≡◌, ◌≤◌}, Math.Nat.{div-div-eq-div-mul, mul-add, mul-le-mul_left, mul_comm}}
 pub use Rattle.std.proofs.lemmas.{Bool.Decides.nat_tests, List.{get_or-map, length-map, map_more}}
 pub use Rattle.interval_fixed.specs.Interval.{Interval, mean_of, weighted_hi}
 pub use Rattle.plan_graph.specs.{Tidy.{IsFit, IsFitRow, IsFitStart, IsFitTable, IsPickedIn, IsTidy}, Unfold.unfold_plan, declared.{GraphRow.GraphRow, PlanGraph.PlanGraph}}

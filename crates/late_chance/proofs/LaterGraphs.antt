@@ -1,8 +1,8 @@
 -- A graph for a view, with all moments greater by the shift, is one for the network.
-use Rattle.late_chance.proofs.Common.{◌≡◌, ℕ, ◌+◌, ◌<◌, ◌≤◌, Option, Some, None, List, [], ◌∷◌, length, map, All, Contains, refl, sym, ap, ◌∙◌, subst, inl, inr, arith, MatchOption, length-map}
-use Rattle.late_chance.proofs.Common.{Outcome, Query, NetworkModel, from_of, dep_of, outcomes, Tree, Done, Ride, Stuck, Kids, Nil, Kid, IsSafe, AreSafe, IsSafeFromStart, IsSafeFor, later_by}
-use Rattle.late_chance.proofs.Common.{all_later_by, limit_of-some, way_takes, earlier_by-is, seen, leg_there, departs, same_way, start_there, GraphRow, PlanGraph, IsFitRow, IsFitTable}
-use Rattle.late_chance.proofs.Common.{IsFitStart, IsFit, IsPickedIn, IsTidy, unfold_plan, later_row, later_table, later_graph, later_query, IsShown, LaterAlike}
+use Rattle.late_chance.proofs.Common.{◌≡◌, ℕ, ◌+◌, ◌<◌, ◌≤◌, Option, Some, List, [], ◌∷◌, length, map, All, Contains, refl, sym, ap, ◌∙◌, subst, inl, inr, arith, MatchOption, length-map, Outcome}
+use Rattle.late_chance.proofs.Common.{Query, NetworkModel, from_of, dep_of, outcomes, Tree, Ride, Kids, Nil, Kid, IsSafe, AreSafe, IsSafeFromStart, IsSafeFor, later_by, all_later_by}
+use Rattle.late_chance.proofs.Common.{limit_of-some, way_takes, earlier_by-is, seen, leg_there, departs, same_way, start_there, GraphRow, PlanGraph, IsFitRow, IsFitTable, IsFitStart, IsFit}
+use Rattle.late_chance.proofs.Common.{IsPickedIn, IsTidy, unfold_plan, later_row, later_table, later_graph, later_query, IsShown, LaterAlike}
 use Rattle.std.proofs.lemmas.List.Elements.{All-map, All-weaker}
 use Rattle.plan_model.specs.{declared.model.Leg.Leg, Ways.limit_of, Unfold.{end_of, arrival_of, by_place}}
 use Rattle.plan_model.proofs.{LaterTrees.{same_end, same_arrival, same_row, unfold_from-later}, Lists.AllPairs-map}
@@ -29,10 +29,9 @@ all_mapped f P Q xs to all = All-map Q f xs (All-weaker P (λ a. Q (f a)) to xs 
 module _ (n : NetworkModel) (target : ℕ) (by : Option ℕ) (leg : Leg) where
   mutual
     stands : (tree : Tree) (p x : ℕ) → IsSafe n target by tree p x → Stands leg tree → IsLegOf n leg
-    stands (Done a) p x h there = absurd there
     stands (Ride i j kids) p x h (inl here) = let e = here.0 in let f = here.1 in rw (e, f) h.1
     stands (Ride i j kids) p x h (inr below) = stands_in kids (outcomes n j) _ _ h.3 below
-    stands (Stuck q y) p x h there = absurd there
+    stands _ p x h there = absurd there
 
     stands_in : (kids : Kids) (row : List Outcome) (p a : ℕ) → AreSafe n target by kids row p a → StandsIn leg kids → IsLegOf n leg
     stands_in Nil row p a h there = absurd there
@@ -41,17 +40,13 @@ module _ (n : NetworkModel) (target : ℕ) (by : Option ℕ) (leg : Leg) where
     stands_in (Kid w tree kids) (o ∷ os) p a h (inr below) = stands_in kids os p a h.2 below
 
   stands_start : (tree : Tree) (source x : ℕ) → IsSafeFromStart n target by tree source x → Stands leg tree → IsLegOf n leg
-  stands_start (Done a) source x h there = absurd there
-  stands_start (Ride i j kids) source x h (inl here) = let e = here.0 in let f = here.1 in rw (e, f) h.1
-  stands_start (Ride i j kids) source x h (inr below) = stands_in kids (outcomes n j) _ _ h.3 below
-  stands_start (Stuck q y) source x h there = absurd there
+  stands_start tree source x h there = grind (arith, stands_in)
 
 mutual
   stands_later : (shift : ℕ) (leg : Leg) (tree : Tree) → Stands leg tree → Stands leg (later_by shift tree)
-  stands_later shift leg (Done a) there = absurd there
   stands_later shift leg (Ride i j kids) (inl here) = inl here
   stands_later shift leg (Ride i j kids) (inr below) = inr (stands_in_later shift leg kids below)
-  stands_later shift leg (Stuck p x) there = absurd there
+  stands_later shift leg _ there = absurd there
 
   stands_in_later : (shift : ℕ) (leg : Leg) (kids : Kids) → StandsIn leg kids → StandsIn leg (all_later_by shift kids)
   stands_in_later shift leg Nil there = absurd there
@@ -93,8 +88,7 @@ module _ (n m : NetworkModel) (shift first : ℕ) (q : Query) (shown : IsShown n
 
   starts_later : (o : Option Leg) (tables : List PlaceTable) → MatchOption o ((q.source.0 ≡ q.target.0) × (tables ≡ [])) (IsFitStart n q)
       → MatchOption o ((q.source.0 ≡ q.target.0) × (map (later_table shift) tables ≡ [])) (IsFitStart m (later_query shift q))
-  starts_later None tables h = (h.0, ap (map (later_table shift)) h.1)
-  starts_later (Some leg) tables h = start_later leg h
+  starts_later o tables h = grind (arith, start_later)
 
   module _ (graph : PlanGraph) where
     fit_later : IsFit n q graph → IsFit m (later_query shift q) (later_graph shift graph)

@@ -56,9 +56,7 @@ module _ (scale : ℕ) (leaf : ℕ → ℕ) (n : NetworkModel) (target d : ℕ) 
 
   pub from_start : (tree : Tree) (q : Query) → q.target.0 ≡ target → q.deadline.0 ≡ d → IsSafeFor n q tree
       → (rounded_up scale leaf tree ≡ 0) × (rounded_down scale leaf tree ≡ 0)
-  from_start (Done a) q there by safe = grind (arith, leaf_none)
-  from_start (Ride i j kids) q there by safe = grind (arith, sum_up_none, sum_down_none)
-  from_start (Stuck p x) q there by safe = absurd safe
+  from_start tree q there by safe = grind (arith, leaf_none, sum_up_none, sum_down_none)
 
 same_interval : (a : Interval) → a.lo ≡ 0 → a.hi ≡ 0 → a ≡ record { lo = 0; hi = 0 }
 same_interval a l h = λ i. record { lo = l i; hi = h i }

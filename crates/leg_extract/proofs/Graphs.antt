@@ -1,5 +1,5 @@
 -- The graph of the rides that a scan's choices reach.
-use Rattle.std.proofs.Common.{arith, ◌≡◌, ◌≢◌, ℕ, List, [], map, Option, Some, None, Contains, sym, subst, refl, inl, inr, ◌∙◌, ap, ◌==◌, if◌then◌else◌, MatchOption, option_map, ne_eqb, eq-eqb}
+use Rattle.std.proofs.Common.{arith, ◌≡◌, ◌≢◌, ℕ, List, [], map, Option, Some, Contains, sym, subst, refl, inl, inr, ◌∙◌, ap, ◌==◌, if◌then◌else◌, MatchOption, option_map, ne_eqb, eq-eqb}
 use Rattle.std.proofs.lemmas.{Bool.cases_eq, List.Elements.All-contains}
 use Rattle.plan_model.specs.{declared.model.{Leg.Leg, Query.Query}, Network.{NetworkModel, IsValid, arr_of}, Tree.Tree, Strategy.IsSafeFor, Ways.IsKept, Unfold.{end_of, arrival_of, outcomes_of}}
 use Rattle.plan_model.specs.Unfold.{by_place}
@@ -14,16 +14,14 @@ module _ {V : Type 0} {scoring : Scoring V} (n : NetworkModel) (q : Query) (foun
   steady_by : (place arrival : ℕ) (leg : Leg) (choice : Option (V × Leg))
       → MatchOption choice ((tree : Tree) → IsSafeAt n q place arrival tree → ⊥) (SolvesEach scoring n q found place arrival)
       → option_map (λ c. c.1) choice ≡ Some leg → IsKept n (leg_choice found) place arrival leg
-  steady_by place arrival leg None answer is = absurd (cc)
-  steady_by place arrival leg (Some choice) answer is = let one : choice.1 ≡ leg = (cc) in subst (λ (l : Leg). IsKept n (leg_choice found) place arrival l) one answer.kept
+  steady_by place arrival leg choice answer is = grind arith
 
   -- what is chosen is kept
   pub steady : IsSteady n q.target.0 (leg_choice found)
   steady place arrival leg away is = steady_by place arrival leg (choice_of found place arrival) (answers.goes_on place arrival away) is
 
   pub safe_start : (start : V × Leg) → found.start ≡ Some start → IsSafeFor n q (chosen_by n q found start.1)
-  safe_start start is =
-      grind arith
+  safe_start start is = grind arith
 
   module _ (valid : IsValid n) (differ : q.source.0 ≢ q.target.0) (start : V × Leg) (starts : found.start ≡ Some start) (rides : List Ride)
       (walked : IsWalked n q (by_place n (leg_choice found)) start.1 rides) where
@@ -39,8 +37,7 @@ module _ {V : Type 0} {scoring : Scoring V} (n : NetworkModel) (q : Query) (foun
         grind arith
 
     start_leg : IsLegOf n start.1
-    start_leg =
-        grind (arith, All-contains)
+    start_leg = grind (arith, All-contains)
 
     has_arrivals : (r : Ride) → Contains rides r → HasArrivals n target r
     has_arrivals r there =

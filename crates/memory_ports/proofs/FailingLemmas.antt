@@ -2,9 +2,9 @@
 use Rattle.memory_ports.proofs.Common.{◌≡◌, ◌≢◌, ◌≤◌, ℕ, ◌+◌, List, [], ◌∷◌, ◌++◌, Vec, Global, ◌||◌, ◌&&◌, Bool, true, false, length, get_or, set, refl, ap, sym, ◌∙◌, arith, min, ◌^◌, ◌-◌}
 use Rattle.memory_ports.proofs.Common.{length-append, list_any, Named, Failing, value_at, faults_in, fails_in, SameFailing, at_path, none_at, position_gives_none, set_gives, searched, IsEntryAt}
 use Rattle.memory_ports.proofs.Common.{found, path_is, put_over, put_last}
-use Rattle.std.specs.Prelude.{Option, None, Some, Result, Ok, Err, OnErr, if◌then◌else◌, bytes_eq, string_bytes, position, option_map, nat_eq, unwrap_or}
-use Rattle.std.proofs.{Math.Bool.or-false, lemmas.{Bool.{cond_both, false_from_ne_true}, Grind.common_steps, List.{get_or_append_left, get_or_push, Folds.list_any-append}}}
-use Rattle.std.proofs.lemmas.{List.Sums.position_or_len_is, Slice.Eq.bytes_eq-Decides}
+use Rattle.std.specs.Prelude.{Option, None, Some, Result, OnErr, if◌then◌else◌, bytes_eq, string_bytes, position, option_map, nat_eq, unwrap_or}
+use Rattle.std.proofs.lemmas.{Bool.{cond_both, false_from_ne_true}, Grind.common_steps, List.{get_or_append_left, get_or_push, Folds.list_any-append, Sums.position_or_len_is}}
+use Rattle.std.proofs.lemmas.Slice.Eq.{bytes_eq-Decides}
 
 -- an entry with a new path is at the end
 pub push_stands : {T : Type 0} (es : List (Named T)) (q : List ℕ) (w : Named T) → string_bytes w.path ≡ q → position (at_path q) es ≡ None
@@ -50,9 +50,7 @@ count_here es q i n e s h =
 -- what is the same of the new value and of the old one at its path, is the same at each path
 same_by : {A : Type 0} (f : Option Failing → A) (es : List (Named Failing)) (q p : List ℕ) (x : Failing) → f (Some x) ≡ f (value_at es q)
     → f (if◌then◌else◌ (bytes_eq q p) (Some x) (value_at es p)) ≡ f (value_at es p)
-same_by f es q p x h =
-    cond_both (bytes_eq q p) (Some x) (value_at es p) (λ o. f o ≡ f (value_at es p)) (λ e. h
-    ∙ ap (λ z. f (value_at es z)) ((bytes_eq-Decides q p).0 e)) (λ e. refl)
+same_by f es q p x h = grind (arith, cond_both, bytes_eq-Decides)
 
 pub count_elsewhere : (es : List (Named Failing)) (q p : List ℕ) (i n : ℕ) (e : Named Failing) → IsEntryAt es q i e → p ≢ q
     → faults_in (set es i (counted e n)) p ≡ faults_in es p
@@ -86,13 +84,10 @@ recalled_count es q p i calls e s =
 more_cases : (es : List (Named Failing)) (q p : List ℕ) (call k : ℕ) (x : Failing)
     → names_of k (Some x) ≡ (names_of k (value_at es q) || nat_eq call k) → (b : Bool) → bytes_eq q p ≡ b
     → names_of k (if◌then◌else◌ b (Some x) (value_at es p)) ≡ (names_of k (value_at es p) || (b && nat_eq call k))
-more_cases es q p call k x h false t = sym (or-false (names_of k (value_at es p)))
-more_cases es q p call k x h true t = h ∙ ap (λ z. names_of k (value_at es z) || nat_eq call k) ((bytes_eq-Decides q p).0 t)
+more_cases es q p call k x h b t = grind (arith, nat_eq, bytes_eq-Decides)
 
 one_more : (xs ys : List ℕ) (call k : ℕ) → ys ≡ xs ++ call ∷ [] → list_any (λ c. nat_eq c k) ys ≡ (list_any (λ c. nat_eq c k) xs || nat_eq call k)
-one_more xs ys call k h =
-    ap (λ zs. list_any (λ c. nat_eq c k) zs) h ∙ list_any-append (λ c. nat_eq c k) xs (call ∷ [])
-    ∙ ap (λ b. list_any (λ c. nat_eq c k) xs || b) (or-false (nat_eq call k))
+one_more xs ys call k h = grind (arith, nat_eq, list_any-append)
 
 pub recalled_more : (es : List (Named Failing)) (q p : List ℕ) (i call k : ℕ) (calls : Vec ℕ Global) (e : Named Failing) → IsEntryAt es q i e
     → calls.items ≡ e.value.calls.items ++ call ∷ []
@@ -120,5 +115,4 @@ fresh_counter es lent new q w r a b n path zero_faults no_calls h =
 
 -- what holds anyway holds at an error
 pub on_any_err : {X E P : Type 0} (r : Result X E) → P → OnErr r P
-on_any_err (Ok x) h = tt
-on_any_err (Err e) h = h
+on_any_err r h = grind arith

@@ -1,7 +1,6 @@
 -- Entries whose calls are forgotten one after the other, and whose counts stay.
-use Rattle.memory_ports.proofs.Common.{◌≡◌, ◌<◌, ℕ, ◌+◌, List, [], ◌∷◌, Bool, true, false, map, get_or, set, length, refl, ap, sym, ◌∙◌, arith, Option, if◌then◌else◌, Some, bytes_eq}
-use Rattle.memory_ports.proofs.{Common.{string_bytes, nat_eq, get_or-set_same, get_or-set_other, list_any, Named, Failing, value_at, faults_in, fails_in, get_or_next}, FailingLemmas.count_of}
-use Rattle.memory_ports.proofs.FailingLemmas.{names_of}
+use Rattle.memory_ports.proofs.Common.{◌≡◌, ◌<◌, ℕ, ◌+◌, List, [], ◌∷◌, Bool, false, map, get_or, set, length, refl, ap, sym, ◌∙◌, arith, Option, if◌then◌else◌, Some, bytes_eq, string_bytes}
+use Rattle.memory_ports.proofs.{Common.{nat_eq, get_or-set_same, get_or-set_other, Named, Failing, value_at, faults_in, fails_in, get_or_next}, FailingLemmas.{count_of, names_of}}
 
 -- an entry by its path and its count
 abbrev pub shape : Named Failing → List ℕ × ℕ
@@ -13,8 +12,7 @@ count_among [] p = 0
 count_among (x ∷ xs) p = if◌then◌else◌ (bytes_eq x.0 p) x.1 (count_among xs p)
 
 count_step : (b : Bool) (x : Failing) (v : Option Failing) (n : ℕ) → count_of v ≡ n → count_of (if◌then◌else◌ b (Some x) v) ≡ if◌then◌else◌ b x.faults n
-count_step true x v n h = refl
-count_step false x v n h = h
+count_step b x v n h = grind arith
 
 count_is : (es : List (Named Failing)) (p : List ℕ) → faults_in es p ≡ count_among (map shape es) p
 count_is [] p = refl
@@ -28,8 +26,7 @@ abbrev pub AreSilent : List (Named Failing) → ℕ → Type 0
 AreSilent es n = (k : ℕ) (d : Named Failing) → k < n → (get_or es k d).value.calls.items ≡ []
 
 names_step : (b : Bool) (x : Failing) (v : Option Failing) (call : ℕ) → x.calls.items ≡ [] → names_of call v ≡ false → names_of call (if◌then◌else◌ b (Some x) v) ≡ false
-names_step true x v call none h = ap (λ (xs : List ℕ). list_any (λ c. nat_eq c call) xs) none
-names_step false x v call none h = h
+names_step b x v call none h = grind (arith, nat_eq)
 
 pub silent : (es : List (Named Failing)) → AreSilent es (length es) → (p : List ℕ) (call : ℕ) → fails_in es p call ≡ false
 silent [] s p call = refl

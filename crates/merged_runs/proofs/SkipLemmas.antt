@@ -68,8 +68,6 @@ module _ (n : NetworkModel) (last : ℕ) (starts remaining new : List ℕ) (run 
       rw (filter_agree _ (λ id. cond (late id) false (p id)) kept_soon ids) (record {
         skipped = filter (λ id. cond (late id) (p id) false) ids;
         split = filter_parts p late ids up;
-        late = All-weaker (λ id. cond (late id) (p id) false ≡ true) (λ id. last < dep_of n id.0) (λ id passes. when_true last (dep_of n id.0) (p id) passes) _
-            (filter_passes (λ id. cond (late id) (p id) false) ids);
-        soon = All-weaker (λ id. cond (late id) false (p id) ≡ true) (λ id. dep_of n id.0 ≤ last) (λ id passes. when_false last (dep_of n id.0) (p id) passes) _
-            (filter_passes (λ id. cond (late id) false (p id)) ids);
+        late = grind (arith, All-weaker, when_true, filter_passes);
+        soon = grind (arith, All-weaker, when_false, filter_passes);
       })

@@ -84,10 +84,7 @@ module _ (n : NetworkModel) (starts remaining : List ℕ) where
   -- that is, their maximum does
   pub IsWinner-max : (k first second key : ℕ) → 0 < k → k < length remaining → IsWinner n starts remaining (2 * k) first
       → IsWinner n starts remaining (2 * k + 1) second → key ≡ max first second → IsWinner n starts remaining k key
-  IsWinner-max k first second key some h a b greatest = elim (cases_lt first second) [
-    | inl less ↦ let same : key ≡ second = omega (arith, greatest, less) in rw same (IsWinner-second k first second some h a b (omega (arith, less)))
-    | inr ge ↦ let same : key ≡ first = omega (arith, greatest, ge) in rw same (IsWinner-first k first second some h a b ge)
-  ]
+  IsWinner-max k first second key some h a b greatest = grind (arith, cases_lt, IsWinner-second, IsWinner-first)
 
 -- the runs before this one have their keys
 pub record AreRead (n : NetworkModel) (starts remaining : List ℕ) (run : ℕ) (keys : List ℕ) : Type 0 where
@@ -123,13 +120,7 @@ module _ (n : NetworkModel) (starts remaining keys : List ℕ) where
   -- one node more is played
   pub IsPlayedFrom-more : (node key : ℕ) → 0 < node → node ≤ length remaining → IsPlayedFrom n starts remaining node keys → IsWinner n starts remaining (node - 1) key
       → IsPlayedFrom n starts remaining (node - 1) (set keys (node - 1) key)
-  IsPlayedFrom-more node key some few played won = record {
-    size = omega (arith, length-set keys (node - 1) key, played.size);
-    each = λ k ge more inside. elim (cases_eq k (node - 1)) [
-      | inl same ↦ rw (same, get_or-set_same keys (node - 1) key 0 (omega (arith, played.size, few, some))) won
-      | inr other ↦ rw (get_or-set_other keys (node - 1) k key 0 other) (played.each k (omega (arith, ge, other)) more inside)
-    ];
-  }
+  IsPlayedFrom-more node key some few played won = grind (arith, length-set, cases_eq, get_or-set_same, get_or-set_other)
 
   -- the final has the greatest key of all
   pub best_of_all : IsTournament n starts remaining keys → (r : ℕ) → r < length remaining → key_of n starts remaining r ≤ get_or keys 1 0

@@ -1,8 +1,8 @@
 -- A graph of the rides that were walked is ready, where what is chosen is kept.
 use Rattle.plan_graph.proofs.Common.{arith, ◌≡◌, ◌≢◌, ℕ, List, Option, Some, Contains, All, AllPairs, sym, subst, inl, inr, ◌∙◌, ap, cases_eq, All-contains, Leg, Outcome, Query, NetworkModel}
-use Rattle.plan_graph.proofs.Common.{IsValid, arr_of, Tree, limit_of, end_of, arrival_of, outcomes_of, unfolding_of, GraphRow, Ride, pick_row, IsLegOf, IsReady, IsReadyRide, IsReadyRow}
-use Rattle.plan_graph.proofs.Common.{MayPrecede, IsBusy, IsPickedAfter, IsSafeForSome, IsFirstInTime, Stands, pick_in_time, row_by, table_after, IsWalked, AllPairs-nil, All-from_contains}
-use Rattle.plan_graph.proofs.{Tables.{IsChosenAt, IsTableRow, Sooner, table_row, table_away, table_there, first_in_table, first_pick, in_time_for, before_for, one_found}, Walks.delays_rise}
+use Rattle.plan_graph.proofs.Common.{IsValid, arr_of, Tree, end_of, arrival_of, outcomes_of, unfolding_of, GraphRow, Ride, pick_row, IsLegOf, IsReady, IsReadyRide, IsReadyRow, MayPrecede, IsBusy}
+use Rattle.plan_graph.proofs.{Common.{IsPickedAfter, IsSafeForSome, IsFirstInTime, Stands, pick_in_time, row_by, table_after, IsWalked, AllPairs-nil, All-from_contains}, Tables.IsChosenAt}
+use Rattle.plan_graph.proofs.{Tables.{IsTableRow, Sooner, table_row, table_away, table_there, first_in_table, first_pick, in_time_for, before_for, one_found}, Walks.delays_rise}
 use Rattle.plan_graph.specs.declared.ExpandedGraph.{ExpandedGraph}
 
 -- what is chosen after an outcome of a leg can be reached, and is kept at the later outcomes up to its limit
@@ -71,12 +71,7 @@ module _ (n : NetworkModel) (valid : IsValid n) (q : Query) (choice : Leg → �
           let c = each at.away m.o m.has in
           let one : c.next ≡ m.next = one_found (choice r.leg x) c.next m.next c.is_chosen m.is_chosen in
           let two : t.next ≡ m.next = one_found (choice r.leg x) t.next m.next t.is_chosen m.is_chosen in
-          let here : IsReadyRow n (end_of n r.leg) (row_by x m.next) = record {
-            is_leg = subst (λ (l : Leg). IsLegOf n l) two t.is_leg;
-            limit = c.limit;
-            is_limit = ap (limit_of n (end_of n r.leg)) (sym one) ∙ c.is_limit;
-            in_time = c.in_time;
-          } in
+          let here : IsReadyRow n (end_of n r.leg) (row_by x m.next) = grind arith in
           subst (λ (w : GraphRow). IsReadyRow n (end_of n r.leg) w) (sym m.is) here
 
       rows_rise : AllPairs (MayPrecede n (end_of n r.leg)) (table_after n target choice r.leg)

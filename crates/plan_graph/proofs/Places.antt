@@ -1,5 +1,5 @@
 -- From a placed leg to those that are chosen after it.
-use Rattle.plan_graph.proofs.Common.{arith, ◌≡◌, ◌≢◌, ℕ, zero, suc, ◌+◌, List, [], ◌∷◌, Option, Some, None, Contains, sym, subst, refl, inl, inr, ne_eqb, Leg, Outcome, NetworkModel, arr_of, Tree}
+use Rattle.plan_graph.proofs.Common.{arith, ◌≡◌, ◌≢◌, ℕ, zero, suc, ◌+◌, List, [], ◌∷◌, Option, Some, Contains, sym, subst, refl, inl, inr, ne_eqb, Leg, Outcome, NetworkModel, arr_of, Tree}
 use Rattle.plan_graph.proofs.Common.{end_of, arrival_of, outcomes_of, kids_after, ride_or_stuck, unfold_after, Stands, StandsIn, StandsSafely, Contains-nil, Contains-cons_cases}
 use Rattle.plan_model.specs.Strategy.{IsBoardable, IsSafe, AreSafe}
 
@@ -31,8 +31,7 @@ module _ (n : NetworkModel) (target : ℕ) (by : Option ℕ) (choice : Leg → �
       → IsSafe n target by (ride_or_stuck n (unfold_after n target choice rides) found (end_of n leg) arrival) (end_of n leg) arrival
       → ((other : Leg) → Stands other (ride_or_stuck n (unfold_after n target choice rides) found (end_of n leg) arrival) → Stands other whole)
       → IsPlacedNext n target by choice whole leg arrival
-  next_by whole rides leg arrival None is safe stands = absurd safe
-  next_by whole rides leg arrival (Some next) is safe stands = grind arith
+  next_by whole rides leg arrival found is safe stands = grind arith
 
   next_at : (whole : Tree) (rides : ℕ) (leg : Leg) (arrival : ℕ) → end_of n leg ≢ target
       → IsSafe n target by (unfold_after n target choice rides leg arrival) (end_of n leg) arrival

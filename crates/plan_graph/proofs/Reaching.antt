@@ -102,6 +102,4 @@ module _ (n : NetworkModel) (target : ℕ) (by : Option ℕ) (choice : Leg → �
 
     -- when nothing remains to do
     pub all_seen : (todo : List Leg) (seen : List Leg) → length todo ≡ 0 → (leg : Leg) → Known todo seen leg → Contains seen leg
-    all_seen (other ∷ todo) seen done leg known = absurd (omega (arith, done))
-    all_seen [] seen done leg (inl has) = absurd (Contains-nil leg has)
-    all_seen [] seen done leg (inr has) = has
+    all_seen todo seen done leg known = grind (arith, Contains-nil)

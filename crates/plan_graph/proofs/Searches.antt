@@ -15,8 +15,7 @@ precedes_trans a b c first second = grind arith
 
 -- a leg does not come before itself
 pub precedes_itself : (a b : Leg) → Precedes a b → a ≡ b → ⊥
-precedes_itself a b (inl less) same = let e = ap (λ (l : Leg). l.enter.0) same in omega (arith, less, e)
-precedes_itself a b (inr both) same = let e = ap (λ (l : Leg). l.exit.0) same in omega (arith, both.1, e)
+precedes_itself a b h1 same = grind arith
 
 pub rides_parted : (own rides : List Ride) (leg : Leg) → rides ≡ own → AllPairs (λ a b. Precedes a.leg b.leg) own
     → IsPartitionedBy (λ r. leg_lt r.leg leg) rides

@@ -1,9 +1,9 @@
 -- The rides of the legs that were reached.
-use Rattle.plan_graph.proofs.Common.{arith, ◌≡◌, ◌≢◌, ℕ, List, map, Option, Some, Contains, All, AllPairs, sym, subst, refl, ◌∙◌, ap, zero, suc, ◌+◌, [], ◌∷◌, None, inl, inr, slice_index_or}
-use Rattle.plan_graph.proofs.Common.{ne_eqb, eq-eqb, All-map, All-contains, Less-from_sorted, Leg, Outcome, Query, NetworkModel, IsValid, Tree, end_of, arrival_of, outcomes_of, unfolding_of}
-use Rattle.plan_graph.proofs.Common.{kids_after, ride_or_stuck, unfold_after, unfold_from, GraphRow, Ride, pick_row, pick_after, Precedes, IsLegOf, Stands, StandsIn, row_by, table_after}
-use Rattle.plan_graph.proofs.{Common.{ride_of_leg, leg_cmp, IsReached, IsWalked, IsTaken, HasRideOf, Contains-map, AllPairs-map, All-from_contains, cases_eq}, Orders.leg_cmp-Less}
-use Rattle.plan_graph.proofs.{Places.{IsPlacedNext, next_after}, Tables.{first_pick, first_there, Sooner, first_in_table, one_found, picked_there}, Together.{IsSameNext, unfold_from-together}}
+use Rattle.plan_graph.proofs.Common.{arith, ◌≡◌, ◌≢◌, ℕ, List, map, Option, Some, Contains, All, AllPairs, sym, subst, refl, ◌∙◌, ap, zero, suc, ◌+◌, [], ◌∷◌, inl, inr, slice_index_or, ne_eqb}
+use Rattle.plan_graph.proofs.Common.{eq-eqb, All-map, All-contains, Less-from_sorted, Leg, Outcome, Query, NetworkModel, IsValid, Tree, end_of, arrival_of, outcomes_of, unfolding_of, kids_after}
+use Rattle.plan_graph.proofs.Common.{ride_or_stuck, unfold_after, unfold_from, GraphRow, Ride, pick_row, pick_after, Precedes, IsLegOf, Stands, StandsIn, row_by, table_after, ride_of_leg}
+use Rattle.plan_graph.proofs.{Common.{leg_cmp, IsReached, IsWalked, IsTaken, HasRideOf, Contains-map, AllPairs-map, All-from_contains, cases_eq}, Orders.leg_cmp-Less, Places.IsPlacedNext}
+use Rattle.plan_graph.proofs.{Places.next_after, Tables.{first_pick, first_there, Sooner, first_in_table, one_found, picked_there}, Together.{IsSameNext, unfold_from-together}}
 use Rattle.plan_graph.proofs.{Rides.{rows_after-own, ride_there}, Searches.same_leg}
 
 -- what comes after the outcomes of a ride comes after one of them
@@ -26,9 +26,7 @@ module _ (n : NetworkModel) (target : ℕ) (rides : List Ride)
       → ((own : Leg) → first ≡ Some own → HasRideOf rides own)
       → ((own : Leg) (y : ℕ) → Stands leg (next own y) → HasRideOf rides leg)
       → Stands leg (ride_or_stuck n next first p x) → HasRideOf rides leg
-  ride_of_first leg next p x None begins goes there = absurd there
-  ride_of_first leg next p x (Some own) begins goes (inl both) = grind (arith, same_leg)
-  ride_of_first leg next p x (Some own) begins goes (inr there) = grind (arith, stands_after)
+  ride_of_first leg next p x first begins goes there = grind (arith, same_leg, stands_after)
 
   -- after a leg
   ride_after : (leg : Leg) (more : ℕ) (own : Leg) (x : ℕ) → Stands leg (unfold_after n target (pick_after rides) more own x) → HasRideOf rides leg

@@ -1,4 +1,5 @@
 -- What is asked about a problem has an answer or one first fault.
+use Rattle.std.proofs.Common.{rules}
 use Rattle.run_laws.proofs.Common.{◌≡◌, ◌≢◌, ℕ, ◌<◌, ◌⊎◌, List, Option, Some, Result, Ok, Err, inl, inr, sym, subst, ◌∙◌, arith, cases_eq, cases_order, FileMap, file_at, table_of, Limits, Query}
 use Rattle.run_laws.proofs.Common.{NetworkModel, IsValid, count, dep_of, IsEarlier, PlanGraph, Head, LowerBounds, ProofFault, IsLastFault, read_once, never_memory, AskModel, Safe, Expand, Plan}
 use Rattle.run_laws.proofs.Common.{Replays, Certify, CheckProof, CheckGraph, Punctual, Departures, Latest, Reach, Input, Fault, Problem, Findings, none_unread, bytes_of, AnswersReplay}
@@ -55,9 +56,7 @@ module _ (p : Problem) (files : FileMap) (limits : Limits) (start : ℕ) where
     one_trip_fault late a b head graph is also = grind (arith, one_err)
 
     one_replay_fault : (late : List ℕ) (a b : Fault) → NotRead a → NotRead b → FailsReplay (Some files) limits start path late p a → FailsReplay (Some files) limits start path late p b → a ≡ b
-    one_replay_fault late a b m n =
-        one_cause (one_graph_fault a b m n) (of_graph (IsTripFault p late b) a m) (of_graph (IsTripFault p late a) b n)
-        (in_graph p files limits start path (IsTripFault p late a) (IsTripFault p late b) (a ≡ b) (one_trip_fault late a b))
+    one_replay_fault late a b m n = search (rules, one_cause, one_graph_fault, of_graph, in_graph, one_trip_fault)
 
     reported_or_stopped : (late : List ℕ) (found : Findings) (text : List ℕ) (a : Fault) (head : Head) (graph : PlanGraph) → AnswersReplay p late found text head graph → IsTripFault p late a head graph → ⊥
     reported_or_stopped late found text a head graph reported stopped = never_both (trip_by p head graph late) reported.trace stopped.stop reported.trip stopped.trip
@@ -71,9 +70,7 @@ module _ (p : Problem) (files : FileMap) (limits : Limits) (start : ℕ) where
     one_unsafe a b head graph (place, moment, is, unsafe) (other, later, also, more) = grind arith
 
     one_score_fault : (a b : Fault) → NotRead a → NotRead b → FailsScore (Some files) limits start path p a → FailsScore (Some files) limits start path p b → a ≡ b
-    one_score_fault a b m n =
-        one_cause (one_graph_fault a b m n) (of_graph (IsUnsafeGraph p b) a m) (of_graph (IsUnsafeGraph p a) b n)
-        (in_graph p files limits start path (IsUnsafeGraph p a) (IsUnsafeGraph p b) (a ≡ b) (one_unsafe a b))
+    one_score_fault a b m n = search (rules, one_cause, one_graph_fault, of_graph, in_graph, one_unsafe)
 
     scored_or_unsafe : (found : Findings) (text : List ℕ) (a : Fault) (head : Head) (graph : PlanGraph) → IsEnclosed p found text head graph → IsUnsafeGraph p a head graph → ⊥
     scored_or_unsafe found text a head graph reported (place, moment, is, unsafe) = unsafe.unsafe reported.scored.safe

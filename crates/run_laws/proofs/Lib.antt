@@ -11,7 +11,6 @@ pub mod OneFile
 pub mod Texts
 pub mod Punctuals
 pub mod Files
-pub mod Tight
 pub mod Certificates
 pub mod Departures
 pub mod Reaches
@@ -26,11 +25,7 @@ pub mod Departing
 mod RowBounds
 pub mod BySafety
 pub mod Agreeing
-pub mod Saving
 pub mod FirstLine
-pub mod Greatest
 pub mod MoreService
-pub mod Reordered
-pub mod PlanRows
 pub mod SamplePlans
 pub mod Agreed

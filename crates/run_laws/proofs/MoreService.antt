@@ -1,8 +1,7 @@
 -- What a run over more service finds, beside one over less.
-use Rattle.run_laws.proofs.Common.{◌≡◌, ℕ, ◌<◌, ◌≤◌, arith, inl, inr, refl, sym, ap, subst, ◌∙◌, cases_lt, List, Option, None, Some, NetworkModel, FileMap, Limits, Moment, Query, Tree}
-use Rattle.run_laws.proofs.Common.{IsLeastWorst, IsSafeFromStart, JourneyModel, SourceModel, AskModel, Plan, Latest, HasOneProblem, Findings, findings_of, AnswersAsk, EndsAsk, EndsByLatest}
-use Rattle.run_laws.proofs.{Common.{query_until, unfold_plan, RunModel, IsRunWithin}, Agreeing.{Answered, answered, ends_so, no_fault, or_nine, one_some}, BySafety.{Asked, asked_by, by_safety}}
-use Rattle.run_laws.proofs.Queries.{worst_is}
+use Rattle.run_laws.proofs.Common.{◌≡◌, ℕ, ◌<◌, ◌≤◌, arith, inl, inr, refl, sym, ap, subst, ◌∙◌, cases_lt, List, Option, None, Some, NetworkModel, FileMap, Limits, Moment, Query, Tree, IsLeastWorst}
+use Rattle.run_laws.proofs.Common.{IsSafeFromStart, JourneyModel, SourceModel, AskModel, Plan, Latest, HasOneProblem, Findings, findings_of, AnswersAsk, EndsAsk, EndsByLatest, query_until}
+use Rattle.run_laws.proofs.{Common.{unfold_plan, RunModel, IsRunWithin}, Agreeing.{Answered, answered, ends_so, no_fault, or_nine, one_some}, BySafety.{Asked, asked_by, by_safety}, Queries.worst_is}
 use Rattle.run_laws.specs.{MoreService.{AskWithMore, FindsNoLater, MoreIsNoLater, MoreLeavesNoSooner, MorePlansNoWorse}, TwoRuns.{OrStatus9, IsBySafety}}
 use Rattle.journey_problem.specs.Problems.{IsProblemOver}
 use Rattle.meat_engine.specs.Ends.{EndsBySafety, HasSafe}

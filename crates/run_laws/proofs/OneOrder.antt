@@ -1,4 +1,5 @@
 -- A network has one scan order.
+use Rattle.std.proofs.Common.{rules}
 use Rattle.run_laws.proofs.{Common.{◌≡◌, ◌<◌, List, arith, All-contains, ConnectionId, NetworkModel, count, IsScanOrder, IsEarlier}, Rising.{HasAll, one_rising}}
 use Rattle.plan_model.proofs.ScanOrders.{HasEachId, has_each_id}
 
@@ -12,7 +13,4 @@ has_all : (n : NetworkModel) (xs ys : List ConnectionId) → HasEachId n xs → 
 has_all n xs ys each others id has = others.all id.0 (All-contains (λ (i : ConnectionId). i.0 < count n) xs id each.within has)
 
 pub one_order : (n : NetworkModel) (xs ys : List ConnectionId) → IsScanOrder n xs → IsScanOrder n ys → xs ≡ ys
-one_order n xs ys order other =
-    let each = has_each_id n xs order in
-    let others = has_each_id n ys other in
-    one_rising (Before n) (one_way n) xs ys order.rising other.rising (has_all n xs ys each others) (has_all n ys xs others each)
+one_order n xs ys order other = search (rules, has_each_id, one_rising, one_way, has_all)

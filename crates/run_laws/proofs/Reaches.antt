@@ -1,9 +1,9 @@
 -- From where one can reach a target follows from the problem, and agrees with the latest moment and the departures of each place.
+use Rattle.std.proofs.Common.{rules, slice_index_or}
 use Rattle.run_laws.proofs.Common.{◌≡◌, ◌≢◌, ℕ, ◌+◌, ◌<◌, ◌≤◌, List, [], ◌∷◌, length, All, MatchOption, Option, Some, None, sym, subst, refl, ap, ◌∙◌, inl, inr, arith, cases_eq, cases_lt}
 use Rattle.run_laws.proofs.Common.{cases_order, Moment, Query, NetworkModel, mean_scoring, Tree, one_found, Problem, Findings, query_until, IsOneAnswer, EndsByLatest, HasSafeFor, IsScanOrder}
 use Rattle.run_laws.proofs.{Common.{ConnectionId, reaches_from_safe}, Departures.found_at, Departing.later_is_now, OneOrder.one_order}
 use Rattle.run_laws.specs.Reaches.{KeepsRow}
-use Rattle.std.proofs.Common.{slice_index_or}
 use Rattle.plan_model.specs.{declared.model.PlaceId.PlaceId, Gates.{FitGates, extended_by}}
 use Rattle.plan_model.proofs.Laws.{safe_from_reaches}
 unfoldable use Rattle.plan_model.specs.Network.{connection}
@@ -53,9 +53,7 @@ module _ (m : NetworkModel) (q : Query) where
     one_of_place : (p : ℕ) → row_of_place p xs ≡ row_of_place p ys
     one_of_place p = elim (cases_lt p (length m.change)) [
       | inl inside ↦ elim (cases_eq p q.target.0) [
-        | inl target ↦
-            none_of_place p xs (λ k d within e. (a.reach.places k d within).1 (e ∙ target))
-            ∙ sym (none_of_place p ys (λ k d within e. (b.reach.places k d within).1 (e ∙ target)))
+        | inl target ↦ grind (arith, none_of_place)
         | inr away ↦ answered p (row_of_place p xs) (row_of_place p ys) refl refl (a.reach.answers p inside away) (b.reach.answers p inside away)
       ]
       | inr past ↦ grind (arith, none_of_place)

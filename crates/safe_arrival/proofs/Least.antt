@@ -1,22 +1,13 @@
 -- The best of the scan at the latest moment of arrival is the least worst arrival.
-use Rattle.std.proofs.{Common.{◌≡◌, ℕ, ◌<◌, ◌≤◌, Option, Some, None, MatchOption, IfSome, arith, inl, inr}, lemmas.Bool.cases_lt}
-use Rattle.plan_model.specs.{declared.model.{Moment.Moment, Query.Query}, Network.{NetworkModel, IsValid}, Bounds.{last_moment, end_of_time}, Tree.{Tree, worst}, Strategy.{IsSafeFor, Reaches}}
-use Rattle.plan_model.specs.Strategy.{IsLeastWorst}
+use Rattle.std.proofs.{Common.{◌≡◌, ℕ, ◌<◌, ◌≤◌, Option, Some, None, MatchOption, IfSome, arith}, lemmas.Bool.cases_lt}
+use Rattle.plan_model.specs.{declared.model.{Moment.Moment, Query.Query}, Network.{NetworkModel, IsValid}, Bounds.{last_moment, end_of_time}, Tree.Tree, Strategy.{IsSafeFor, Reaches, IsLeastWorst}}
 use Rattle.plan_model.proofs.{Bounds.{before_last, after_LeastWorst, before_LeastWorst}, Laws.{reaches_from_safe, safe_from_reaches}}
 use Rattle.value_laws.specs.{declared.WorstMoment.WorstMoment, Worsts.worst_scoring}
 use Rattle.meat_scan.specs.Solves.{IsStartValue}
 
 -- what is the best by a deadline is the best of all: what is not safe by it is worse
 pub least_from_value : (n : NetworkModel) (q : Query) (value : WorstMoment) → IsStartValue worst_scoring n q value → IsLeastWorst n q.source.0 q.target.0 q.start.0 (Some value.0)
-least_from_value n q value v =
-    let reaches = reaches_from_safe n q.source.0 q.target.0 q.start.0 q.deadline.0 v.tree v.safe in
-    let exact : worst v.tree ≡ value.0.0 = omega (arith, v.covers_tree, v.below_safe v.tree v.safe) in (
-      (v.tree, reaches.0, exact),
-      λ other reached. elim (cases_lt q.deadline.0 (worst other)) [
-        | inl late ↦ omega (arith, exact, reaches.1, late)
-        | inr in_time ↦ v.below_safe other (safe_from_reaches n q.source.0 q.target.0 q.start.0 q.deadline.0 other reached in_time)
-      ],
-    )
+least_from_value n q value v = grind (arith, reaches_from_safe, cases_lt, safe_from_reaches)
 
 module _ (n : NetworkModel) (v : IsValid n) (q : Query) (early : q.start.0 < end_of_time) (last : q.deadline.0 ≡ last_moment) where
   -- what always reaches the target does so by the last moment

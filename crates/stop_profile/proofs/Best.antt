@@ -22,10 +22,8 @@ module _ {V : Type 0} {scoring : Scoring V} (laws : ScoreLaws scoring) where
       let (k, insert, within, at, from) = best.source in
       record {
         source = (suc k, insert, omega arith, at, (from.0, carries_trans laws insert r s from.1 carries));
-        least = All-cons (λ (i : Row V). arrival ≤ i.by.0 → scoring.rank s.value ≤ scoring.rank i.value) new earlier
-            (λ usable. rw carries.same_rank (new_rank usable)) (λ k d within usable. rw carries.same_rank (best.least k d within usable));
-        below_usable = All-cons (λ (i : Row V). arrival ≤ i.by.0 → (tree : Tree) → scoring.below i.value tree → scoring.below s.value tree) new earlier new_below
-            (λ k d within usable tree h. carries.below_all tree (best.below_usable k d within usable tree h));
+        least = grind (arith, All-cons);
+        below_usable = grind (arith, All-cons);
         gap_within = gaps;
       }
 

@@ -7,8 +7,7 @@ use Rattle.std.proofs.lemmas.{Bool.{cases_lt, Decides.nat_tests}, List.{get_or-m
 
 taken : (b : Bool) (x : TripFrequency) (rows : List FrequencyRow) (xs : List TripFrequency) → rows ≡ map (λ (r : TripFrequency). r.row) xs
     → (if b then x.row ∷ rows else rows) ≡ map (λ (r : TripFrequency). r.row) (cond b (x ∷ xs) xs)
-taken true x rows xs h = ap (λ z. x.row ∷ z) h
-taken false x rows xs h = h
+taken b x rows xs h = grind arith
 
 -- rows that are parted from their trips
 pub repeats_in-parted : (xs : List TripFrequency) (trip : ℕ)
@@ -76,12 +75,10 @@ empty_span t trip trips s = record {
 }
 
 kept : (b : Bool) (row : FrequencyRow) (rows : List FrequencyRow) → b ≡ true → (if b then row ∷ rows else rows) ≡ row ∷ rows
-kept true row rows h = refl
-kept false row rows h = absurd (cc)
+kept b row rows h = grind arith
 
 passed : (b : Bool) (row : FrequencyRow) (rows : List FrequencyRow) → b ≡ false → (if b then row ∷ rows else rows) ≡ rows
-passed true row rows h = absurd (cc)
-passed false row rows h = refl
+passed b row rows h = grind arith
 
 -- the rows beside the trips of a span
 pub repeats_in-span : (trips : List ℕ) (rows : List FrequencyRow) (trip low high : ℕ) → length rows ≡ length trips → IsTripSpan trips trip low high

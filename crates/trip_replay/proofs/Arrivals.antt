@@ -32,8 +32,6 @@ module _ (n : NetworkModel) (target deadline : ℕ) (late : ℕ → ℕ) (possib
     arrive_child : (kids : Kids) (row : List Outcome) (p scheduled i j : ℕ) (behind : List Ridden) → AreSafe n target (Some deadline) kids row p scheduled
         → has_delay row (late j) ≡ true → All (IsLateBy late) behind → ChildArrives kids row i j behind
     arrive_child Nil [] p scheduled i j behind safe has own = absurd (cc)
-    arrive_child Nil (o ∷ row) p scheduled i j behind safe has own = absurd safe
-    arrive_child (Kid w tree kids) [] p scheduled i j behind safe has own = absurd safe
     arrive_child (Kid w tree kids) (o ∷ row) p scheduled i j behind safe has own = elim (cases_eq o.delay (late j)) [
       | inl is ↦
           let a = arrive tree p (scheduled + o.delay) (behind ++ ride_with_delay n i j (late j) ∷ []) safe.1
@@ -41,6 +39,7 @@ module _ (n : NetworkModel) (target deadline : ℕ) (late : ℕ → ℕ) (possib
           record { delays = a.delays; trace = a.trace; trip = rw (eq-eqb o.delay (late j) is) a.trip; in_time = a.in_time; late_by = a.late_by }
       | inr differ ↦ grind (arith, ne_eqb, arrive_child kids row p scheduled i j behind safe.2 (rw (ne_eqb o.delay (late j) differ) at has) own)
     ]
+    arrive_child _ _ p scheduled i j behind safe has own = absurd safe
 
 pub arrives : (n : NetworkModel) (q : Query) (tree : Tree) (late : ℕ → ℕ) → IsSafeFor n q tree → ArePossible n late → Arrives n q.deadline.0 tree late
 arrives n q (Done a) late safe possible =

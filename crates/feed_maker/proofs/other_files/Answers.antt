@@ -1,5 +1,4 @@
-use Rattle.feed_maker.proofs.{Common.{[], ◌∷◌, ◌∙◌, codes, FileMap, folder_of, stops_text, routes_text, trips_text, calendar_text, delays_text, other_files}, FolderLemmas.folder_none}
-use Rattle.feed_maker.proofs.FolderLemmas.{folder_more}
+use Rattle.feed_maker.proofs.{Common.{[], ◌∷◌, ◌∙◌, codes, FileMap, folder_of, stops_text, routes_text, trips_text, calendar_text, delays_text, other_files}, FolderLemmas.{folder_none, folder_more}}
 use Rattle.feed_maker.proofs.other_files.Goals as goal
 
 pub returns-clause-files : goal.returns-clause-files

@@ -1,5 +1,6 @@
 -- A pruned graph that follows a steady choice is coherent.
-use Rattle.graph_prune.proofs.Common.{◌≡◌, ◌≢◌, ℕ, Option, Some, Contains, All, arith, sym, subst, refl, ◌∙◌, ap, All-contains, Leg, Outcome, Query, NetworkModel, limit_of, end_of, arrival_of, outcomes_of, GraphRow, Ride, ExpandedGraph, pick_row, IsPruned, IsByLimits, IsPickedAfter, Follows, IsSteady, first_pick, first_there, picked_there, one_found}
+use Rattle.graph_prune.proofs.Common.{◌≡◌, ◌≢◌, ℕ, Option, Some, Contains, All, arith, sym, subst, refl, ◌∙◌, ap, All-contains, Leg, Outcome, Query, NetworkModel, limit_of, end_of, arrival_of}
+use Rattle.graph_prune.proofs.Common.{outcomes_of, GraphRow, Ride, ExpandedGraph, pick_row, IsPruned, IsByLimits, IsPickedAfter, Follows, IsSteady, first_pick, first_there, picked_there, one_found}
 use Rattle.plan_graph.specs.Coherent.{IsCoherent, IsEarliest, IsRowAt}
 use Rattle.graph_prune.proofs.steady_is_coherent.Goals as goal
 

@@ -97,8 +97,7 @@ module _ (n : NetworkModel) (valid : IsValid n) (q : Query) (graph : PlanGraph) 
       by_start away (Some leg) is = as_reported (ride_by_rows n q graph.tables (count n - 1) leg) (ride_scored leg (start_fits n q graph leg fit is)) (unfold-start n q graph leg away is) span reported
 
   pub score_reported : (outlook : Outlook) → IsOutlook n q outlook (unfold_plan graph n q) → IsScoreOf n q (unfold_plan graph n q) outlook
-  score_reported (Safe span) is = safe_reported span is
-  score_reported (Failing f) is = failing_reported n q (unfold_plan graph n q) f is
+  score_reported outlook is = grind (arith, safe_reported, failing_reported)
 
 pub returns : goal.returns
 returns c =

@@ -1,6 +1,5 @@
-use Rattle.change_times.proofs.Common.{◌≡◌, ◌+◌, None, refl, is_none, nat_eq, sym, ap, ◌∙◌, arith, match_raised, fault-at, bad_transfer, transfer_reported_by, seconds_between, link_between}
-use Rattle.change_times.proofs.{Common.{walks_of, most_to, greatest_link}, ChangeLemmas.{transfer_is, count-next, one_at_most, short_between, short_link}, GreatestLemmas.greatest-next}
-use Rattle.change_times.proofs.GreatestLemmas.{short_next}
+use Rattle.change_times.proofs.Common.{◌≡◌, ◌+◌, None, refl, is_none, nat_eq, sym, ap, ◌∙◌, arith, match_raised, fault-at, bad_transfer, transfer_reported_by, seconds_between, link_between, walks_of}
+use Rattle.change_times.proofs.{Common.{most_to, greatest_link}, ChangeLemmas.{transfer_is, count-next, one_at_most, short_between, short_link}, GreatestLemmas.{greatest-next, short_next}}
 use Rattle.std.specs.{HashMap.get, Result.result_err}
 use Rattle.plan_model.specs.Results.{value_or}
 use Rattle.csv_rows.proofs.FirstLemmas.{first-zero, first-next}

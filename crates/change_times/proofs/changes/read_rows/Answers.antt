@@ -1,8 +1,8 @@
 -- Ways that rise, come from others and take a second to a day.
 use Rattle.change_times.proofs.Common.{◌≡◌, ◌<◌, ℕ, List, length, ap, ◌∙◌, arith, Way, Records, FeedParts, row_count, TransfersSoFar, Walk, ways_at, ways_below, AreCollected, walks_of, most_to}
-use Rattle.change_times.proofs.Common.{zero, suc, ◌+◌, ◌≤◌, [], ◌++◌, All, Option, Some, None, sym, subst, length-append, ⊎_elim, cases_lt, append-nil, get_or_append_left, get_or_past}
-use Rattle.change_times.proofs.{Common.{get_or_push, All-get_or, All-nil, All-push, link_from, AreLinksInto, transfer_reported_by, link_between}, LinkLemmas.{ways-same, ways-zero, ways-next}}
-use Rattle.change_times.proofs.{LinkLemmas.ways_before, ChangeLemmas.no_own_link, GreatestLemmas.{IsShort, greatest-none}}
+use Rattle.change_times.proofs.Common.{zero, suc, ◌+◌, ◌≤◌, [], ◌++◌, All, Option, None, sym, subst, length-append, ⊎_elim, cases_lt, append-nil, get_or_append_left, get_or_past, get_or_push}
+use Rattle.change_times.proofs.{Common.{All-get_or, All-nil, All-push, link_from, AreLinksInto, transfer_reported_by, link_between}, LinkLemmas.{ways-same, ways-zero, ways-next, ways_before}}
+use Rattle.change_times.proofs.{ChangeLemmas.no_own_link, GreatestLemmas.{IsShort, greatest-none}}
 use Rattle.change_times.proofs.changes.read_rows.Goals as goal
 
 abbrev Rises : Way → Way → Type 0
@@ -16,8 +16,7 @@ no_links places r ws e = grind (arith, All-nil)
 
 add : (places r n : ℕ) (ws : List Way) (o : Option ℕ) → n < places → (n ≡ r → o ≡ None) → IsShort o → All (λ (way : Way). way.from.0 < n) ws
     → AreLinksInto places r ws → AreLinksInto places r (ws ++ link_from n o)
-add places r n ws None less own short before are = subst (AreLinksInto places r) (sym (append-nil ws)) are
-add places r n ws (Some s) less own short before are = grind (arith, length-append, get_or_append_left, get_or_push, All-get_or, cases_lt, All-push)
+add places r n ws o less own short before are = grind (arith, append-nil, length-append, get_or_append_left, get_or_push, All-get_or, cases_lt, All-push)
 
 pub sound : (places r n : ℕ) (f : ℕ → Option ℕ) → n ≤ places → f r ≡ None → ((i : ℕ) → IsShort (f i)) → AreLinksInto places r (ways_below f n)
 sound places r zero f few own short = no_links places r (ways_below f 0) (ways-zero f)

@@ -1,7 +1,9 @@
 -- The first fault of a table, by the step that finds it.
-use Rattle.cut_file.proofs.Common.{◌∙◌, arith, Some, None, ◌≡◌, ℕ, ◌<◌, ◌≤◌, List, length, Option, slice_index_or, refl, sym, ap, subst, lt-ltb, le-ltb, option_or, first_below, row_count, CutRow, Key, CutFault, TooManyRows, missing_column, too_many_rows, bad_field, repeated_step, run_fault, first_cut_fault, row, AreCutColumns, missing_in, run_names, place_names, IsNumbered, AreCutKeys, IsCutRead}
-use Rattle.csv_rows.proofs.FaultLemmas.{if_raised}
+use Rattle.cut_file.proofs.Common.{◌∙◌, arith, Some, None, ◌≡◌, ℕ, ◌<◌, ◌≤◌, List, length, Option, slice_index_or, refl, sym, ap, subst, lt-ltb, le-ltb, option_or, first_below, row_count, CutRow}
+use Rattle.cut_file.proofs.Common.{Key, CutFault, TooManyRows, missing_column, too_many_rows, bad_field, repeated_step, run_fault, first_cut_fault, row, AreCutColumns, missing_in, run_names}
+use Rattle.cut_file.proofs.Common.{place_names, IsNumbered, AreCutKeys, IsCutRead}
 use Rattle.cut_file.specs.declared.rows.Columns.{Columns}
+use Rattle.csv_rows.proofs.FaultLemmas.{if_raised}
 use Rattle.cut_file.proofs.checked.read_checked.Goals as goal
 
 abbrev all_faults : Option CutFault → Option CutFault → Option CutFault → Option CutFault → Option CutFault

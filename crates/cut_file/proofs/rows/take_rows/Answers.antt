@@ -1,6 +1,7 @@
 -- The rows, one more at a time.
-use Rattle.cut_file.proofs.Common.{◌∷◌, [], ◌∙◌, sym, ap, arith, length, Some, None, length-append, slice_get_within, row_count, first-zero, first-next, first-at, BadField, Row, named, bad_field, add_new, ◌≡◌, ℕ, ◌+◌, ◌<◌, List, ◌++◌, get_or, Ok, Err, refl, subst, add-one, below_more, get_or_append_left, get_or_push, Column, CutRow, row_at, bad_of, row_of, row, run_names, place_names, IsNumbered}
-use Rattle.cut_file.proofs.NumberFacts.{length_add, numbered_grows}
+use Rattle.cut_file.proofs.Common.{◌∷◌, [], ◌∙◌, sym, ap, arith, length, Some, None, length-append, slice_get_within, row_count, first-zero, first-next, first-at, BadField, Row, named, bad_field}
+use Rattle.cut_file.proofs.Common.{add_new, ◌≡◌, ℕ, ◌+◌, ◌<◌, List, ◌++◌, get_or, Ok, Err, refl, subst, add-one, below_more, get_or_append_left, get_or_push, Column, CutRow, row_at, bad_of}
+use Rattle.cut_file.proofs.{Common.{row_of, row, run_names, place_names, IsNumbered}, NumberFacts.{length_add, numbered_grows}}
 use Rattle.cut_file.proofs.rows.take_rows.Goals as goal
 
 pub bad_here : (t : List (List (List ℕ))) (i : ℕ) (column : Column) → row_at t i ≡ Err column → bad_field t i ≡ Some (BadField (i + 2) column)

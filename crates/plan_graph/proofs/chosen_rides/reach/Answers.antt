@@ -1,4 +1,4 @@
-use Rattle.plan_graph.proofs.{Common.{◌≡◌, sym, subst, List, arith, inr, [], ◌∷◌, Some, unfolding_of, Leg}, Reaching.{IsReaching, begin, start_placed, all_seen, popped, popped_there, visited}}
+use Rattle.plan_graph.proofs.{Common.{◌≡◌, arith, inr, [], ◌∷◌, Some, unfolding_of}, Reaching.{begin, start_placed, all_seen, popped, popped_there, visited}}
 use Rattle.plan_graph.proofs.chosen_rides.reach.Goals as goal
 
 pub loop-init : goal.loop-init
@@ -47,8 +47,6 @@ loop-preserved g c =
     c.loop.seen.keys c.in-Some.leg at c.in_ok-visit-in-Some.ensures.todo in
     record {
       deadline = inv.deadline;
-      reaching = subst
-          (λ (seen : List Leg). IsReaching c.args.network.now c.args.query.now.target.0 inv.deadline choice whole c.args.start c.visit.new.todo.items seen)
-          (sym c.in_ok-visit-in-Some.ensures.seen) after;
+      reaching = grind arith;
       ordered = c.in_ok-visit-in-Some.ensures.ordered;
     }

@@ -1,9 +1,9 @@
 -- The network of a cut file by the rows of its table.
 use Rattle.cut_file.proofs.Common.{sym, subst, rules, NetworkModel, plain_network, DelayLists, Cut, IsCutRead, IsNetwork, NameLists, NamesFit, IsCutNetwork, ◌≡◌, ℕ, zero, suc, ◌<◌, ◌≤◌, max}
 use Rattle.cut_file.proofs.Common.{List, slice_get, Some, if◌then◌else◌, bytes_eq, refl, ap, ap₂, ◌∙◌, arith, slice_get_within, count, connection, row_count, row, key_at, cut_row, longest}
-use Rattle.cut_file.proofs.Common.{change_seconds_of, change_from, IsRide, largest, length, ⊎_elim, All, get_or_from_slice_get, IsTrimmed, Run, From, To, field, index_of, none-each, AreDelays}
-use Rattle.cut_file.proofs.{Common.{bad_field, place_names, IsFaultless}, Made.make_network, Valid.{network_valid, none_of, is_at, key_of_run, run_inside}, ChangeFacts.longest-zero}
-use Rattle.cut_file.proofs.{ChangeFacts.longest-suc, Repeats.one_place_name, Distinct.same_name, FormFacts.{InForm, row_in_form}, Occurs.{run_occurs, place_occurs}}
+use Rattle.cut_file.proofs.Common.{change_seconds_of, IsRide, largest, length, ⊎_elim, All, get_or_from_slice_get, IsTrimmed, Run, From, To, field, index_of, none-each, AreDelays, bad_field}
+use Rattle.cut_file.proofs.{Common.{place_names, IsFaultless}, Made.make_network, Valid.{network_valid, none_of, is_at, key_of_run, run_inside}, ChangeFacts.{longest-zero, longest-suc}}
+use Rattle.cut_file.proofs.{Repeats.one_place_name, Distinct.same_name, FormFacts.{InForm, row_in_form}, Occurs.{run_occurs, place_occurs}}
 use Rattle.plan_model.proofs.SameParts.{same_parts}
 use Rattle.csv_rows.proofs.SpaceLemmas.{IsTrimmed-field}
 use Rattle.cut_file.proofs.table.CutTable.network.Goals as goal
@@ -84,9 +84,7 @@ module _ (t : List (List (List ℕ))) (cut : Cut) (delays : DelayLists) (n : Net
             let P : ℕ → Type 0 = λ j. IsRide (name_lists cut) delays (row t j) (connection n w.0) in
             (w.0, inside, subst P w.2 (ride w.0 inside));
         changes = net.places;
-        change = λ p place h.
-            net.change p (slice_get_within cut.places p place h) ∙ ap (λ m. change_from (longest cut.rows m p)) read.size
-            ∙ ap change_from (largest_is p place h (row_count t) (omega arith));
+        change = λ p place h. grind (arith, slice_get_within, largest_is);
         classes = net.classes;
         links = net.links;
       }

@@ -1,13 +1,11 @@
 -- A file that comes after another one.
-use Rattle.feed_maker.proofs.Common.{rules, codes, sym, ◌∙◌, others_on, remaining_of, lines_of, stop_times_text, ◌≡◌, ℕ, List, ◌∷◌, Bool, true, false, refl, ap, Option, Some, Result, Ok, Err}
+use Rattle.feed_maker.proofs.Common.{rules, codes, sym, ◌∙◌, others_on, remaining_of, lines_of, stop_times_text, ◌≡◌, ℕ, List, ◌∷◌, Bool, false, refl, ap, Option, Some, Result, Ok, Err}
 use Rattle.feed_maker.proofs.Common.{if◌then◌else◌, bytes_eq, bytes_eq-Decides, FileMap, file_at, Opens, arith}
 use Rattle.file_ports.specs.declared.ports.Presence.{Presence, TheVariants.{Present, Absent}}
 use Rattle.feed_maker.proofs.files.MadeFilesFiles.open_file.Goals as goal
 
 pub other_path : (x y : List ℕ) (b : Bool) → bytes_eq y x ≡ b → bytes_eq x y ≡ false → b ≡ false
-other_path x y false h n = refl
-other_path x y true h n =
-    grind (arith, bytes_eq-Decides)
+other_path x y b h n = grind (arith, bytes_eq-Decides)
 
 -- it is opened like the only one
 pub opens_behind : {E : Type 0} (path first text : List ℕ) (others : FileMap) (result : Result Presence E) (remaining : Option (List ℕ)) → bytes_eq path first ≡ false
