@@ -1,10 +1,11 @@
 -- The jobs that words ask for, the moments that they may name, and the words of each.
 use Rattle.std.specs.Prelude.{ℕ, List, [], ◌∷◌, Option, Some, None, Result, Ok, Err, if◌then◌else◌, option_map, option_and_then, unwrap_or, find, ◌≤◌, ◌+◌}
+use Rattle.plan_model.specs.Bounds.{least_size}
 use Rattle.command_line.specs.declared.options.{Command.Command, OptionName.{OptionName, TheVariants.{Cut, Feed, Delays, From, To, Alpha, Horizon, Graph}}}
 use Rattle.command_line.specs.declared.{options.OptionName.TheVariants.{Late, Size, Proof, Until, Last}, job.WordsFault.{WordsFault, TheVariants.Line}}
 use Rattle.command_line.specs.declared.{job.WordsFault.TheVariants.{UnknownCommand, NotUsed, Missing, BadValue}, values.TheConstants.LONGEST_PROMISE}
 use Rattle.command_line.specs.{Options.{all_options, option_number, command_named}, Settings.{value_of, text_of, are_settings}, Uses.{is_useless, is_missing}}
-use Rattle.command_line.specs.Values.{default_alpha, default_horizon, least_size, start_of, promise_at, later_at, alpha_at, horizon_at, size_at, late_at}
+use Rattle.command_line.specs.Values.{default_alpha, default_horizon, start_of, promise_at, later_at, alpha_at, horizon_at, size_at, late_at}
 use Rattle.command_line.specs.Values.{is_bad, last_until}
 use Rattle.command_line.specs.declared.options.Command.TheVariants as command
 

@@ -1,7 +1,7 @@
 -- The forms of the values.
 use Rattle.std.specs.Prelude.{ℕ, ◌+◌, List, [], ◌∷◌, Option, Some, None, Bool, true, false, not, ◌&&◌, is_some, if◌then◌else◌, nat_le, ◌==◌, map, length, codes}
 use Rattle.std.specs.{Prelude.{option_and_then, unwrap_or}, List.{slice_split, list_all}, Str.bytes_eq}
-use Rattle.plan_model.specs.Bounds.{first_start, last_start, seconds_per_day}
+use Rattle.plan_model.specs.Bounds.{first_start, last_start, least_alpha, most_alpha, least_horizon, most_horizon, least_size, most_size, seconds_per_day}
 use Rattle.clock_text.specs.{Digits.whole_of, Times.moment_at}
 use Rattle.command_line.specs.{Settings.{is_given, text_of}, declared.values.TheConstants.{LAST_UNTIL, LONGEST_PROMISE, MOST_DELAYS}}
 use Rattle.command_line.specs.declared.options.OptionName.{OptionName, TheVariants.{Cut, Feed, Delays, From, To, At, Alpha, Horizon, Graph, Late, Size, Proof}}
@@ -11,32 +11,13 @@ use Rattle.command_line.specs.declared.options.OptionName.TheVariants.{By, Until
 abbrev pub last_until : ℕ
 last_until = LAST_UNTIL
 
--- the percentages of a deadline, and the one that is taken where none is given
-abbrev pub least_alpha : ℕ
-least_alpha = 100
-
-abbrev pub most_alpha : ℕ
-most_alpha = 1000
-
+-- the percentage of a deadline that is taken where none is given
 abbrev pub default_alpha : ℕ
 default_alpha = 200
 
--- the hours of a window, and those that are taken where none are given
-abbrev pub least_horizon : ℕ
-least_horizon = 1
-
-abbrev pub most_horizon : ℕ
-most_horizon = 72
-
+-- the hours of a window that are taken where none are given
 abbrev pub default_horizon : ℕ
 default_horizon = 24
-
--- the sizes of a feed that is made
-abbrev pub least_size : ℕ
-least_size = 10
-
-abbrev pub most_size : ℕ
-most_size = 400
 
 -- the longest delay that was met, in seconds: a day
 abbrev pub longest_delay : ℕ

@@ -7,13 +7,12 @@ ghost use Rattle.command_line.specs.Values.{start_of, number_at, last_until};
 ghost use Rattle.command_line.specs.declared.values.TheConstants.{LONGEST_PROMISE};
 
 use crate::options::{Command, OptionName, option_word};
-use crate::ranges::{FeedSize, Hours, Percent, Start};
 use crate::refusals::{first_bad, first_missing, first_useless};
 use crate::settings::{are_settings, text_of, value_of};
 use crate::values::{
     ALPHA, HORIZON, NumberRange, SIZE, read_later, read_number, read_promise, start_of,
 };
-use plan_model::Moment;
+use plan_model::{FeedSize, Hours, Moment, Percent, Start};
 use std::fmt;
 
 /// The percentage of a deadline if none is given.

@@ -6,13 +6,11 @@
 
 mod job;
 mod options;
-mod ranges;
 mod refusals;
 mod settings;
 mod values;
 
 pub use job::{Ask, Job, Journey, Source, WordsFault, read_job};
 pub use options::{Command, OptionName, Use, option_word};
-pub use ranges::{FeedSize, Hours, Percent, Start};
 pub use settings::line_is_a_command_and_its_settings;
 pub use values::{numbers_of_words, read_late};

@@ -5,10 +5,9 @@ ghost use Rattle.command_line.specs.declared.values.TheConstants.{LONGEST_PROMIS
 ghost use Rattle.command_line.specs.Jobs.{late_in};
 
 use crate::options::OptionName;
-use crate::ranges::Start;
 use crate::settings::text_of;
 use clock_text::{read_moment, read_whole};
-use plan_model::{Moment, SECONDS_PER_DAY};
+use plan_model::{Moment, SECONDS_PER_DAY, Start};
 use std::alloc::{AllocError, Global};
 
 /// The first moment at which a journey may begin: 1970-01-08T00:00:00.

@@ -7,7 +7,6 @@ ghost use Rattle.journey_answers.specs.Answers.{IsWorst, IsQueryOf, InQuery, IsP
 ghost use Rattle.journey_report.specs.Findings.{findings_of, safe_findings};
 ghost use Rattle.plan_model.specs.Bounds.{end_of_time};
 
-use command_line::{Percent, Start};
 use decision_graph::{Found, expand, plan};
 use graph_text::{Head, fit_is_printable, ready_is_printable, write, write_expanded};
 use interval_fixed::Span;
@@ -15,7 +14,7 @@ use journey_model::{Fault, Problem};
 use journey_report::{Answer, NamedQuery, Printable, Report, safe_text};
 use merged_runs::MergedRuns;
 use plan_graph::{ExpandedGraph, PlanGraph};
-use plan_model::{BackwardOrder, Moment, NoMemory, Query};
+use plan_model::{BackwardOrder, Moment, NoMemory, Percent, Query, Start};
 use safe_arrival::{deadline, reserved_worst};
 use std::alloc::Global;
 

@@ -5,10 +5,10 @@ ghost use Rattle.journey_answers.specs.Certified.{AnswersCertify};
 ghost use Rattle.journey_report.specs.Findings.{findings_of};
 
 use crate::answers::{Answered, asked_of};
-use command_line::{Percent, Start};
 use journey_model::Problem;
 use journey_report::Answer;
 use lower_proof::{write, write_text};
+use plan_model::{Percent, Start};
 use std::alloc::Global;
 
 /// The certificate of a journey: that of the query of `plan`. `NoSafe` if no strategy always reaches the target.

@@ -12,13 +12,12 @@ ghost use Rattle.journey_answers.specs.Departures.{IsRuled, AreByRules, added_qu
 ghost use Rattle.journey_report.specs.Findings.{findings_of};
 
 use crate::answers::Answered;
-use command_line::Start;
 use departure_table::{DepartureRow, extended_by, greatest, says_of_source, table};
 use journey_model::{Fault, Problem};
 use journey_report::{Answer, NamedQuery, Printable, Report, departures_text, latest_text};
 use meat_scan::{ScanTables, Scanned, scan};
 use merged_runs::MergedRuns;
-use plan_model::{BackwardOrder, List, Moment, Network, NoMemory, PlaceId, Query};
+use plan_model::{BackwardOrder, List, Moment, Network, NoMemory, PlaceId, Query, Start};
 use std::alloc::Global;
 use value_laws::MeanSpan;
 

@@ -8,11 +8,10 @@ ghost use Rattle.journey_report.specs.Findings.{findings_of};
 
 use crate::answers::Answered;
 use crate::departures::{QueryUntil, query_until, scan_of};
-use command_line::Start;
 use departure_table::{ReachRow, reach, with_every_gate};
 use journey_model::Problem;
 use journey_report::{Answer, NamedQuery, Report, reach_text};
-use plan_model::{List, Moment, NoMemory, PlaceId, Query};
+use plan_model::{List, Moment, NoMemory, PlaceId, Query, Start};
 use std::alloc::Global;
 
 /// The places from which one can set out at the start of a query and be at its target by the deadline. The source of the

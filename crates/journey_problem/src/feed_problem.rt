@@ -17,14 +17,14 @@ use crate::feed_tables::{FeedRules, FeedTables};
 use crate::inputs::read_delay_file;
 use crate::stops::first_which;
 use change_times::Changes;
-use command_line::{Hours, Journey};
+use command_line::Journey;
 use connections::{WindowFault, cut};
 use csv_rows::{FeedFault, Limits};
 use delay_table::DelayTable;
 use file_ports::Files;
 use gtfs_tables::Feed;
 use journey_model::{Ends, Fault, Input, LimitKind, Problem, Which};
-use plan_model::Timetable;
+use plan_model::{Hours, Timetable};
 use service_days::Services;
 use std::alloc::Global;
 

@@ -17,7 +17,7 @@ ghost use Rattle.journey_report.specs.Findings.{findings_of};
 ghost use Rattle.meat_engine.specs.Refusals.{IsRefusalBy, by_fault};
 
 use crate::refusal::Refusal;
-use command_line::{Ask, Journey, Start};
+use command_line::{Ask, Journey};
 use csv_rows::Limits;
 use file_ports::Files;
 use journey_answers::{
@@ -27,6 +27,7 @@ use journey_answers::{
 use journey_model::{Fault, Problem};
 use journey_problem::{problem_of, read_certificate_file, read_graph_file};
 use journey_report::Answer;
+use plan_model::Start;
 use std::alloc::Global;
 
 /// The trip by the graph of a file, with the given delays; or the first fault of the file; or `Replay` with the fault of

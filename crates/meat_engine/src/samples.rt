@@ -12,7 +12,7 @@ ghost use Rattle.meat_engine.specs.Refusals.{IsRefusalBy};
 ghost use Rattle.meat_engine.specs.Samples.{sample_journey, AnswersSampled, IsSampled, OverMade, AnswersSample, FailsSample};
 
 use crate::refusal::Refusal;
-use command_line::{FeedSize, Hours, Journey, Percent, Source, Start};
+use command_line::{Journey, Source};
 use csv_rows::Limits;
 use decision_graph::Found;
 use feed_maker::MadeFiles;
@@ -22,7 +22,7 @@ use journey_model::{Fault, Problem};
 use journey_problem::problem_of;
 use journey_report::{Answer, sample_text};
 use plan_graph::PlanGraph;
-use plan_model::{Moment, NoMemory};
+use plan_model::{FeedSize, Hours, Moment, NoMemory, Percent, Start};
 use std::alloc::Global;
 
 /// The percentage for the deadline of `sample`.

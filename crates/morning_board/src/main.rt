@@ -2,14 +2,14 @@
 //! command line would; then the timetable is read once, and asked for each quarter of an hour of a morning.
 #![tactic(auto)]
 
-use command_line::{Journey, Percent, Source, Start};
+use command_line::{Journey, Source};
 use csv_rows::Limits;
 use file_ports::{HostSink, Sink, SteadyFiles, put_all};
 use journey_answers::safe_over;
 use journey_model::Fault;
 use journey_problem::problem_of;
 use meat_engine::run;
-use plan_model::{Moment, NoMemory};
+use plan_model::{Moment, NoMemory, Percent, Start};
 use std::alloc::Global;
 use std::process::ExitCode;
 

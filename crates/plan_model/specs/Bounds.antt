@@ -1,4 +1,4 @@
--- The bounds of a network's numbers.
+-- The bounds of the numbers of a network, and of a question.
 use Rattle.std.specs.Prelude.{ℕ}
 
 -- the most connections of a network
@@ -28,6 +28,27 @@ first_start = 604800
 -- 2399-12-31T23:59:59: no journey starts after it
 abbrev pub last_start : ℕ
 last_start = 13569465599
+
+-- the percentages of a deadline
+abbrev pub least_alpha : ℕ
+least_alpha = 100
+
+abbrev pub most_alpha : ℕ
+most_alpha = 1000
+
+-- the hours of a window
+abbrev pub least_horizon : ℕ
+least_horizon = 1
+
+abbrev pub most_horizon : ℕ
+most_horizon = 72
+
+-- the sizes of a feed that is made
+abbrev pub least_size : ℕ
+least_size = 10
+
+abbrev pub most_size : ℕ
+most_size = 400
 
 abbrev pub nanos_per_second : ℕ
 nanos_per_second = 1000000000

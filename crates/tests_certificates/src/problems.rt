@@ -1,9 +1,9 @@
 //! The problem of a small cut file, and its fault if the delay file is missing.
-use command_line::{Journey, Start};
+use command_line::Journey;
 use csv_rows::Limits;
 use journey_model::{Fault, Input};
 use journey_problem::problem_of;
-use plan_model::Moment;
+use plan_model::{Moment, Start};
 use std::alloc::Global;
 use std::test::Fail;
 use test_runs::{Source, files_of};

@@ -1,9 +1,9 @@
 //! Words with the jobs that they ask for, or with the reason why they are refused.
 use command_line::{
-    Ask, Command, Hours, Job, Journey, OptionName, Percent, Source, Use, WordsFault, option_word,
-    read_job, read_late,
+    Ask, Command, Job, Journey, OptionName, Source, Use, WordsFault, option_word, read_job,
+    read_late,
 };
-use plan_model::Moment;
+use plan_model::{Hours, Moment, Percent};
 use std::alloc::Global;
 use std::test::Fail;
 

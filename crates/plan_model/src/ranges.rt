@@ -1,9 +1,8 @@
-//! What words say, within its ranges.
+//! What a question says in numbers, each within its range.
 ghost use Rattle.std.specs.Prelude.{◌≤◌};
-ghost use Rattle.command_line.specs.Values.{least_alpha, most_alpha, least_horizon, most_horizon, least_size, most_size};
-ghost use Rattle.plan_model.specs.Bounds.{first_start, last_start};
+ghost use Rattle.plan_model.specs.Bounds.{first_start, last_start, least_alpha, most_alpha, least_horizon, most_horizon, least_size, most_size};
 
-use plan_model::Moment;
+use crate::model::Moment;
 
 /// When a journey starts: from 1970-01-08T00:00:00 to 2399-12-31T23:59:59.
 #[derive(Clone, Copy, Debug, PartialEq, Eq)]
