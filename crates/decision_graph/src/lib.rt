@@ -20,4 +20,4 @@ pub use expanded::expand;
 pub use found::Found;
 pub use laws::{a_later_deadline_is_no_worse, least_worst_is_kept, one_upper_bound};
 pub use planned::{plan, plan_by};
-pub use punctual::{PromisedQuery, punctual_plan};
+pub use punctual::punctual_plan;

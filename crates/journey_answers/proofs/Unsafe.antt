@@ -1,5 +1,6 @@
 -- Where one may fail by a graph: at a place of the network, at a moment that has a text.
-use Rattle.journey_answers.proofs.Common.{◌≡◌, ℕ, zero, suc, ◌+◌, ◌-◌, ◌<◌, ◌≤◌, List, [], ◌∷◌, length, Bool, Option, Some, inl, inr, sym, subst, arith, All, if◌then◌else◌, ◌==◌}
+use Rattle.journey_answers.proofs.Common.{◌≡◌, ℕ, zero, suc, ◌+◌, ◌<◌, ◌≤◌, List, [], ◌∷◌, length, Bool, Option, Some, inl, inr, sym, subst, arith}
+use Rattle.journey_answers.proofs.Common.{All, if◌then◌else◌, ◌==◌}
 use Rattle.journey_answers.proofs.Common.{MatchOption-at_some, Outcome, Query, NetworkModel, IsValid, count, arr_of, Tree, Done, Stuck, PlanGraph, unfold_plan, IsUnsafe, Problem, last_start}
 use Rattle.journey_answers.proofs.Common.{seconds_per_day, last_printable}
 use Rattle.std.proofs.lemmas.List.Elements.{All-head, All-tail}
@@ -52,17 +53,20 @@ module _ (n : NetworkModel) (valid : IsValid n) (q : Query) (target_in : q.targe
       (or_stuck (unfold_after n q.target.0 choice rides) (choice leg x) (end_of n leg) x (there leg x) (after_printed rides) ((valid.connections leg.exit.0 within).to_in, early))
 
   -- by a start leg and the choices
-  pub from_printed : (first : Option Leg) → ((leg : Leg) → first ≡ Some leg → leg.exit.0 < count n) → (p x : ℕ) → IsPrinted p x → FailsPrinted (unfold_from n q.target.0 choice first p x)
+  pub from_printed : (first : Option Leg) → ((leg : Leg) → first ≡ Some leg → leg.exit.0 < count n) → (p x : ℕ) → IsPrinted p x
+      → FailsPrinted (unfold_from n q.target.0 choice first p x)
   from_printed first within p x is = grind (arith, by_test, or_stuck, after_printed)
 
 -- the place where one may fail first has a name, and the moment a text
 pub unsafe_has_site : (p : Problem) (q : Query) (graph : PlanGraph) → IsFit p.timetable.network q graph
     → q.source.0 < length p.timetable.network.change → q.target.0 < length p.timetable.network.change
-    → q.start.0 ≤ last_start → (place moment : ℕ) → IsUnsafe p.timetable.network q (unfold_plan graph p.timetable.network q) place moment → (place < length p.timetable.names.places) × (moment ≤ last_printable)
+    → q.start.0 ≤ last_start → (place moment : ℕ) → IsUnsafe p.timetable.network q (unfold_plan graph p.timetable.network q) place moment
+    → (place < length p.timetable.names.places) × (moment ≤ last_printable)
 unsafe_has_site p q graph fit source target early place moment unsafe =
     let n = p.timetable.network in
     let chosen : (leg : Leg) (x : ℕ) (next : Leg) → by_place n (pick_at graph.tables) leg x ≡ Some next
     → next.exit.0 < count n = λ leg x next is. (picked_leg n graph.tables fit.tables (end_of n leg) x next is).exit in
     let first : (leg : Leg) → graph.start ≡ Some leg → leg.exit.0 < count n = λ leg is. (MatchOption-at_some _ _ _ is fit.starts).is_leg.exit in
-    let printed = from_printed n p.timetable.valid q target (by_place n (pick_at graph.tables)) chosen graph.start first q.source.0 q.start.0 (source, omega (arith, early)) place moment unsafe.first.fails in
+    let printed = from_printed n p.timetable.valid q target (by_place n (pick_at graph.tables)) chosen graph.start first q.source.0 q.start.0
+        (source, omega (arith, early)) place moment unsafe.first.fails in
     (subst (λ (k : ℕ). place < k) (sym p.timetable.fit.places) printed.0, printed.1)

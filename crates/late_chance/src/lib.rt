@@ -6,15 +6,15 @@
 //! of that name; then what it was lent is as it was, unless its own comment says otherwise.
 #![tactic(auto)]
 
-ghost use Rattle.std.specs.Prelude.{◌≡◌, ℕ, ◌+◌, ◌<◌, ◌≤◌};
+ghost use Rattle.std.specs.Prelude.{◌≡◌, ℕ, ◌≤◌};
 ghost use Rattle.plan_model.specs.declared.model.Query.{Query};
-ghost use Rattle.plan_model.specs.Bounds.{end_of_time};
 ghost use Rattle.plan_model.specs.Network.{NetworkModel, IsValid};
 ghost use Rattle.plan_model.specs.Strategy.{IsSafeFor};
 ghost use Rattle.plan_model.specs.View.{IsView, SafeAlike};
 ghost use Rattle.plan_graph.specs.declared.PlanGraph.{PlanGraph};
 ghost use Rattle.plan_graph.specs.Tidy.{IsTidy};
 ghost use Rattle.plan_graph.specs.Unfold.{unfold_plan};
+ghost use Rattle.late_chance.specs.declared.shift.Promise.{Promise};
 ghost use Rattle.late_chance.specs.declared.shift.TheConstants.{SECONDS_PER_WEEK};
 ghost use Rattle.late_chance.specs.LaterGraphs.{IsShown, LaterAlike};
 ghost use Rattle.late_chance.specs.Punctual.{shifted_parts, IsPunctual, PunctualAlike, IsAboutNetwork};
@@ -25,7 +25,7 @@ mod shift;
 mod text;
 
 pub use chance::LateChance;
-pub use shift::{SECONDS_PER_WEEK, shifted, sooner, unshifted};
+pub use shift::{Promise, SECONDS_PER_WEEK, shifted, sooner, unshifted};
 pub use text::write_chance;
 
 /// A law, with no code: the network as it is seen from a start on is valid, and a view of the network. The
@@ -52,8 +52,7 @@ pub fn punctual_in_view()
 /// A law, with no code: a graph of the least chance over the shifted network, shifted back, is one over the
 /// network for its own query and promise; and if nothing is safe in the one, nothing is in the other.
 pub fn punctual_by_shift()
-    ensures { (m : NetworkModel) (q : Query) (promise : ℕ) → IsValid m → q.start.0 < end_of_time → q.start.0 ≤ q.deadline.0 →
-        SECONDS_PER_WEEK ≤ promise → q.start.0 ≤ promise → promise ≤ q.start.0 + SECONDS_PER_WEEK → IsAboutNetwork m q promise }
+    ensures { (m : NetworkModel) (p : Promise) → IsValid m → IsAboutNetwork m p.query p.moment.0 }
 {}
 
 /// A law, with no code: the seconds of a week, which are the moment that represents a promise.

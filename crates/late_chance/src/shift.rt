@@ -1,5 +1,6 @@
 //! A network as it is seen from a start on, and graphs by the shift later.
 ghost use Rattle.std.specs.Prelude.{◌≡◌, ◌+◌, ◌-◌, ◌^◌, ◌<◌, ◌≤◌, All, IfOk, map};
+ghost use Rattle.plan_model.specs.Bounds.{end_of_time};
 ghost use Rattle.plan_model.specs.Network.{IsValid};
 ghost use Rattle.plan_model.specs.View.{IsView};
 ghost use Rattle.late_chance.specs.declared.shift.TheConstants.{SECONDS_PER_WEEK};
@@ -12,6 +13,25 @@ use std::alloc::Global;
 
 /// A week in seconds. A network is shifted so that the promised moment is a week after the first of all time.
 pub const SECONDS_PER_WEEK: u64 = 604_800;
+
+/// A query, and a moment by which one promises to arrive: from its start to a week later.
+#[derive(Clone, Copy)]
+pub struct Promise {
+    /// The query, with its deadline.
+    pub query: Query,
+    /// The promised moment.
+    pub moment: Moment,
+    /// That the start is at least a week after the first of all time.
+    pub ghost week: { SECONDS_PER_WEEK ≤ query.start.0 },
+    /// That it is before the end of all time.
+    pub ghost early: { query.start.0 < end_of_time },
+    /// That the deadline is not before the start.
+    pub ghost order: { query.start.0 ≤ query.deadline.0 },
+    /// That the promised moment is not before the start.
+    pub ghost later: { query.start.0 ≤ moment.0 },
+    /// That it is at most a week later.
+    pub ghost soon: { moment.0 ≤ query.start.0 + SECONDS_PER_WEEK },
+}
 
 /// The rows by this number of seconds later.
 fn later_rows(alloc: Global, rows: &[GraphRow], seconds: u64) -> Result<List<GraphRow>, NoMemory>
@@ -107,6 +127,7 @@ pub fn shifted(
     requires { promise.0 ≤ start.0 + SECONDS_PER_WEEK }
     ensures parts { IfOk result (λ seen. seen ≡ shifted_parts (promise.0 - SECONDS_PER_WEEK) start.0 network.now) }
     ensures view { IfOk result (λ seen. IsView seen network.now (promise.0 - SECONDS_PER_WEEK) start.0) }
+    ensures valid { IsValid network.now }
 {
     let shift = promise.0.saturating_sub(SECONDS_PER_WEEK);
     let connections = seen_connections(alloc, network, start, shift)?;

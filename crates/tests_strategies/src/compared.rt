@@ -5,9 +5,9 @@ ghost use Rattle.plan_model.specs.Bounds.{end_of_time};
 
 use crate::made::{FIRST, Numbers, cut_text, delay_text};
 use crate::strategies::{Goal, best, scale_of};
-use decision_graph::{PromisedQuery, expand, plan, punctual_plan};
+use decision_graph::{expand, plan, punctual_plan};
 use interval_fixed::Span;
-use late_chance::{LateChance, SECONDS_PER_WEEK};
+use late_chance::{LateChance, Promise, SECONDS_PER_WEEK};
 use meat_scan::ScanTables;
 use merged_runs::MergedRuns;
 use plan_model::{Moment, Network, PlaceId, Query, SortedOrder};
@@ -100,8 +100,12 @@ fn expanded_plan(alloc: Global, network: &Network, query: &Query) -> Result<Opti
 }
 
 /// The bounds on the chance of being late of the plan for a promise.
-fn least_chance(alloc: Global, promised: &PromisedQuery) -> Result<Option<LateChance>, Fail> {
-    match punctual_plan(alloc, promised)? {
+fn least_chance(
+    alloc: Global,
+    network: &Network,
+    promise: &Promise,
+) -> Result<Option<LateChance>, Fail> {
+    match punctual_plan(alloc, network, promise)? {
         None => Ok(None),
         Some(found) => Ok(Some(found.value)),
     }
@@ -142,10 +146,9 @@ fn compare_plan(alloc: Global, network: &Network, query: &Query) -> Result<bool,
 }
 
 /// Compares the least chance of an arrival after a promised moment.
-fn compare_chance(alloc: Global, promised: &PromisedQuery) -> Result<(), Fail> {
-    let network = promised.network;
-    let plain = best(network, &promised.query, Goal::Late(promised.moment));
-    match (least_chance(alloc, promised)?, plain) {
+fn compare_chance(alloc: Global, network: &Network, promise: &Promise) -> Result<(), Fail> {
+    let plain = best(network, &promise.query, Goal::Late(promise.moment));
+    match (least_chance(alloc, network, promise)?, plain) {
         (None, None) => Ok(()),
         (Some(chance), Some(exact)) if encloses_chance(chance, exact, network.count()) => Ok(()),
         _ => Err("another least chance of being late".into()),
@@ -185,22 +188,15 @@ fn compare_worst(
 }
 
 /// A query with a promise half-way between its start and its deadline.
-fn promised<'a>(network: &'a Network, query: &Query) -> PromisedQuery<'a>
-    requires source { query.now.source.0 < length network.now.change }
-    requires target { query.now.target.0 < length network.now.change }
+fn promise_half_way(query: &Query) -> Promise
     requires week { SECONDS_PER_WEEK ≤ query.now.start.0 }
     requires start { query.now.start.0 < end_of_time }
     requires order { query.now.start.0 ≤ query.now.deadline.0 }
 {
-    // The network is valid.
-    let _rides = network.count();
     let half = (query.deadline.0 - query.start.0).min(SECONDS_PER_WEEK) / 2;
     let moment = Moment(query.start.0 + half);
-    PromisedQuery {
-        network,
-        query: *query,
-        moment,
-    }
+    let query = *query;
+    Promise { query, moment }
 }
 
 /// Compares a journey by several deadlines, of which one is too early for all.
@@ -230,7 +226,7 @@ fn compare(
     }
     query.deadline = Moment(worst.saturating_add(600));
     compare_plan(alloc, network, &query)?;
-    compare_chance(alloc, &promised(network, &query))?;
+    compare_chance(alloc, network, &promise_half_way(&query))?;
     query.deadline = Moment(worst.saturating_sub(1).max(start.0));
     let early = compare_plan(alloc, network, &query)?;
     if early && worst > start.0 {
