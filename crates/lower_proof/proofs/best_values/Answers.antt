@@ -3,7 +3,10 @@ use Rattle.lower_proof.proofs.{Written.written_last, best_values.Goals.{then-get
 use Rattle.lower_proof.proofs.best_values.Goals as goal
 
 pub loop-departure-init : goal.loop-departure-init
-loop-departure-init c = grind (arith, written_first)
+loop-departure-init c = record {
+  written = written_first c.in_ok-departures.ensures.valid (omega arith) c.in_ok-values.ensures.as_many c.in_ok-departures.ensures.departures c.in_ok-exits.ensures.runs c.in_ok-exits.ensures.empty
+      (c.in_ok-boards.ensures.fresh.right c.in_ok-values.values.items (λ k inside late. c.in_ok-values.ensures.none k)) c.in_ok-boards.ensures.fresh.late;
+}
 
 pub offer-best-requires-clause-boards : goal.offer-best-requires-clause-boards
 offer-best-requires-clause-boards c = rw (c.deref_mut.ensures.value, c.deref.ensures.value) c.loop-departure.invariant.written.right
@@ -12,13 +15,15 @@ pub invariant_of-site : goal.invariant_of-site
 invariant_of-site c = record { there = written_there c.in_ok-departures.ensures.valid c.loop-departure.invariant.written _ _ c.in-Some.ensures.items }
 
 pub offer-best-requires-clause-run : goal.offer-best-requires-clause-run
-offer-best-requires-clause-run c = grind (arith, written_there)
+offer-best-requires-clause-run c = let written = c.loop-departure.invariant.written in
+    rw c.deref_mut-in-Some.ensures.value (written.scanned.runs c.in-Some.departure.id.0 (written_there c.in_ok-departures.ensures.valid written _ _ c.in-Some.ensures.items))
 
 pub get-requires : goal.get-requires
 get-requires c = written_there c.in_ok-departures.ensures.valid c.loop-departure.invariant.written _ _ c.in-Some.ensures.items
 
 pub index_mut-requires : goal.index_mut-requires
-index_mut-requires c = grind (arith, written_there)
+index_mut-requires c = let written = c.loop-departure.invariant.written in
+    omega (arith, written_there c.in_ok-departures.ensures.valid written _ _ c.in-Some.ensures.items, written.as_many, c.loop-departure.values.ok.0)
 
 pub loop-departure-preserved : goal.loop-departure-preserved
 loop-departure-preserved c =

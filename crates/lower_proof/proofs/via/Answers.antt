@@ -16,7 +16,8 @@ loop-outcome-preserved c =
     let own = rw c.from.ensures at (c.in-Some.ensures.least n c.args.site.now.scope.now.last.0 c.loop-outcome.invariant.boards) in
     let small : c.in-Some.value ≤ 18446744073709551615 = omega arith in
     rw (c.from-in-Some.ensures, c.from-in-Some-2.ensures) (record {
-      weighed = grind (arith, weighed_next);
+      weighed = weighed_next n c.args.site.now.scope.now.query c.args.values.now c.get-connection.result.to.0 c.get-connection.result.arr.0
+          items k c.loop-outcome.sum c.in-Some.value c.loop-outcome-test.true own c.loop-outcome.invariant.weighed;
       room = room_next items k c.loop-outcome.sum c.in-Some.value c.loop-outcome-test.true small c.loop-outcome.invariant.room;
       boards = c.in-Some.ensures.boards n c.args.site.now.scope.now.last.0 c.loop-outcome.invariant.boards;
       late = λ m soon before. c.in-Some.ensures.late m (omega (arith, soon)) (c.loop-outcome.invariant.late m soon before);

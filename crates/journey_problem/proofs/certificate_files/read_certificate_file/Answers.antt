@@ -1,6 +1,6 @@
 -- The steps of a check, put together.
-use Rattle.journey_problem.proofs.Common.{arith, if_raised, ◌≡◌, ℕ, List, Option, None, Result, Ok, Err, refl, sym, subst, ◌≢◌, IfErr, IfOk, IfSome, FileMap, file_at, Limits, Fault, NoMemory}
-use Rattle.journey_problem.proofs.{Common.{unread_input, IsOfInput, Problem, bytes_of}, Causes.causes-quiet, FeedSteps.none_unread_of}
+use Rattle.journey_problem.proofs.Common.{arith, if_raised, ◌≡◌, ℕ, List, Option, None, Result, Ok, Err, refl, sym, subst, ◌≢◌, IfErr, IfOk, IfSome, FileMap, file_at, Limits, Fault}
+use Rattle.journey_problem.proofs.{Common.{NoMemory, unread_input, IsOfInput, Problem, bytes_of}, Causes.causes-quiet, FeedSteps.none_unread_of}
 use Rattle.journey_problem.specs.CertificateFiles.{IsCertificateText, FailsText, FailsFile, IsCertificateFile, FailsCertificate}
 use Rattle.plan_model.specs.declared.model.Query.{Query}
 use Rattle.lower_proof.specs.declared.LowerBounds.{LowerBounds}
@@ -29,13 +29,18 @@ module _ (contents : Option FileMap) (limits : Limits) (start : ℕ) (path : Lis
     unread r fails of none = grind arith
 
 pub returns-in_err-bytes-clause-fault : goal.returns-in_err-bytes-clause-fault
-returns-in_err-bytes-clause-fault g c = grind (arith, if_raised, unloaded)
+returns-in_err-bytes-clause-fault g c = if_raised _ c.from_residual.result c.from_residual.ensures
+    (unloaded (g.F.Files.state c.args.files.now).files c.args.limits.now c.args.start.0 c.args.path.now c.args.problem.now _ c.in_err-bytes.ensures.stage c.in_err-bytes.ensures.bytes)
 
 pub returns-clause-certificate : goal.returns-clause-certificate
-returns-clause-certificate g c = grind (arith, read)
+returns-clause-certificate g c =
+    read (g.F.Files.state c.args.files.now).files c.args.limits.now c.args.start.0 c.args.path.now c.args.problem.now c.in_ok-bytes.bytes.items c.as_slice.result.now
+    c.as_slice.ensures.value c.in_ok-bytes.ensures.bytes c.certificate_of_bytes.result c.certificate_of_bytes.ensures.certificate
 
 pub returns-clause-fault : goal.returns-clause-fault
-returns-clause-fault g c = grind (arith, unread)
+returns-clause-fault g c = let is = c.certificate_of_bytes.ensures in
+    unread (g.F.Files.state c.args.files.now).files c.args.limits.now c.args.start.0 c.args.path.now c.args.problem.now c.in_ok-bytes.bytes.items c.as_slice.result.now
+    c.as_slice.ensures.value c.in_ok-bytes.ensures.bytes c.certificate_of_bytes.result is.fault is.stage is.read
 
 pub returns-clause-own : goal.returns-clause-own
 returns-clause-own g c = none_unread_of input.Proof c.certificate_of_bytes.result c.certificate_of_bytes.ensures.read

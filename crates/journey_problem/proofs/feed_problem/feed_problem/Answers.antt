@@ -1,5 +1,5 @@
-use Rattle.journey_problem.proofs.{Common.{inr, IfOk-weaker, IfErr-weaker, FeedFolder, journey_shown, path_by, gtfs_folder_of, arith}, Loads.if_some_any, Causes.causes-then}
-use Rattle.journey_problem.proofs.FeedSteps.{if_some_both}
+use Rattle.journey_problem.proofs.Common.{◌∙◌, ap, inl, inr, IfOk-weaker, IfErr-weaker, FeedFolder, journey_shown, path_by, gtfs_folder_of, feed_as, IfSome_then}
+use Rattle.journey_problem.proofs.{Loads.if_some_any, Causes.causes-then, FeedSteps.if_some_both}
 use Rattle.journey_model.specs.declared.faults.Input.TheVariants as input
 use Rattle.journey_problem.proofs.feed_problem.feed_problem.Goals as goal
 
@@ -32,4 +32,5 @@ pub returns-in-Err-clause-problem : goal.returns-in-Err-clause-problem
 returns-in-Err-clause-problem g c = if_some_any (g.F.Files.state c.args.files.now).files _ (λ m. tt)
 
 pub returns-in-Err-clause-fault : goal.returns-in-Err-clause-fault
-returns-in-Err-clause-fault g c = grind arith
+returns-in-Err-clause-fault g c = let is = c.fault_of.ensures.fault in
+    IfSome_then (g.F.Files.state c.args.files.now).files c.in-Err.ensures.reads.found (λ m why other. inl (c.in-Err.fault, is, why (λ same. other (is ∙ ap (feed_as c.args.limits.now) same))))

@@ -10,7 +10,8 @@ returns-in-Err-read_rules-clause-reads g c =
     reads-fault (λ own. tt) (λ m own p. inr (c.in-Ok.feed, p.0, p.1)) (reads-after c.in-Ok.ensures c.in-Err-read_rules.ensures.reads)
 
 pub returns-in-Ok-read_rules-clause-reads : goal.returns-in-Ok-read_rules-clause-reads
-returns-in-Ok-read_rules-clause-reads g c = grind (arith, reads-value, reads-both)
+returns-in-Ok-read_rules-clause-reads g c =
+    reads-value (λ m p. record { feed = p.0; services = p.1.0; changes = p.1.1 }) (reads-both c.in-Ok.ensures c.in-Ok-read_rules.ensures.reads)
 
 pub returns-in-Ok-read_rules-clause-sound : goal.returns-in-Ok-read_rules-clause-sound
 returns-in-Ok-read_rules-clause-sound g c = grind arith

@@ -1,8 +1,9 @@
-use Rattle.journey_problem.proofs.{Common.{arith, refl, causes-of}, Loads.{if_some_any, bytes_of-unread}}
+use Rattle.journey_problem.proofs.{Common.{refl, file_at, causes-of}, Loads.{if_some_any, bytes_of-unread}}
 use Rattle.journey_problem.proofs.inputs.load_bytes.Goals as goal
 
 pub returns-in-Err-Read-clause-bytes : goal.returns-in-Err-Read-clause-bytes
-returns-in-Err-Read-clause-bytes g c = grind (arith, if_some_any, bytes_of-unread)
+returns-in-Err-Read-clause-bytes g c =
+    if_some_any (g.F.Files.state c.args.files.now).files _ (λ m memory. bytes_of-unread c.args.limits.now.bytes c.args.input (file_at m c.args.path.now))
 
 pub returns-in-Err-Read-clause-early : goal.returns-in-Err-Read-clause-early
 returns-in-Err-Read-clause-early g c = λ timetable own. own
