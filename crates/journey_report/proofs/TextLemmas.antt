@@ -1,6 +1,6 @@
 -- The rows of a trip.
-use Rattle.journey_report.proofs.Common.{◌≡◌, ℕ, ◌+◌, ◌<◌, ◌≤◌, List, [], ◌∷◌, ◌++◌, length, drop, Bool, true, arith, refl, sym, ap, ◌∙◌, All, ◌==◌, ◌||◌, append-nil, at_drop_all, NetworkModel}
-use Rattle.journey_report.proofs.Common.{NameLists, Ridden, rides_text, arrived_text}
+use Rattle.journey_report.proofs.Common.{◌≡◌, ℕ, ◌<◌, ◌≤◌, List, [], ◌∷◌, ◌++◌, length, drop, Bool, true, arith, refl, sym, ap, ◌∙◌, All, ◌==◌, ◌||◌}
+use Rattle.journey_report.proofs.Common.{append-nil, at_drop_all, NetworkModel, NameLists, Ridden, rides_text, arrived_text}
 use Rattle.std.specs.List.{list_any}
 use Rattle.std.proofs.lemmas.{Bool.Decides.nat_tests, List.Elements.{All-head, All-tail}}
 use Rattle.plan_model.specs.{declared.model.{Outcome.Outcome, Moment.Moment}, Network.{connection, IsValid}, Bounds.seconds_per_day}

@@ -3,7 +3,6 @@ use Rattle.meat_engine.proofs.Common.{arith, ◌≡◌, ℕ, List, Option, None,
 use Rattle.meat_engine.proofs.Common.{NamedParts, HasSite, path_of, HasCauses, OrNoMemory, own_paths, IsRefusalBy}
 use Rattle.meat_engine.specs.declared.refusal.Refusal.{Refusal}
 use Rattle.journey_problem.specs.{FaultsBeforeSearch.IsBeforeSearch, Paths.{graph_path, certificate_path}}
-use Rattle.journey_model.specs.declared.faults.Input.TheVariants as input
 
 -- an early fault is at no site
 pub early_has_site : (known : Option NamedParts) (timetable : SourceModel) (fault : Fault) → IsBeforeSearch timetable fault → HasSite known fault

@@ -5,7 +5,6 @@ use Rattle.meat_engine.proofs.Common.{IsNoSafe, AnswersAsk, FailsAsk, EndsAsk, F
 use Rattle.meat_engine.proofs.Common.{EndsByScore, Findings}
 use Rattle.plan_model.specs.declared.model.{Query.Query, Moment.Moment}
 use Rattle.journey_problem.proofs.OneProblem.{one_problem}
-use Rattle.journey_model.specs.declared.faults.Input.TheVariants as input
 
 module _ (p : Problem) (start : ℕ) where
   -- a journey with a query has a safe strategy

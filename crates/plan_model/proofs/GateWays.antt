@@ -1,5 +1,5 @@
 -- The network with gates is one, and each gate leads to its source.
-use Rattle.plan_model.proofs.Common.{◌≡◌, ◌≢◌, ℕ, zero, suc, ◌+◌, ◌-◌, ◌<◌, ◌≤◌, true, false, Some, None, List, [], ◌∷◌, ◌++◌, length, All, arith, refl, sym, ap, ◌∙◌, subst, inl, inr}
+use Rattle.plan_model.proofs.Common.{◌≡◌, ◌≢◌, ℕ, zero, suc, ◌+◌, ◌<◌, ◌≤◌, true, false, Some, None, List, [], ◌∷◌, ◌++◌, length, All, arith, refl, sym, ap, ◌∙◌, subst, inl, inr}
 use Rattle.plan_model.proofs.Common.{length-append, append-nil, append_assoc, cases_lt, cases_eq, nat_tests, slice_index_or, replicate, ◌==◌, if◌then◌else◌, NetworkModel, IsValid, AreLinksInto}
 use Rattle.plan_model.proofs.Common.{PlaceId, Way, links_into, way_in, way_of, ways_into, own_way, HasGates, extended_by, links_with_gates, source_at, way_from, way_if_to, ways_from_gates}
 use Rattle.plan_model.proofs.{Common.{get_or_append_left, get_or-append_right, get_or_past, All-cons, All-nil, change_of, connection, row_of, IsSeen, IsView}, Boarding.{way_in-here, way_in-away}}

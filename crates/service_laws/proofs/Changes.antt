@@ -1,8 +1,9 @@
 -- A network that differs from another in one thing offers no less.
-use Rattle.service_laws.proofs.Common.{◌≡◌, ℕ, ◌+◌, ◌<◌, ◌≤◌, arith, Some, List, [], ◌∷◌, length, refl, ap, ◌∙◌, subst, Contains, All-contains, Contains-cons_cases, Contains-head, inl, inr, true, eqb_tells, ◌==◌, AllPairs, AllPairs-head, AllPairs-tail}
-use Rattle.service_laws.proofs.Common.{Contains-nil, Contains-tail, All-from_contains, cases_lt, get_or_default, Outcome, Connection, Way, NetworkModel, IsValid, no_connection, count, connection, change_of, row_of, links_into, from_of}
-use Rattle.service_laws.proofs.Common.{arr_of, outcomes, own_way, way_in, way_of, own, renamed, with_connections, with_changes, with_classes, with_links, AreAmong, AreShorter, AreLessLate, AreNoFewer, Embeds, EmbedsBy, EmbedsAlike, EmbedsNoLater, AreBeside}
-use Rattle.service_laws.proofs.Common.{IsFound}
+use Rattle.service_laws.proofs.Common.{◌≡◌, ℕ, ◌+◌, ◌<◌, ◌≤◌, arith, Some, List, [], ◌∷◌, length, refl, ap, ◌∙◌, subst, Contains, All-contains, Contains-cons_cases, Contains-head, inl, inr, true}
+use Rattle.service_laws.proofs.Common.{eqb_tells, ◌==◌, AllPairs, AllPairs-head, AllPairs-tail, Contains-nil, Contains-tail, All-from_contains, cases_lt, get_or_default, Outcome, Connection, Way}
+use Rattle.service_laws.proofs.Common.{NetworkModel, IsValid, no_connection, count, connection, change_of, row_of, links_into, from_of, arr_of, outcomes, own_way, way_in, way_of, own, renamed}
+use Rattle.service_laws.proofs.Common.{with_connections, with_changes, with_classes, with_links, AreAmong, AreShorter, AreLessLate, AreNoFewer, Embeds, EmbedsBy, EmbedsAlike, EmbedsNoLater}
+use Rattle.service_laws.proofs.Common.{AreBeside, IsFound}
 use Rattle.plan_model.specs.Network.{AreLinks}
 
 -- by the same rows, each arrival is that of an outcome

@@ -1,5 +1,6 @@
 -- The class of a connection by the number of its route among those that the delays name.
-use Rattle.connections.proofs.Common.{routes_of, route_of, arith, common_steps, ◌≡◌, ℕ, ◌<◌, List, length, Option, Some, None, IfSome, IfNone, Contains, sym, number_in, number-here, number-contained, DelayLists, class_for, numbered_route}
+use Rattle.connections.proofs.Common.{routes_of, route_of, arith, common_steps, ◌≡◌, ℕ, ◌<◌, List, length, Option, Some, None, IfSome, IfNone, Contains, sym, number_in, number-here}
+use Rattle.connections.proofs.Common.{number-contained, DelayLists, class_for, numbered_route}
 use Rattle.connections.proofs.window_connections.class_of.Goals as goal
 
 -- a route that has a number is one of them

@@ -1,5 +1,6 @@
 -- The rows of departures.
-use Rattle.journey_report.proofs.Common.{arith, ◌≡◌, ℕ, ◌+◌, ◌<◌, ◌≤◌, List, ◌++◌, length, drop, sym, ap, ◌∙◌, slice_index_or, append-nil, at_drop_all, NetworkModel, NameLists, split_at, text_step, departure_text, rows_text}
+use Rattle.journey_report.proofs.Common.{arith, ◌≡◌, ℕ, ◌+◌, ◌<◌, ◌≤◌, List, ◌++◌, length, drop, sym, ap, ◌∙◌, slice_index_or}
+use Rattle.journey_report.proofs.Common.{append-nil, at_drop_all, NetworkModel, NameLists, split_at, text_step, departure_text, rows_text}
 use Rattle.std.proofs.lemmas.Grind.{common_steps}
 use Rattle.departure_table.specs.declared.DepartureRow.{DepartureRow}
 use Rattle.journey_report.proofs.departure_texts.departures_text.Goals as goal

@@ -1,5 +1,6 @@
 -- The last row of a place is for the latest arrivals.
-use Rattle.meat_scan.proofs.Common.{◌≡◌, suc, ◌-◌, [], length, get_or, arith, ap, sym, subst, ◌∙◌, Row, ScanResult, ShownProfile, option_map, found_rows, no_profile, nat_tests, ℕ, zero, ◌<◌, List, ◌∷◌, Some, None, RowsRise, row_in_time, picked_holds}
+use Rattle.meat_scan.proofs.Common.{◌≡◌, suc, ◌-◌, [], length, get_or, arith, ap, sym, subst, ◌∙◌, Row, ScanResult, ShownProfile, option_map, found_rows, no_profile, nat_tests, ℕ, zero, ◌<◌}
+use Rattle.meat_scan.proofs.Common.{List, ◌∷◌, Some, None, RowsRise, row_in_time, picked_holds}
 use Rattle.std.proofs.lemmas.List.{get_or-map}
 use Rattle.stop_profile.proofs.Looks.{picked_here, picked_later}
 use Rattle.meat_scan.proofs.Scanned.last.Goals as goal

@@ -1,5 +1,6 @@
 -- The rows of exceptions.
-use Rattle.service_days.proofs.Common.{None, sym, ap, subst, arith, ◌∙◌, result_err, match_raised, fault-at, first-zero, first-next, ServiceDate, bad_date, date_of, date_or_none, AddsDate, ◌≡◌, ℕ, ◌+◌, List, Ok, name_in, field_at, name_text, IsTrimmed, date_from, date_columns, date_in, date_at_row, require-ok}
+use Rattle.service_days.proofs.Common.{None, sym, ap, subst, arith, ◌∙◌, result_err, match_raised, fault-at, first-zero, first-next, ServiceDate, bad_date, date_of, date_or_none, AddsDate}
+use Rattle.service_days.proofs.Common.{◌≡◌, ℕ, ◌+◌, List, Ok, name_in, field_at, name_text, IsTrimmed, date_from, date_columns, date_in, date_at_row, require-ok}
 use Rattle.service_days.proofs.NumberLemmas.{numbered_none, numbered_next, length-adds, trimmed-adds}
 use Rattle.clock_text.specs.Times.{date_at}
 use Rattle.csv_rows.specs.Spaces.{AreTrimmed}

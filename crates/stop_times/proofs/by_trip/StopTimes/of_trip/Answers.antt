@@ -1,5 +1,6 @@
 -- The rows of a trip between its bounds.
-use Rattle.stop_times.proofs.Common.{length, ap, arith, rules, ◌≡◌, ℕ, ◌+◌, ◌-◌, ◌<◌, ◌≤◌, List, [], slice_index, slice_index_or, slice_range, common_steps, get_or_default, length-list_below, get-list_below, StopRow, IsBounded, rows_between, parted}
+use Rattle.stop_times.proofs.Common.{length, ap, arith, rules, ◌≡◌, ℕ, ◌+◌, ◌-◌, ◌<◌, ◌≤◌, List, [], slice_index, slice_index_or, slice_range, common_steps, get_or_default}
+use Rattle.stop_times.proofs.Common.{length-list_below, get-list_below, StopRow, IsBounded, rows_between, parted}
 use Rattle.stop_times.proofs.by_trip.StopTimes.of_trip.Goals as goal
 
 module _ (visits : List StopRow) (bounds : List ℕ) (now : List (List StopRow)) (is : parted visits bounds ≡ now) (trip : ℕ) (h : trip < length now) where
