@@ -11,6 +11,7 @@ use jiff::civil::{Date, date};
 
 /// The day number of a text YYYYMMDD, 0 for 1970-01-01, or `None` if it has another form or the calendar has no
 /// such day.
+#[tactic(auto, using(crate::proofs::MomentLemmas::date_here))]
 pub fn read_date(text: &[u8]) -> Option<i32>
     ensures { result ≡ date_at text.now }
 {

@@ -51,6 +51,7 @@ fn field_of(row: &ByteRecord, i: usize) -> &[u8]
 }
 
 /// Adds the fields of a record, with no ASCII space round each.
+#[tactic(auto, using(crate::proofs::TableLemmas::one_more_field))]
 fn push_fields(fields: &mut Fields, row: &ByteRecord) -> Result<(), AllocError>
     ensures { OnOk result (fields.new ≡ fields.old ++ map trimmed_text (csv.fields_of row.now)) }
 {
@@ -190,6 +191,7 @@ impl Rows {
     }
 
     /// How many fields a record has; the header is record 0.
+    #[tactic(auto, using(crate::proofs::PartsLemmas::end_there))]
     fn record_width(&self, index: usize) -> usize
         requires { index < length self.now }
         ensures { result ≡ length (slice_index_or self.now index []) }
@@ -198,6 +200,7 @@ impl Rows {
     }
 
     /// The field of a record, or an empty one past its end.
+    #[tactic(auto, using(crate::proofs::PartsLemmas::end_there))]
     fn record_field(&self, index: usize, column: usize) -> &[u8]
         requires { index < length self.now }
         ensures { result.now ≡ slice_index_or (slice_index_or self.now index []) column [] }

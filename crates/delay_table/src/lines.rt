@@ -155,6 +155,7 @@ fn read_line<'a>(
 }
 
 /// The row at an index; `None` if one of its fields is not of its form.
+#[tactic(auto, using(crate::proofs::LineFacts::field_is, crate::proofs::LineFacts::line_here, crate::proofs::LineFacts::line_is_formed))]
 pub(crate) fn line_at<'a>(table: &DelayRows<'a>, row: usize) -> Option<DelayLine<'a>>
     requires { row < row_count table.now.rows.now }
     ensures line { option_map (λ l. record {

@@ -319,6 +319,7 @@ impl DelayTable {
     }
 
     /// The greatest delay of a class in seconds.
+    #[tactic(auto, using(crate::proofs::Common::slice_index_or, crate::proofs::TypeFacts::greatest_last))]
     pub fn greatest(&self, class: ClassId) -> u32
         requires { class.0 < length self.now.classes }
         ensures all { All (λ o. o.delay ≤ result) (slice_index_or self.now.classes class.0 []) }

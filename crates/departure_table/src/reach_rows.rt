@@ -25,6 +25,7 @@ pub struct ReachRow {
 
 /// The network with a gate for each place, in the order of the places. Where the gates would be too many to be
 /// numbered the answer is that there is no memory.
+#[tactic(auto, using(crate::proofs::ReachGrowth::are_below, crate::proofs::ReachGrowth::count_up_to, crate::proofs::ReachGrowth::places_more))]
 pub fn with_every_gate(alloc: Global, network: &Network) -> Result<Network, NoMemory>
     ensures parts { IfOk result (λ more. more ≡ with_gates network.now (places_of network.now)) }
     ensures gates { IfOk result (λ more. HasGates more network.now (places_of network.now)) }

@@ -54,6 +54,7 @@ fn route_columns(rows: &Rows) -> RouteColumns
 }
 
 /// A route type, which leaves a class of delays for all other types.
+#[tactic(auto, using(clock_text::proofs::DigitLemmas::whole_bound))]
 fn read_route_type(text: &[u8]) -> Option<u16>
     ensures { result ≡ whole_of 65534 text.now }
 {

@@ -24,6 +24,7 @@ impl MadeFiles {
 
     /// The files that `make` gives, none of them open. `NoMemory` comes only if there is no memory, and no read of
     /// the files takes any.
+    #[tactic(auto, using(crate::proofs::Common::others_on, crate::proofs::FolderLemmas::folder_front, crate::proofs::FolderLemmas::stop_times_first))]
     pub fn new(alloc: Global, size: u32) -> Result<MadeFiles, NoMemory>
         requires low { 10 ≤ size }
         requires high { size ≤ 400 }

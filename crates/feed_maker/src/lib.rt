@@ -53,6 +53,7 @@ fn other_files(alloc: Global, lines: Lines) -> Result<SteadyFiles, NoMemory>
 /// `35 * a % 900` seconds after midnight, and its route is of type `a % 4`.
 ///
 /// `NoMemory` comes only if there is no memory. `MadeFiles` are the same files in less of it.
+#[tactic(auto, using(crate::proofs::FolderLemmas::folder_more, crate::proofs::FolderLemmas::stop_times_first))]
 pub fn make(alloc: Global, size: u32) -> Result<SteadyFiles, NoMemory>
     requires low { 10 ≤ size }
     requires high { size ≤ 400 }

@@ -192,6 +192,7 @@ impl StopTimes {
     }
 
     /// Makes the rows of the next line, if all that was made is read.
+    #[tactic(auto, using(crate::proofs::StopTimeLemmas::remaining_next))]
     fn fill(&mut self)
         ensures lines { lines_of self.new ≡ lines_of self.old }
         ensures remaining { remaining_of self.new ≡ remaining_of self.old }
@@ -207,6 +208,7 @@ impl StopTimes {
     }
 
     /// Moves some bytes of the rest to the front of the buffer, none only at its end.
+    #[tactic(auto, using(crate::proofs::StopTimeLemmas::remaining_after))]
     pub(crate) fn read(&mut self, buffer: &mut [u8]) -> usize
         requires { 0 < length buffer.old }
         ensures lines { lines_of self.new ≡ lines_of self.old }

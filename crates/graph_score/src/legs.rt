@@ -91,6 +91,7 @@ fn fits(network: &Network, query: &Query, leg: &GraphLeg) -> bool
 }
 
 /// The index of the first leg that does not fit; `None` if all do.
+#[tactic(auto, using(crate::proofs::GraphLegs::first_wrong_is))]
 pub fn first_wrong(network: &Network, query: &Query, legs: &[GraphLeg]) -> Option<usize>
     ensures wrong { IfSome result (λ at. IsFirstWrong network.now query.now legs.now (at + 1)) }
     ensures none { IfNone result (All (IsFitLeg network.now query.now) legs.now) }

@@ -126,6 +126,7 @@ pub fn read_is_by_rows()
 
 /// A law, with no code: for a valid network, the fault of a text is its first by line. The rows before that
 /// line are those of a graph, and its own row breaks the rule that the fault names.
+#[tactic(auto, using(crate::proofs::Faults::records_back, crate::proofs::Faults::records_fail))]
 pub fn read_fault_is_by_rows()
     ensures { (n : NetworkModel) (names : NameLists) (source target start : ℕ) (text : Sequence ℕ) (fault : Fault)
         → IsValid n → graph_of text n names source target start ≡ Err fault ↔ IsFirstFaultOf n names source target start text fault }

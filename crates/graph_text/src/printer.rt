@@ -129,6 +129,7 @@ impl<'a> Printer<'a> {
     }
 
     /// Adds the row of a place to a text.
+    #[tactic(auto, using(crate::proofs::Common::name_is, crate::proofs::Fields::take_nine))]
     fn put_place(&self, text: Vec<u8>, place: PlaceId, count: usize) -> Result<Vec<u8>, NoMemory>
         requires { place.0 < length self.now.network.now.change }
         ensures { IfOk result (λ whole. whole.items ≡ text.items
@@ -205,6 +206,7 @@ pub(crate) struct PlacePrinter<'g, 'a> {
 
 impl<'g, 'a> PlacePrinter<'g, 'a> {
     /// Adds the row of each place and its rows to a text.
+    #[tactic(auto, using(crate::proofs::Common::append_assoc, crate::proofs::Common::text_more, std::proofs::lemmas::Grind::common_steps))]
     fn put_tables(&self, mut text: Vec<u8>) -> Result<Vec<u8>, NoMemory>
         ensures { IfOk result (λ whole. whole.items ≡ text.items
             ++ tables_text self.now.printer.network.now self.now.printer.names.now self.now.printer.version self.now.graph.now.tables) }

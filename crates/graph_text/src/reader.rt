@@ -631,6 +631,7 @@ fn version_of(rows: &Rows) -> Option<Version>
 }
 
 /// The head and the graph of a table's records, as [`read`] gives them.
+#[tactic(auto, using(crate::proofs::Tables::reported_by))]
 fn read_records(
     alloc: Global,
     rows: &Rows,

@@ -61,6 +61,7 @@ fn rows_leave(network: &Network, place: PlaceId, rows: &[GraphRow]) -> bool
 }
 
 /// Whether each leg of each place's table leaves that place.
+#[tactic(auto, using(std::proofs::lemmas::Grind::common_steps))]
 pub(crate) fn tables_leave(network: &Network, tables: &[PlaceTable]) -> bool
     requires { All (IsPrintableTable network.now) tables.now }
     ensures { result ≡ tables_leave network.now tables.now }
@@ -74,6 +75,7 @@ pub(crate) fn tables_leave(network: &Network, tables: &[PlaceTable]) -> bool
 }
 
 /// Whether each leg after a ride leaves the place where that ride ends.
+#[tactic(auto, using(std::proofs::lemmas::Grind::common_steps))]
 pub(crate) fn rides_leave(network: &Network, rides: &[Ride]) -> bool
     requires { All (IsPrintableRide network.now) rides.now }
     ensures { result ≡ rides_leave network.now rides.now }

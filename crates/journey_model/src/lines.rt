@@ -32,6 +32,7 @@ fn with_arrival(
 }
 
 /// A line with the run and the step of a connection behind it.
+#[tactic(auto, using(printed_rows::proofs::Lines::name_is, std::proofs::lemmas::Grind::common_steps))]
 fn with_step(
     alloc: Global,
     line: Vec<u8>,

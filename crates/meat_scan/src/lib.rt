@@ -364,6 +364,7 @@ fn boardable_counts(alloc: Global, network: &Network, last: Moment) -> Result<Ve
 }
 
 // A profile for each place, with room for `room[place]` rows.
+#[tactic(auto, using(crate::proofs::Common::length_push, crate::proofs::Reserves::rows_pushed, crate::proofs::Reserves::spare_pushed))]
 fn reserve_profiles<V: Score>(alloc: Global, room: &[u32]) -> Result<Vec<Profile<V>>, NoMemory>
     ensures len { IfOk result (λ profiles. length profiles.items ≡ length room.now) }
     ensures empty { IfOk result (λ profiles. (place : ℕ) → rows_of_profile profiles.items place ≡ []) }

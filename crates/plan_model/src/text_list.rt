@@ -64,6 +64,7 @@ impl TextList {
     }
 
     /// The number of a text; `None` if it is not in the list. Each text is looked at in turn.
+    #[tactic(auto, using(crate::proofs::TextLists::absent_by_walk, crate::proofs::TextLists::found_at))]
     pub fn number(&self, text: &str) -> Option<u32>
         ensures found { IfSome result (λ number. slice_get self.now number ≡ Some text.now) }
         ensures none { IfNone result (¬ Contains self.now text.now) }

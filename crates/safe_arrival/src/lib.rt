@@ -18,6 +18,7 @@ use value_laws::WorstMoment;
 const LAST_MOMENT: Moment = Moment(13_601_174_400);
 
 // The least worst arrival, if it is by the deadline of the query. The order is used up.
+#[tactic(auto, using(crate::proofs::Least::least_from_value))]
 fn least_worst_by<B: BackwardOrder>(
     tables: ScanTables<WorstMoment>,
     network: &Network,

@@ -204,6 +204,7 @@ fn follow(
 /// The trip by the graph with these delays, leg by leg. A fault is that of the first ride at which the walk
 /// cannot go on, as `ReplayFault` says. If the graph's tree is safe for the query, the traveller is never
 /// stuck and arrives by the deadline.
+#[tactic(auto, using(crate::proofs::Walks::safe_answer))]
 pub fn replay(
     alloc: Global,
     graph: &PlanGraph,
