@@ -17,7 +17,7 @@ pub const NANOS_PER_SECOND: u64 = 1_000_000_000;
 /// The sum of the weights of a class of delays.
 pub const WHOLE_WEIGHT: u32 = 10_000;
 
-/// A law, with no code: the units are these numbers. Definitions of other crates take them from the constants.
+/// A law, with no code: the units are these numbers. Definitions take them from the constants.
 pub fn numbers_of_units()
     ensures hour { SECONDS_PER_HOUR ≡ 3600 }
     ensures hours { HOURS_PER_DAY ≡ 24 }

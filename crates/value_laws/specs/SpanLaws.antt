@@ -1,8 +1,8 @@
 -- Bounds on a mean over the arrivals keep the laws, whatever is averaged. (The proof is here because the trait names it.)
 use Rattle.std.proofs.{Common.{arith, inl, inr, ap}, Math.Nat.{mul-le-mul_left, mul-le-mul_right, mul_assoc}, lemmas.List.{length-map, Elements.All-map}}
 use Rattle.std.specs.Prelude.{◌≡◌, ℕ, ◌+◌, ◌-◌, ◌*◌, ◌/◌, ◌^◌, ◌≤◌, ◌⊎◌, min, max, List, [], ◌∷◌, length, map, All, refl}
-use Rattle.plan_model.specs.{declared.model.Outcome.Outcome, Tree.{Tree, Kids, Nil, Kid, Done, Ride}, DelayRows.{IsValidRow, EachKid}, Expected.BelowBy}
-use Rattle.plan_model.specs.Expected.{CoversBy}
+use Rattle.plan_model.specs.{declared.{model.Outcome.Outcome, units.TheConstants.WHOLE_WEIGHT}, Tree.{Tree, Kids, Nil, Kid, Done, Ride}}
+use Rattle.plan_model.specs.{DelayRows.{IsValidRow, EachKid}, Expected.{BelowBy, CoversBy}}
 use Rattle.interval_fixed.specs.Interval.{Interval, weighted, mean_of}
 use Rattle.interval_fixed.proofs.{Enclosed.mean_gap_within, Sums.{mean_below, mean_covers}}
 use Rattle.value_laws.specs.{ScoreLaws.{Scoring, ScoreLaws}, Spans.{rounded_up, sum_up, rounded_down, sum_down, span_scoring}}
@@ -74,7 +74,7 @@ module _ {V : Type 0} (scale : ℕ) (leaf : ℕ → ℕ) (span : V → Interval)
 
   blended_up : (row : List Outcome) (values : List V) (kids : Kids) (enter exit : ℕ) → EachKid scoring.covers row values kids
       → (mean_of row (map span values)).hi ≡ rounded_up scale leaf (Ride enter exit kids)
-  blended_up row values kids enter exit each = ap (λ (u : ℕ). (u + 9999) / 10000) (hi_sum row values kids each)
+  blended_up row values kids enter exit each = ap (λ (u : ℕ). (u + (WHOLE_WEIGHT - 1)) / WHOLE_WEIGHT) (hi_sum row values kids each)
 
   blended_gap : (row : List Outcome) (values : List V) (most : ℕ) → IsValidRow row → length row ≡ length values
       → All (λ v. scoring.gap v ≤ most) values → (mean_of row (map span values)).hi - (mean_of row (map span values)).lo ≤ most + 1
@@ -93,17 +93,17 @@ module _ {V : Type 0} (scale : ℕ) (leaf : ℕ → ℕ) (span : V → Interval)
   lowered_below : (a b : V) (tree : Tree) → scoring.rank a ≤ scoring.rank b → scoring.below a tree
       ⊎ scoring.below b tree → scoring.below (scoring.lowered a b) tree
   lowered_below a b tree better (inl own) =
-      at_value (LowerBound tree) (lesser a b) ((λ h tall. lesser_below (span a).lo (span b).lo (10000 ^ h) _ (inl (own.0 h tall))), omega (arith, own.1), own.2)
+      at_value (LowerBound tree) (lesser a b) ((λ h tall. lesser_below (span a).lo (span b).lo (WHOLE_WEIGHT ^ h) _ (inl (own.0 h tall))), omega (arith, own.1), own.2)
   lowered_below a b tree better (inr other) =
-      at_value (LowerBound tree) (lesser a b) ((λ h tall. lesser_below (span a).lo (span b).lo (10000 ^ h) _ (inr (other.0 h tall))), omega (arith, other.1), omega (arith, other.2, better))
+      at_value (LowerBound tree) (lesser a b) ((λ h tall. lesser_below (span a).lo (span b).lo (WHOLE_WEIGHT ^ h) _ (inr (other.0 h tall))), omega (arith, other.1), omega (arith, other.2, better))
 
   abbrev exact : ℕ → Interval
   exact moment = record { lo = scale * leaf moment; hi = scale * leaf moment }
 
   pub span_laws : ScoreLaws scoring
   span_laws = record {
-    arrived_below = λ moment. at_value (LowerBound (Done moment)) (exact moment) ((λ h tall. omega (arith, mul_assoc scale (leaf moment) (10000 ^ h))), omega arith, omega arith);
-    arrived_covers = λ moment. at_value (UpperBound (Done moment)) (exact moment) ((λ h tall. omega (arith, mul_assoc scale (leaf moment) (10000 ^ h))), refl);
+    arrived_below = λ moment. at_value (LowerBound (Done moment)) (exact moment) ((λ h tall. omega (arith, mul_assoc scale (leaf moment) (WHOLE_WEIGHT ^ h))), omega arith, omega arith);
+    arrived_covers = λ moment. at_value (UpperBound (Done moment)) (exact moment) ((λ h tall. omega (arith, mul_assoc scale (leaf moment) (WHOLE_WEIGHT ^ h))), refl);
     arrived_gap = λ moment. at_value (λ s. s.hi - s.lo ≡ 0) (exact moment) (omega arith);
     blended_below = λ row values kids enter exit good each. at_value (LowerBound (Ride enter exit kids))
         (mean_of row (map span values)) (blended_below row values kids enter exit each, blended_down row values kids enter exit each, blended_least row values kids enter exit each);
