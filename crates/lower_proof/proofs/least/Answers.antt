@@ -1,4 +1,4 @@
-use Rattle.lower_proof.proofs.{Common.{◌≡◌, sym, ap, arith, Connection, count, connection, IsBoardableAtStart}, Leasts.{with_offer, below_same, all_offers}}
+use Rattle.lower_proof.proofs.{Common.{◌≡◌, sym, ap, arith, Connection, count, IsBoardableAtStart}, Leasts.{with_offer, below_same, all_offers}}
 use Rattle.lower_proof.proofs.least.Goals.{then-connection+then-starts, else-connection, else-connection-via-then-connection+else-starts, else-connection-via-else-connection}
 use Rattle.lower_proof.proofs.least.Goals as goal
 
