@@ -68,5 +68,5 @@ unsafe_has_site p q graph fit source target early place moment unsafe =
     → next.exit.0 < count n = λ leg x next is. (picked_leg n graph.tables fit.tables (end_of n leg) x next is).exit in
     let first : (leg : Leg) → graph.start ≡ Some leg → leg.exit.0 < count n = λ leg is. (MatchOption-at_some _ _ _ is fit.starts).is_leg.exit in
     let printed = from_printed n p.timetable.valid q target (by_place n (pick_at graph.tables)) chosen graph.start first q.source.0 q.start.0
-        (source, omega (arith, early)) place moment unsafe.first.fails in
+    (source, omega (arith, early)) place moment unsafe.first.fails in
     (subst (λ (k : ℕ). place < k) (sym p.timetable.fit.places) printed.0, printed.1)

@@ -35,7 +35,7 @@ loop-departure-preserved c =
     let best = rw c.deref_mut-in-Some.ensures.value at c.offer-best.ensures.best in
     let exits = rw c.deref_mut-in-Some.ensures.value at c.offer-best.ensures.exits in
     let all : length c.offer-best.new.exits ≡ loop.exits.len =
-        omega (arith, ap (λ (list : List (Option ℕ)). length list) exits, length-set loop.exits.items run c.offer-best.result, loop.exits.ok.0) in
+    omega (arith, ap (λ (list : List (Option ℕ)). length list) exits, length-set loop.exits.items run c.offer-best.result, loop.exits.ok.0) in
     let places : length c.offer-best.new.boards ≡ loop.boards.len = omega (arith, c.offer-best.ensures.boards.as_many, loop.invariant.boards.as_many, loop.boards.ok.0) in
     let kept = rw (c.get.ensures.connection, c.value_of.ensures) at c.is_kept.ensures.kept (search rules) in
     rw (take_at, take_at, exits) (record {
