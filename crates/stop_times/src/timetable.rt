@@ -123,6 +123,7 @@ pub fn read_stop_times(
 {
     let timed = rows_of(alloc, bytes.as_slice(), trips, stops, places, limits)?;
     drop(bytes);
+    // The proof has the two cases apart.
     match in_order(alloc, timed.as_slice(), trips.len()) {
         Ok(visits) => Ok(visits),
         Err(fault) => Err(fault),
