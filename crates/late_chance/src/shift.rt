@@ -21,15 +21,15 @@ pub struct Promise {
     pub query: Query,
     /// The promised moment.
     pub moment: Moment,
-    /// That the start is at least a week after the first of all time.
-    pub ghost week: { SECONDS_PER_WEEK ≤ query.start.0 },
-    /// That it is before the end of all time.
+    /// That the promised moment is at least a week after the first of all time.
+    pub ghost week: { SECONDS_PER_WEEK ≤ moment.0 },
+    /// That the start is before the end of all time.
     pub ghost early: { query.start.0 < end_of_time },
     /// That the deadline is not before the start.
     pub ghost order: { query.start.0 ≤ query.deadline.0 },
     /// That the promised moment is not before the start.
     pub ghost later: { query.start.0 ≤ moment.0 },
-    /// That it is at most a week later.
+    /// That it is at most a week after the start.
     pub ghost soon: { moment.0 ≤ query.start.0 + SECONDS_PER_WEEK },
 }
 
