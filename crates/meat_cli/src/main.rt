@@ -1,13 +1,12 @@
 //! `meat` plans journeys in timetables whose trips may arrive late.
 #![tactic(auto)]
 
-use file_ports::{HostFiles, HostSink};
-use host_words::words;
+use file_ports::{HostFiles, HostSink, host_words};
 use meat_engine::run;
 use std::process::ExitCode;
 
 fn main(rt: HostRuntime) -> ExitCode {
-    let words = match words(&rt) {
+    let words = match host_words(&rt) {
         Ok(words) => words,
         Err(status) => return ExitCode::from(status),
     };
