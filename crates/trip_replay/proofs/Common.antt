@@ -7,6 +7,6 @@ pub use Rattle.plan_graph.specs.{Unfold.{pick_at, pick_row, rows_of_place, unfol
 pub use Rattle.plan_graph.specs.declared.PlaceTable.{PlaceTable}
 pub use Rattle.plan_model.specs.{Network.{IsValid, arr_of, count, dep_of, outcomes, to_of, NetworkModel}, Strategy.{AreSafe, IsBoardable, IsSafe, IsSafeFor}, Tree.{Done, Kid, Kids, Nil, Ride}}
 pub use Rattle.plan_model.specs.{Tree.{Stuck, Tree}, Unfold.{arrival_of, by_place, end_of, kids_after, outcomes_of, ride_of, ride_or_stuck, unfold_after, unfolding_of}, declared.model.Leg.Leg}
-pub use Rattle.plan_model.specs.declared.model.{Outcome.Outcome, Query.Query}
+pub use Rattle.plan_model.specs.{Bounds.end_of_arrivals, declared.model.{Outcome.Outcome, Query.Query}}
 pub use Rattle.trip_replay.specs.{Rides.{delayed_arrival, has_delay, tree_at, IsRidden, arrival_after, place_after}, Walk.{IsAnswer, IsSafeAnswer, ride_with_delay, trace_of, walk, walk_child}}
 pub use Rattle.trip_replay.specs.declared.{Ridden.Ridden, Trace.Trace}

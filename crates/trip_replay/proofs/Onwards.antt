@@ -1,6 +1,6 @@
 -- A traveller whose rides are no later than by some delay of their classes arrives by the rows of a graph that is tidy and safe.
 use Rattle.trip_replay.proofs.Common.{◌≡◌, ◌≢◌, ℕ, zero, suc, ◌+◌, ◌-◌, ◌<◌, ◌≤◌, List, [], ◌∷◌, Option, Some, None, All, AllPairs, Contains, arith, sym, subst, refl, inl, inr, ◌∙◌, ap, eq-eqb}
-use Rattle.trip_replay.proofs.Common.{ne_eqb, MatchOption, cases_eq, cases_lt, All-nil, All-contains, Leg, Outcome, Query, NetworkModel, IsValid, count, dep_of, arr_of, Tree, Done, IsBoardable}
+use Rattle.trip_replay.proofs.Common.{end_of_arrivals, ne_eqb, MatchOption, cases_eq, cases_lt, All-nil, All-contains, Leg, Outcome, Query, NetworkModel, IsValid, count, dep_of, arr_of, Tree, Done, IsBoardable}
 use Rattle.trip_replay.proofs.Common.{IsSafe, AreSafe, IsSafeFor, end_of, arrival_of, outcomes_of, kids_after, ride_of, ride_or_stuck, unfold_after, unfolding_of, by_place, PlaceTable, pick_row}
 use Rattle.trip_replay.proofs.Common.{pick_at, rows_of_place, IsLegOf, Stands, StandsIn, IsFitRow, IsFitTable, IsFitStart, IsPickedIn, IsTidy, unfold_plan, pick_here, pick_further, row_of_pick}
 use Rattle.trip_replay.proofs.Common.{rows_of_place-by, table_here, table_further}
@@ -136,7 +136,7 @@ module _ (n : NetworkModel) (v : IsValid n) (q : Query) (tables : List PlaceTabl
           (done_after n q.target.0 (Some q.deadline.0) choice whole own.rides leg y there) one in
           omega (arith, done.2, w.2)
 
-      arrive : (m : ℕ) (leg : Leg) → IsPlaced leg → 13601088000 ≤ dep_of n leg.enter.0 + m → LeadsInTime n tables q late leg
+      arrive : (m : ℕ) (leg : Leg) → IsPlaced leg → end_of_arrivals ≤ dep_of n leg.enter.0 + m → LeadsInTime n tables q late leg
       arrive zero leg own much = grind arith
       arrive (suc m) leg own much = elim (cases_eq (end_of n leg) q.target.0) [
         | inl there ↦ (suc zero, (late_end n late leg, inl (there, refl), in_time leg own there))
@@ -169,4 +169,4 @@ arrives_by_rows n q graph late v tidy safe up_to leg starts =
     All (λ table. All (IsPickedIn n q.target.0 (unfolding_of n q (by_place n (pick_at graph.tables)) s) table) table.rows) graph.tables) starts tidy.picked in
     let stands : Stands leg (unfolding_of n q (by_place n (pick_at graph.tables)) (Some leg)) = rw (ne_eqb q.source.0 q.target.0 differ) (inl (refl, refl)) in
     let own = placed n v q graph.tables leg differ safe_by tidy.fit.tables tidy.fit.rising picked leg stands in
-    arrive n v q graph.tables leg differ safe_by tidy.fit.tables tidy.fit.rising picked late up_to 13601088000 leg own (omega arith)
+    arrive n v q graph.tables leg differ safe_by tidy.fit.tables tidy.fit.rising picked late up_to end_of_arrivals leg own (omega arith)
