@@ -1,4 +1,4 @@
-use Rattle.meat_scan.proofs.{Common.{◌∙◌, sym, subst, arith, refl, written_back, FitsTablesBy, common_steps}, States.{next_state, last_state, rules_end, id_there, room_for_run, room_for_rows}}
+use Rattle.meat_scan.proofs.{Common.{◌∙◌, ap, sym, subst, length, capacity_at, arith, refl, written_back, FitsTablesBy, common_steps}, States.{next_state, last_state, rules_end, id_there, room_for_run, room_for_rows}}
 use Rattle.meat_scan.proofs.States.{room_next, found_rows-profiles, skipped_state}
 use Rattle.meat_scan.proofs.scan_all.Goals as goal
 
@@ -51,20 +51,20 @@ loop-id-preserved g c =
       same_runs = one.ensures.runs ∙ loop.same_runs;
     })
 
-pub returns-clause-answers : goal.returns-clause-answers
-returns-clause-answers g c =
+pub returns : goal.returns
+returns g c =
     let loop = c.loop-id.invariant in
+    let order = g.B.BackwardOrder.rest c.args.order.now c.args.network.now in
+    let rest = g.B.BackwardOrder.rest c.loop-id.order c.args.network.now in
     let reported = c.in_default.ensures.none.0 refl in
     let rows_are = found_rows-profiles c.loop-id.start c.args.query.now.target.0 c.loop-id.profiles.items in
-    last_state g.V.Score.laws c.args.network.now loop.valid c.args.query.now
-    (g.B.BackwardOrder.rest c.args.order.now c.args.network.now) c.requires.whole
-    (g.B.BackwardOrder.rest c.loop-id.order c.args.network.now) c.loop-id.profiles.items c.loop-id.exits _ c.requires.differ reported rows_are loop.state
-
-pub returns-clause-rules : goal.returns-clause-rules
-returns-clause-rules g c =
-    let loop = c.loop-id.invariant in
-    let reported = c.in_default.ensures.none.0 refl in
-    let rows_are = found_rows-profiles c.loop-id.start c.args.query.now.target.0 c.loop-id.profiles.items in
-    rules_end g.V.Score.laws c.args.network.now loop.valid c.args.query.now
-    (g.B.BackwardOrder.rest c.args.order.now c.args.network.now) c.requires.whole
-    (g.B.BackwardOrder.rest c.loop-id.order c.args.network.now) c.loop-id.profiles.items c.loop-id.exits _ reported rows_are loop.state
+    record {
+      answers = last_state g.V.Score.laws c.args.network.now loop.valid c.args.query.now order c.requires.whole rest c.loop-id.profiles.items c.loop-id.exits _
+          c.requires.differ reported rows_are loop.state;
+      rules = rules_end g.V.Score.laws c.args.network.now loop.valid c.args.query.now order c.requires.whole rest c.loop-id.profiles.items c.loop-id.exits _ reported rows_are loop.state;
+      valid = loop.valid;
+      fits = c.in_default.ensures.fits;
+      capacity = λ place. loop.same_capacity place ∙ ap (λ t. capacity_at t.profiles place) c.tables.view_is;
+      places = loop.room.places;
+      runs = loop.same_runs ∙ ap (λ t. length t.exits) c.tables.view_is;
+    }

@@ -1,4 +1,4 @@
-use Rattle.feed_lists.proofs.{Common.{◌∙◌, arith, match_raised, fault-at, first-zero, first-next, list_below-zero, list_below-next}, StopLemmas.{listed, unknown_is, place_is_from}}
+use Rattle.feed_lists.proofs.{Common.{◌≡◌, ◌∙◌, sym, ap, arith, row_count, list_below, first_below, None, unknown_parent, place_from, stop_ids, parent_of, match_raised, fault-at, first-zero, first-next, list_below-zero, list_below-next}, StopLemmas.{listed, unknown_is, place_is_from}}
 use Rattle.feed_lists.proofs.stops.read_places.Goals as goal
 
 pub loop-i-init : goal.loop-i-init
@@ -20,4 +20,15 @@ loop-i-preserved c =
     let t = c.args.rows.now in
     let i = c.loop-i.i in
     let w = listed _ _ _ _ c.requires.parents in
-    grind (arith, list_below-next, place_is_from, first-next, unknown_is)
+    let parent = w.1 i _ (omega (arith, w.0)) in
+    let ids = c.in_ok-index.ensures ∙ c.texts.ensures ∙ c.requires.ids in
+    record {
+      places = list_below-next (λ k. place_from (stop_ids t) (parent_of t k) k) i c.loop-i.places.items c.push.new.self.items c.in_ok-place.place
+          c.loop-i.invariant.places c.in_ok-push.ensures.items (place_is_from t _ _ i c.in_ok-place.place ids parent c.in_ok-place.ensures.place);
+      none = first-next (unknown_parent t) i None c.loop-i.invariant.none (unknown_is t _ _ i ids parent ∙ c.in_ok-place.ensures.reports);
+    }
+
+pub returns : goal.returns
+returns c =
+    let all : c.loop-i.i ≡ row_count c.args.rows.now = omega (arith, c.count-i-end.ensures.count) in
+    record { places = c.loop-i.invariant.places ∙ ap (list_below _) all; reports = sym (ap (first_below _) all) ∙ c.loop-i.invariant.none }

@@ -1,4 +1,4 @@
-use Rattle.feed_lists.proofs.Common.{List, ℕ, ◌<◌, None, sym, subst, ap, ◌∙◌, arith, length, slice_index_or, All, result_err, match_raised, fault-at, first-zero, first-next, texts, bad_trip}
+use Rattle.feed_lists.proofs.Common.{List, ℕ, ◌<◌, ◌≡◌, None, list_below, first_below, row_count, sym, subst, ap, ◌∙◌, arith, length, slice_index_or, All, result_err, match_raised, fault-at, first-zero, first-next, texts, bad_trip}
 use Rattle.feed_lists.proofs.{Common.{trip_at, trip_in, trip_or_none, list_below-zero, list_below-next}, TripLemmas.trip_is}
 use Rattle.std.proofs.lemmas.List.Elements.{All-push, All-nil}
 use Rattle.feed_lists.proofs.trips.read_of_trips.Goals as goal
@@ -36,4 +36,15 @@ loop-i-preserved c =
       known = subst (All (λ route. route < length ids)) (sym c.in_ok-add_trip.ensures.routes)
           (All-push (λ route. route < length ids) before.routes.items trip.route c.loop-i.invariant.known known);
       none = first-next (bad_trip ids t) c.loop-i.i None c.loop-i.invariant.none (ap result_err here);
+    }
+
+pub returns : goal.returns
+returns c =
+    let all : c.loop-i.i ≡ row_count c.args.rows.now = omega (arith, c.count-i-end.ensures.count) in
+    record {
+      services = c.loop-i.invariant.services ∙ ap (list_below _) all;
+      types = c.loop-i.invariant.types ∙ ap (list_below _) all;
+      routes = c.loop-i.invariant.routes ∙ ap (list_below _) all;
+      known = c.loop-i.invariant.known;
+      reports = sym (ap (first_below _) all) ∙ c.loop-i.invariant.none;
     }
