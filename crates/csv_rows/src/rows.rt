@@ -172,6 +172,7 @@ impl Rows {
     }
 
     /// How many records there are after the header.
+    #[tactic(auto, using(crate::proofs::PartsLemmas::length_parts))]
     pub fn count(&self) -> usize
         ensures count { result ≡ row_count self.now }
         ensures few { result < 2 ^ 62 }

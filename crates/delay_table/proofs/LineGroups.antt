@@ -77,12 +77,12 @@ module _ (key : LineGroup) (keys : List LineGroup) where
   shown-if b = grind (arith, map-append)
 
   -- the groups after it
-  pub lines-next : (new : List LineGroup) → new ≡ insert_key same_line keys key → map line_group new ≡ with_group groups (line_group key)
-  lines-next new e = grind (arith, shown-if, list_any, groups, some-index)
+  pub lines_next : (new : List LineGroup) → new ≡ insert_key same_line keys key → map line_group new ≡ with_group groups (line_group key)
+  lines_next new e = grind (arith, shown-if, list_any, groups, some-index)
 
   -- what `insert_full` gives
-  pub reported-new : not (list_any (same_line key) keys) ≡ true → None ≡ group_index (line_group key) groups
-  reported-new h = line-new (turned (list_any (same_line key) keys) true h)
+  pub reported_new : not (list_any (same_line key) keys) ≡ true → None ≡ group_index (line_group key) groups
+  reported_new h = line-new (turned (list_any (same_line key) keys) true h)
 
-  pub reported-there : (index : ℕ) → not (list_any (same_line key) keys) ≡ false → index ≡ position_or_len (same_line key) keys → Some index ≡ group_index (line_group key) groups
-  reported-there index h = line-there index (turned (list_any (same_line key) keys) false h)
+  pub reported_there : (index : ℕ) → not (list_any (same_line key) keys) ≡ false → index ≡ position_or_len (same_line key) keys → Some index ≡ group_index (line_group key) groups
+  reported_there index h = line-there index (turned (list_any (same_line key) keys) false h)

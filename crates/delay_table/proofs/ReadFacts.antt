@@ -50,9 +50,9 @@ unfolding read_outcomes
 rows-are t n groups rows r group = rows_by t n groups rows r group (group_index group groups) refl
 
 -- the outcomes of the group at a index
-pub rows-here : (groups : List Group) (rows : List GroupRows) → AreApart groups → (k : ℕ) → k < length groups → read_outcomes groups rows (group_in groups k) ≡ (group_rows_at rows k).outcomes
+pub rows_here : (groups : List Group) (rows : List GroupRows) → AreApart groups → (k : ℕ) → k < length groups → read_outcomes groups rows (group_in groups k) ≡ (group_rows_at rows k).outcomes
 unfolding read_outcomes
-rows-here groups rows apart k l = ap (outcomes_at rows) (index-at groups apart k l)
+rows_here groups rows apart k l = ap (outcomes_at rows) (index-at groups apart k l)
 
 pub rows-known : (groups : List Group) (rows : List GroupRows) (group : Group) (k : ℕ) → Some k ≡ group_index group groups → (group_rows_at rows k).outcomes ≡ read_outcomes groups rows group
 unfolding read_outcomes

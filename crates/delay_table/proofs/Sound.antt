@@ -5,7 +5,7 @@ use Rattle.delay_table.proofs.Common.{Outcome, IsValidRow, first_below, none-bot
 use Rattle.delay_table.proofs.Common.{WHOLE_WEIGHT, Group, group_in, is_plain, of_class, plain_types, class_name, class_rows, class_sum, delays_in, group_sum_at, groups_fault, groups_of}
 use Rattle.delay_table.proofs.Common.{route_types_below, no_default_of, other_sum, others, too_many_classes, type_rows, type_sum_at, AreGroupsRead, line_at, read_outcomes, AreDelays}
 use Rattle.delay_table.proofs.Common.{IsGroupStart, row_count, first-same, delays_of, first_delay_fault, first_line, firsts, groups_at, line_fault, missing_column, group_outcomes, IsReadTo}
-use Rattle.delay_table.proofs.{ReadFacts.{rows-are, rows-here, types-bounded}, Starts.starts, Others.others-from, NamedTypes.route_types_below-are, PlainTypes.groups-are}
+use Rattle.delay_table.proofs.{ReadFacts.{rows-are, rows_here, types-bounded}, Starts.starts, Others.others-from, NamedTypes.route_types_below-are, PlainTypes.groups-are}
 use mathlib.Core.Path.{fun_ext}
 
 none_mapped : (f : ℕ → DelayFault) (o : Option ℕ) → option_map f o ≡ None → o ≡ None
@@ -117,7 +117,7 @@ pub is-read : (t : List (List (List ℕ))) (groups : List Group) (rows : List Gr
 is-read t groups rows none r = record {
   size = r.size;
   apart = r.apart;
-  some = λ k l. subst (λ (x : List Outcome). 0 < length x) (sym (rows-here groups rows r.apart k l)) (r.some k l);
+  some = λ k l. subst (λ (x : List Outcome). 0 < length x) (sym (rows_here groups rows r.apart k l)) (r.some k l);
   starts = λ group. subst IsGroupStart (sym (rows-are t (row_count t) groups rows r group)) (starts t (row_count t) none group);
   types = λ k route l is. bound_at (group_in groups k).class route
       (subst (λ (gs : List Group). IfSome (group_in gs k).class (λ route. route < end_of_types)) (sym r.are) (types-bounded t (firsts t (row_count t)) k (omega (arith, ap length r.are)))) is;

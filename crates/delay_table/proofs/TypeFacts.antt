@@ -35,16 +35,16 @@ pub class-index : (types : List ℕ) → ((i j : ℕ) → i < j → j < length t
     → IsClassOf types route k → (k ≡ 0 → type_index types route ≡ None) × ((j : ℕ) → k ≡ j + 1 → type_index types route ≡ Some j)
 class-index types rising route k h = grind (arith, no_index, own_index)
 
-pub class-none : (d : DelayLists) → AreDelays d → (route k : ℕ) → IsClassOf d.types route k → k ≡ 0 → None ≡ type_class d (Some route)
-class-none d s route k h e = sym (ap (option_map (λ n. n + 1)) ((class-index d.types s.rising route k h).0 e))
+pub class_none : (d : DelayLists) → AreDelays d → (route k : ℕ) → IsClassOf d.types route k → k ≡ 0 → None ≡ type_class d (Some route)
+class_none d s route k h e = sym (ap (option_map (λ n. n + 1)) ((class-index d.types s.rising route k h).0 e))
 
-pub class-some : (d : DelayLists) → AreDelays d → (route k : ℕ) → IsClassOf d.types route k → (k ≡ 0 → ⊥) → Some k ≡ type_class d (Some route)
-class-some d s route k h e =
+pub class_some : (d : DelayLists) → AreDelays d → (route k : ℕ) → IsClassOf d.types route k → (k ≡ 0 → ⊥) → Some k ≡ type_class d (Some route)
+class_some d s route k h e =
     let n : k ≡ (k - 1) + 1 = grind (arith, e) in
     ap Some n ∙ sym (ap (option_map (λ n. n + 1)) ((class-index d.types s.rising route k h).1 (k - 1) n))
 
 -- the class is that of the first of these that is there
-pub class-is : (d : DelayLists) (class : Option ℕ) (route : Option (List ℕ)) (hour : ℕ) → {a b c e f : Option ℕ}
+pub class_is : (d : DelayLists) (class : Option ℕ) (route : Option (List ℕ)) (hour : ℕ) → {a b c e f : Option ℕ}
     → a ≡ route_class d route (Some hour) → b ≡ route_class d route None → c ≡ hour_class d class hour → e ≡ type_class d class → f ≡ hour_class d None hour
     → unwrap_or (option_or a (option_or b (option_or c (option_or e f)))) 0 ≡ class_at d class route hour
-class-is d class route hour p q r s t = λ m. unwrap_or (option_or (p m) (option_or (q m) (option_or (r m) (option_or (s m) (t m))))) 0
+class_is d class route hour p q r s t = λ m. unwrap_or (option_or (p m) (option_or (q m) (option_or (r m) (option_or (s m) (t m))))) 0

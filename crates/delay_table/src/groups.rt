@@ -77,6 +77,7 @@ impl<'a> Groups<'a> {
     }
 
     /// The index of a group that was added before. One that is new goes last, and the answer is `None`.
+    #[tactic(auto, using(crate::proofs::LineGroups::reported_new, crate::proofs::LineGroups::reported_there, crate::proofs::LineGroups::lines_next))]
     pub(crate) fn number(&mut self, group: LineGroup<'a>) -> Result<Option<usize>, NoMemory>
         ensures index { IfOk result (λ index. index ≡ group_index (line_group group.entry) self.old) }
         ensures groups { OnOk result (self.new ≡ with_group self.old (line_group group.entry)) }

@@ -172,6 +172,7 @@ impl<'a> ReadRows<'a> {
     }
 
     /// The outcomes of the group at an index, and the line at which it begins.
+    #[tactic(auto, using(crate::proofs::Common::get_or_default, crate::proofs::ReadFacts::rows_here))]
     pub(crate) fn rows_at(&self, index: usize) -> &GroupRows
         requires { index < length self.now.groups }
         ensures line { result.now.line ≡ line_at self.now.rows.items index }

@@ -244,6 +244,7 @@ impl DelayTable {
     }
 
     /// The class of `*`, or of a route type; `None` if that is not named.
+    #[tactic(auto, using(crate::proofs::TypeFacts::class_none, crate::proofs::TypeFacts::class_some))]
     fn type_class(&self, class: Option<u16>) -> Option<ClassId>
         ensures class { option_map (λ c. c.0) result ≡ type_class self.now class }
         ensures in_range { IfSome result (λ c. c.0 < length self.now.classes) }
@@ -256,6 +257,7 @@ impl DelayTable {
     }
 
     /// The class of a connection by the number of its route.
+    #[tactic(auto, using(crate::proofs::TypeFacts::class_is))]
     fn numbered_class(&self, class: Option<u16>, route: Option<u32>, hour: u8) -> ClassId
         requires { IfSome route (λ n. n < length (routes_of self.now.others)) }
         ensures class { result.0 ≡ class_at self.now class

@@ -27,8 +27,8 @@ few_links places r (way ∷ links) inside are =
     ]
 
 -- fewer links lead into a place than there are places
-pub links_into-few : (n : NetworkModel) → IsValid n → (r : ℕ) → r < length n.change → length (links_into n r) + 1 ≤ length n.change
-links_into-few n v r inside = few_links (length n.change) r (links_into n r) inside (v.links.each r inside)
+pub links_into_few : (n : NetworkModel) → IsValid n → (r : ℕ) → r < length n.change → length (links_into n r) + 1 ≤ length n.change
+links_into_few n v r inside = few_links (length n.change) r (links_into n r) inside (v.links.each r inside)
 
 pub AreLinksInto-none : (places r : ℕ) → AreLinksInto places r []
 AreLinksInto-none places r = omega arith

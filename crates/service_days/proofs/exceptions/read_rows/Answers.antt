@@ -1,5 +1,5 @@
 -- The rows of exceptions.
-use Rattle.service_days.proofs.Common.{None, sym, ap, subst, arith, ◌∙◌, result_err, match_raised, fault-at, first-zero, first-next, ServiceDate, bad_date, date_of, date_or_none, AddsDate}
+use Rattle.service_days.proofs.Common.{None, row_count, first_below, AreNumbered, sym, ap, subst, arith, ◌∙◌, result_err, match_raised, fault-at, first-zero, first-next, ServiceDate, bad_date, date_of, date_or_none, AddsDate}
 use Rattle.service_days.proofs.Common.{◌≡◌, ℕ, ◌+◌, List, Ok, name_in, field_at, name_text, IsTrimmed, date_from, date_columns, date_in, date_at_row, require-ok}
 use Rattle.service_days.proofs.NumberLemmas.{numbered_none, numbered_next, length-adds, trimmed-adds}
 use Rattle.clock_text.specs.Times.{date_at}
@@ -53,4 +53,13 @@ loop-i-preserved c =
           (service_trimmed t c.date_columns-columns.result i _ c.count-i-end.ensures.trimmed c.in_ok-date.ensures.exception);
       room = omega (arith, c.loop-i.invariant.room, size.0);
       few = omega (arith, c.loop-i.invariant.few, size.1);
+    }
+
+pub returns : goal.returns
+returns c =
+    let all : c.loop-i.i ≡ row_count c.args.rows.now = omega (arith, c.count-i-end.ensures.count) in
+    record {
+      numbered = subst (λ n. AreNumbered c.args.rows.now n c.args.services.now c.loop-i.services c.loop-i.exceptions.keys) all c.loop-i.invariant.numbered;
+      trimmed = c.loop-i.invariant.trimmed;
+      reports = sym (ap (first_below _) all) ∙ c.loop-i.invariant.none;
     }

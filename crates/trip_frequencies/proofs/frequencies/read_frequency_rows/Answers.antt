@@ -1,4 +1,4 @@
-use Rattle.trip_frequencies.proofs.Common.{List, ℕ, None, sym, ap, ◌∙◌, arith, value_or, first-zero, first-next, bad_frequency, frequency_at, frequency_in, no_frequency, list_below-zero}
+use Rattle.trip_frequencies.proofs.Common.{◌≡◌, List, ℕ, None, list_below, first_below, sym, ap, ◌∙◌, arith, value_or, first-zero, first-next, bad_frequency, frequency_at, frequency_in, no_frequency, list_below-zero}
 use Rattle.trip_frequencies.proofs.{Common.list_below-next, FrequencyLemmas.frequency_is}
 use Rattle.std.specs.Result.{result_err}
 use Rattle.csv_rows.proofs.FaultLemmas.{match_raised, fault-at}
@@ -25,3 +25,9 @@ loop-i-preserved c =
           c.loop-i.invariant.rows c.in_ok-push.ensures.items (sym (ap (value_or no_frequency) here));
       none = first-next (bad_frequency trips t) c.loop-i.i None c.loop-i.invariant.none (ap result_err here);
     }
+
+pub returns : goal.returns
+returns c =
+    let all : c.loop-i.i ≡ c.count-i-end.result = omega arith in
+    let count = all ∙ c.count-i-end.ensures.count in
+    record { rows = c.loop-i.invariant.rows ∙ ap (list_below _) count; reports = sym (ap (first_below _) count) ∙ c.loop-i.invariant.none }
