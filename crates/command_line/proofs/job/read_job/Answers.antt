@@ -26,7 +26,8 @@ returns-in-Some-first_useless-clause-job c =
 pub returns-in-Some-first_missing-clause-job : goal.returns-in-Some-first_missing-clause-job
 returns-in-Some-first_missing-clause-job c =
     let is = job_is _ _ _ c.in-len1-up.len_at_least c.name-item.is (sym c.are_settings.ensures ∙ c.if-not-are_settings.false) (c.named.ensures ∙ ap command_named c.as_str.ensures.value) in
-    rw (is, c.in-Some.is, sym c.first_useless.ensures, c.in_default-first_useless.is, sym c.first_missing.ensures, c.in-Some-first_missing.is) (ap (λ n. Err (Missing n)) c.number-in-Some-first_missing.ensures)
+    rw (is, c.in-Some.is, sym c.first_useless.ensures, c.in_default-first_useless.is, sym c.first_missing.ensures, c.in-Some-first_missing.is)
+    (ap (λ n. Err (Missing n)) c.number-in-Some-first_missing.ensures)
 
 pub returns-in-Some-first_bad-clause-job : goal.returns-in-Some-first_bad-clause-job
 returns-in-Some-first_bad-clause-job c =
