@@ -26,7 +26,8 @@ returns c =
       rows = search rules;
       few = c.rows_after.ensures.few;
       header = search rules;
-      rest = grind (arith, on_ok_weaker, fault_of_order);
+      rest = on_ok_weaker c.rows_after.result
+          (λ none. subst P all (fault_of_order named t whole (ap (first_below (bad_time named t)) count ∙ none))) c.rows_after.ensures.none;
       fault = IfErr-weaker c.rows_after.result _ _
           (λ f h free.
           let Q : List (List (List ℕ)) → Type 0 = λ x. stop_times_from (loaded_from StopTimes c.args.limits.now.stop_times x) named ≡ Err f in
