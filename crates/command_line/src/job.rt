@@ -62,7 +62,7 @@ impl fmt::Display for WordsFault {
 }
 
 /// Where the connections come from.
-#[derive(Clone, Copy, Debug)]
+#[derive(Clone, Copy)]
 pub enum Source<'a> {
     /// The path of a cut file.
     Cut(&'a str),
@@ -71,7 +71,7 @@ pub enum Source<'a> {
 }
 
 /// A journey over a timetable.
-#[derive(Clone, Copy, Debug)]
+#[derive(Clone, Copy)]
 pub struct Journey<'a> {
     /// Where the connections come from.
     pub timetable: Source<'a>,
@@ -99,7 +99,7 @@ impl<'a> Journey<'a> {
 
 /// What is asked about a journey. A percentage is that of the deadline: of the least time that a plan
 /// needs at worst.
-#[derive(Clone, Copy, Debug, PartialEq, Eq)]
+#[derive(Clone, Copy)]
 pub enum Ask<'a> {
     /// The least worst arrival and the deadline.
     Safe { alpha: Percent },
@@ -127,7 +127,7 @@ pub enum Ask<'a> {
 }
 
 /// What a line of words asks for.
-#[derive(Clone, Copy, Debug)]
+#[derive(Clone, Copy)]
 pub enum Job<'a> {
     /// Something about a journey.
     Journey(Journey<'a>, Ask<'a>),

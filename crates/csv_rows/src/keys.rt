@@ -5,7 +5,7 @@ ghost use Rattle.csv_rows.specs.Lists.{first_below};
 ghost use Rattle.csv_rows.specs.Keys.{IsRising, AreSorted, IsBefore, twin_at, repeated, sooner};
 
 /// A row of a table by its group, its order in the group and its row number in the file.
-#[derive(Clone, Copy, Debug, PartialEq, Eq, PartialOrd, Ord)]
+#[derive(Clone, Copy, PartialEq, Eq, PartialOrd, Ord)]
 pub struct Key {
     /// The number of its group.
     pub group: u32,

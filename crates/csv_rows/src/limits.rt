@@ -31,7 +31,7 @@ const MOST_ENTRIES: u64 = 1 << 26;
 
 /// The most that is read: bytes of one file, rows of each table, and connections of a window and their entries. None is above
 /// the standard one.
-#[derive(Clone, Copy, Debug, PartialEq, Eq)]
+#[derive(Clone, Copy)]
 pub struct Limits {
     /// Bytes of one file.
     pub bytes: u64,

@@ -31,7 +31,7 @@ pub use laws::{
 pub use reach_rows::{ReachRow, reach, with_every_gate};
 
 /// A row of the table: what is best for a traveller who sets out by its moment, and too late for the row before.
-#[derive(Clone, Copy, Debug)]
+#[derive(Clone, Copy)]
 pub struct DepartureRow {
     /// The departure of the leg: the last moment by which one sets out for it.
     pub by: Moment,

@@ -12,7 +12,7 @@ use std::alloc::Global;
 use value_laws::MeanSpan;
 
 /// A place from which one can set out at the start and be safe.
-#[derive(Clone, Copy, Debug)]
+#[derive(Clone, Copy)]
 pub struct ReachRow {
     /// The place.
     pub place: PlaceId,

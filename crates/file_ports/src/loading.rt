@@ -9,7 +9,7 @@ use crate::ports::{Failed, Files, Presence, Sink};
 use std::alloc::{AllocError, Global};
 
 /// Why a file could not be loaded.
-#[derive(Clone, Copy, Debug, PartialEq, Eq)]
+#[derive(Clone, Copy)]
 pub enum LoadFault {
     /// Opening it or a read failed.
     Read,

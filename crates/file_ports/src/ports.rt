@@ -7,7 +7,7 @@ ghost use Rattle.file_ports.specs.Ports.{FilesState};
 use plan_model::HashKey;
 
 /// Whether a path has a file.
-#[derive(Clone, Copy, Debug, PartialEq, Eq)]
+#[derive(Clone, Copy)]
 pub enum Presence {
     /// It has one.
     Present,
@@ -16,7 +16,7 @@ pub enum Presence {
 }
 
 /// The outside failed.
-#[derive(Clone, Copy, Debug, PartialEq, Eq)]
+#[derive(Clone, Copy)]
 pub struct Failed;
 
 /// A folder of files, of which one at a time can be open.

@@ -35,7 +35,7 @@ use std::alloc::Global;
 use version::{rides_leave, tables_leave, version_by};
 
 /// The question that a graph answers, and bounds on its expected arrival.
-#[derive(Clone, Copy, Debug)]
+#[derive(Clone, Copy)]
 pub struct Head {
     /// What was asked, and the deadline that the graph keeps.
     pub query: Query,

@@ -91,7 +91,7 @@ pub enum Fault {
 }
 
 /// Where in a timetable a fault is.
-#[derive(Clone, Copy, Debug, PartialEq, Eq)]
+#[derive(Clone, Copy)]
 pub enum Site {
     /// At a place, since a moment.
     Arrival(PlaceId, Moment),

@@ -13,7 +13,7 @@ use plan_model::{List, Moment, Query};
 use trip_replay::Trace;
 
 /// The number that the process ends with.
-#[derive(Clone, Copy, Debug, PartialEq, Eq)]
+#[derive(Clone, Copy)]
 pub struct Status(pub u8);
 
 /// What a run came to. At status 0 and at status 8 the fields of the command are present, and else

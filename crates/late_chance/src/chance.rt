@@ -18,7 +18,7 @@ const CERTAINTY: u64 = 1_000_000_000_000_000_000;
 /// Bounds on the chance of an arrival after the promised moment, in units of 10 to the -18: a lower
 /// and an upper one, at most 10 to the 18. The rank is the upper one. As a score it takes
 /// 1970-01-08T00:00:00 for the promised moment, so a network is shifted for it.
-#[derive(Clone, Copy, Debug)]
+#[derive(Clone, Copy)]
 pub struct LateChance {
     bounds: Span,
 }

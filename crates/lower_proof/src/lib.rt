@@ -43,7 +43,7 @@ pub struct LowerBounds {
 }
 
 /// What a check found.
-#[derive(Clone, Copy, Debug, PartialEq, Eq)]
+#[derive(Clone, Copy)]
 pub enum Verdict {
     /// The value of every connection that can be boarded is small enough.
     Holds,

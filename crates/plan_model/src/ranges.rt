@@ -5,7 +5,7 @@ ghost use Rattle.plan_model.specs.Bounds.{first_start, last_start, least_alpha, 
 use crate::model::Moment;
 
 /// When a journey starts: from 1970-01-08T00:00:00 to 2399-12-31T23:59:59.
-#[derive(Clone, Copy, Debug, PartialEq, Eq)]
+#[derive(Clone, Copy)]
 pub struct Start {
     /// The moment at which it starts.
     pub moment: Moment,
@@ -16,7 +16,7 @@ pub struct Start {
 }
 
 /// A percentage of the least time that a plan needs at worst, for its deadline: from 100 to 1,000.
-#[derive(Clone, Copy, Debug, PartialEq, Eq)]
+#[derive(Clone, Copy)]
 pub struct Percent {
     /// The percentage.
     pub value: u32,
@@ -27,7 +27,7 @@ pub struct Percent {
 }
 
 /// The hours of a window: from 1 to 72.
-#[derive(Clone, Copy, Debug, PartialEq, Eq)]
+#[derive(Clone, Copy)]
 pub struct Hours {
     /// How many they are.
     pub value: u32,
@@ -38,7 +38,7 @@ pub struct Hours {
 }
 
 /// The size of a feed that is made: from 10 to 400.
-#[derive(Clone, Copy, Debug, PartialEq, Eq)]
+#[derive(Clone, Copy)]
 pub struct FeedSize {
     /// The size.
     pub value: u32,

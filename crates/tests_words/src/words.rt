@@ -41,8 +41,44 @@ fn are_same(found: Source, wanted: Source) -> bool {
         },
         Source::Feed(folder, hours) => match wanted {
             Source::Cut(_) => false,
-            Source::Feed(other, horizon) => folder == other && hours == horizon,
+            Source::Feed(other, horizon) => folder == other && hours.value == horizon.value,
         },
+    }
+}
+
+/// Whether two questions are the same.
+fn are_alike(found: Ask, wanted: Ask) -> bool {
+    match (found, wanted) {
+        (Ask::Safe { alpha }, Ask::Safe { alpha: other })
+        | (Ask::Expand { alpha }, Ask::Expand { alpha: other })
+        | (Ask::Plan { alpha }, Ask::Plan { alpha: other })
+        | (Ask::Certify { alpha }, Ask::Certify { alpha: other }) => alpha.value == other.value,
+        (
+            Ask::Punctual { alpha, promise },
+            Ask::Punctual {
+                alpha: other,
+                promise: moment,
+            },
+        ) => alpha.value == other.value && promise == moment,
+        (
+            Ask::Departures { until, last },
+            Ask::Departures {
+                until: deadline,
+                last: moment,
+            },
+        ) => until == deadline && last == moment,
+        (Ask::Latest { until }, Ask::Latest { until: other })
+        | (Ask::Reach { until }, Ask::Reach { until: other }) => until == other,
+        (
+            Ask::Replay { graph, late },
+            Ask::Replay {
+                graph: other,
+                late: delays,
+            },
+        ) => graph == other && late == delays,
+        (Ask::CheckProof { proof: path }, Ask::CheckProof { proof: other })
+        | (Ask::CheckGraph { graph: path }, Ask::CheckGraph { graph: other }) => path == other,
+        _ => false,
     }
 }
 
@@ -51,7 +87,11 @@ fn asks(alloc: Global, line: &str, timetable: Source, asked: Ask) -> Result<bool
     let words = words_of(alloc, &[line, JOURNEY])?;
     match read_job(words.as_slice()) {
         Ok(Job::Journey(journey, ask)) => {
-            Ok(ask == asked && are_same(journey.timetable, timetable) && is_journey(&journey))
+            Ok(
+                are_alike(ask, asked)
+                    && are_same(journey.timetable, timetable)
+                    && is_journey(&journey),
+            )
         }
         _ => Ok(false),
     }
